@@ -1,0 +1,49 @@
+//! A boxed cursor is a cursor.
+
+ghost use Rattle.std.specs.Prelude.{◌≡◌};
+
+use crate::doc_set::{COLLECT_BLOCK_BUFFER_LEN, DocId, DocSet, SeekDangerResult};
+
+impl<T: DocSet> DocSet for Box<T> {
+    ghost entries = { λ b. T.entries b.value };
+
+    ghost limits = { λ b. T.limits b.value };
+
+    ghost placed = { λ b. T.placed b.value };
+
+    ghost valid = { λ b. T.valid b.value };
+
+    fn doc(&self) -> DocId {
+        self.as_ref().doc()
+    }
+
+    fn advance(&mut self) -> DocId {
+        self.as_mut().advance()
+    }
+
+    fn seek(&mut self, target: DocId) -> DocId {
+        self.as_mut().seek(target)
+    }
+
+    fn seek_danger(&mut self, target: DocId) -> SeekDangerResult {
+        self.as_mut().seek_danger(target)
+    }
+
+    fn fill_buffer(&mut self, buffer: &mut [DocId; COLLECT_BLOCK_BUFFER_LEN]) -> usize {
+        self.as_mut().fill_buffer(buffer)
+    }
+
+    fn size_hint(&self) -> u32 {
+        self.as_ref().size_hint()
+    }
+
+    fn cost(&self) -> u64 {
+        self.as_ref().cost()
+    }
+
+    fn count_including_deleted(&mut self) -> u32 {
+        self.as_mut().count_including_deleted()
+    }
+
+    ghost ascending = { λ b h. T.ascending b.value h };
+}

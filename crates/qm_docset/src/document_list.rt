@@ -1,0 +1,14 @@
+//! Lists of documents that a cursor can be made of.
+
+ghost use Rattle.std.specs.Prelude.{◌↔◌, IsTrue};
+ghost use Rattle.qm_docset.specs.Documents.{AreDocuments};
+
+use crate::doc_set::{DocId, TERMINATED};
+
+/// Whether these documents ascend strictly and are below [`TERMINATED`], as
+/// [`VecDocSet::new`](crate::VecDocSet::new) asks. Costs a pass over the list.
+pub fn are_documents(docs: &[DocId]) -> bool
+    ensures { IsTrue result ↔ AreDocuments docs.now }
+{
+    docs.iter().all(|doc| *doc < TERMINATED) && docs.is_sorted_by(|one, next| one < next)
+}

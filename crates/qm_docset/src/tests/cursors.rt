@@ -1,0 +1,157 @@
+ghost use Rattle.std.specs.Prelude.{IfOk};
+ghost use Rattle.qm_docset.specs.VecDocSet.{IsCursor};
+
+use crate::{
+    COLLECT_BLOCK_BUFFER_LEN, DocId, DocSet, HasLen, SeekDangerResult, TERMINATED, VecDocSet,
+    are_documents, seek_by_steps,
+};
+use std::alloc::Global;
+use std::process::Abort;
+use std::test::Fail;
+
+/// A cursor over documents that a test writes out.
+pub fn cursor(rt: &impl Abort, alloc: Global, docs: &[DocId]) -> Result<VecDocSet, Fail>
+    ensures { IfOk result IsCursor }
+{
+    let docs = Vec::from_slice(alloc, docs)?;
+    assert!(rt; are_documents(&docs));
+    Ok(VecDocSet::new(docs))
+}
+
+/// A cursor over the multiples of `step` below `end`.
+fn multiples(rt: &impl Abort, alloc: Global, step: u32, end: u32) -> Result<VecDocSet, Fail>
+    ensures { IfOk result IsCursor }
+{
+    let mut docs = Vec::new(alloc);
+    for doc in 0..end {
+        if step > 0 && doc % step == 0 {
+            docs.push(doc)?;
+        }
+    }
+    assert!(rt; are_documents(&docs));
+    Ok(VecDocSet::new(docs))
+}
+
+#[test]
+fn goes_through_multiples_of_three(rt: HostRuntime) -> Result<(), Fail> {
+    let mut docs = multiples(&rt, rt.alloc(), 3, 3070)?;
+    assert_eq!(rt; docs.doc(), 0);
+    assert_eq!(rt; docs.advance(), 3);
+    assert_eq!(rt; docs.seek(14), 15);
+    assert_eq!(rt; docs.seek(300), 300);
+    assert_eq!(rt; docs.seek(10), 300);
+    assert_eq!(rt; docs.seek(6000), TERMINATED);
+    assert_eq!(rt; docs.advance(), TERMINATED);
+    assert_eq!(rt; docs.len(), 1024);
+    assert!(rt; !docs.is_empty());
+    Ok(())
+}
+
+#[test]
+fn answers_a_dangerous_seek_by_the_document_reached(rt: HostRuntime) -> Result<(), Fail> {
+    let mut docs = cursor(&rt, rt.alloc(), &[5, 9])?;
+    assert_eq!(rt; docs.seek_danger(3), SeekDangerResult::SeekLowerBound(5));
+    assert_eq!(rt; docs.seek_danger(5), SeekDangerResult::Found);
+    assert_eq!(rt; docs.seek_danger(7), SeekDangerResult::SeekLowerBound(9));
+    assert_eq!(rt; docs.seek(7), 9);
+    assert_eq!(rt;
+        docs.seek_danger(TERMINATED),
+        SeekDangerResult::SeekLowerBound(TERMINATED)
+    );
+    assert_eq!(rt; docs.seek(0), TERMINATED);
+    Ok(())
+}
+
+/// Takes a buffer of documents, and wants `count` of them, in a row from `first` on.
+fn takes_a_row(rt: &impl Abort, docs: &mut VecDocSet, first: u64, count: usize)
+    requires { IsCursor docs.old }
+    ensures { IsCursor docs.new }
+{
+    let mut buffer = [7; COLLECT_BLOCK_BUFFER_LEN];
+    assert_eq!(rt; docs.fill_buffer(&mut buffer), count);
+    for (doc, want) in buffer[..count].iter().zip(first..u64::MAX) {
+        assert_eq!(rt; u64::from(*doc), want);
+    }
+}
+
+#[test]
+fn fills_buffers_until_none_is_left(rt: HostRuntime) -> Result<(), Fail> {
+    let mut docs = multiples(&rt, rt.alloc(), 1, 138)?;
+    assert_eq!(rt; docs.seek(1), 1);
+    takes_a_row(&rt, &mut docs, 1, 64);
+    takes_a_row(&rt, &mut docs, 65, 64);
+    takes_a_row(&rt, &mut docs, 129, 9);
+    takes_a_row(&rt, &mut docs, 0, 0);
+    assert_eq!(rt; docs.doc(), TERMINATED);
+    let mut none = cursor(&rt, rt.alloc(), &[])?;
+    takes_a_row(&rt, &mut none, 0, 0);
+    assert!(rt; none.is_empty());
+    Ok(())
+}
+
+#[test]
+fn counts_what_is_left(rt: HostRuntime) -> Result<(), Fail> {
+    let mut docs = multiples(&rt, rt.alloc(), 2, 20)?;
+    assert_eq!(rt; docs.size_hint(), 10);
+    assert_eq!(rt; docs.cost(), 10);
+    assert_eq!(rt; docs.seek(5), 6);
+    assert_eq!(rt; docs.count_including_deleted(), 7);
+    assert_eq!(rt; docs.doc(), TERMINATED);
+    assert_eq!(rt; docs.len(), 10);
+    Ok(())
+}
+
+#[test]
+fn steps_to_where_a_seek_goes(rt: HostRuntime) -> Result<(), Fail> {
+    for target in 0..300 {
+        let mut seeking = multiples(&rt, rt.alloc(), 7, 290)?;
+        let mut stepping = multiples(&rt, rt.alloc(), 7, 290)?;
+        assert_eq!(rt; seek_by_steps(&mut stepping, target), seeking.seek(target));
+        assert_eq!(rt; stepping.advance(), seeking.advance());
+    }
+    Ok(())
+}
+
+#[test]
+fn seeks_past_long_stretches(rt: HostRuntime) -> Result<(), Fail> {
+    let mut docs = multiples(&rt, rt.alloc(), 3, 100_000)?;
+    assert_eq!(rt; docs.seek(1), 3);
+    assert_eq!(rt; docs.seek(77_777), 77_778);
+    assert_eq!(rt; docs.seek(99_999), 99_999);
+    assert_eq!(rt; docs.advance(), TERMINATED);
+    Ok(())
+}
+
+#[test]
+fn tells_lists_that_ascend(rt: HostRuntime) {
+    assert!(rt; are_documents(&[]));
+    assert!(rt; are_documents(&[0, 2_147_483_646]));
+    assert!(rt; !are_documents(&[2_147_483_647]));
+    assert!(rt; !are_documents(&[3, 3]));
+    assert!(rt; !are_documents(&[4, 3]));
+}
+
+#[test]
+fn compares_and_prints_answers(rt: HostRuntime) -> Result<(), Fail> {
+    let found = SeekDangerResult::Found;
+    assert_ne!(rt; found, SeekDangerResult::SeekLowerBound(3));
+    assert_eq!(rt; format!(in rt.alloc(); "{found:?}")?.as_str(), "Found");
+    Ok(())
+}
+
+#[test]
+fn goes_through_a_box(rt: HostRuntime) -> Result<(), Fail> {
+    let mut docs = Box::new(rt.alloc(), cursor(&rt, rt.alloc(), &[2, 4, 6, 8])?)?;
+    assert_eq!(rt; docs.doc(), 2);
+    assert_eq!(rt; docs.advance(), 4);
+    assert_eq!(rt; docs.seek(5), 6);
+    assert_eq!(rt; docs.seek_danger(6), SeekDangerResult::Found);
+    assert_eq!(rt; docs.size_hint(), 2);
+    assert_eq!(rt; docs.cost(), 2);
+    let mut buffer = [0; COLLECT_BLOCK_BUFFER_LEN];
+    assert_eq!(rt; docs.fill_buffer(&mut buffer), 2);
+    assert_eq!(rt; buffer[1], 8);
+    assert_eq!(rt; docs.count_including_deleted(), 0);
+    assert_eq!(rt; seek_by_steps(&mut docs, 3), TERMINATED);
+    Ok(())
+}

@@ -1,0 +1,6 @@
+mod PostingLists
+mod Holders
+mod Leapfrog
+mod Matching
+mod Texts
+mod LineBytes

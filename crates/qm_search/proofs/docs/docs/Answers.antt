@@ -1,0 +1,52 @@
+use Rattle.std.proofs.Common.{◌≡◌, ◌<◌, [], filter, ap, sym, refl, ◌∙◌, arith, rules, tests, map, string_bytes, length, vec_items, vec_len}
+use Rattle.std.specs.List.{range_with_len}
+use Rattle.std.proofs.lemmas.Iterator.{items_from_collect, YieldsList-from_range}
+use Rattle.std.proofs.lemmas.List.{length-map}
+use Rattle.std.proofs.lemmas.Result.{IfOk-at_ok}
+use Rattle.qm_docset.specs.Entry.{Entry, plain}
+use Rattle.qm_docset.specs.VecDocSet.{remaining}
+use Rattle.qm_search.specs.Intersection.{is_common}
+use Rattle.qm_search.specs.Segment.{holds, holders}
+use Rattle.qm_search.specs.Trees.{matches, matching, boolean_matches}
+use Rattle.qm_search.specs.declared.tree.Tree.TheVariants.{All, Empty, Bool}
+use Rattle.qm_search.proofs.Holders.{filter-range-same}
+use Rattle.qm_search.proofs.Matching.{filter-all, filter-none, boolean_matches-minimum, boolean_matches-no_clause, is_common-within}
+use Rattle.qm_search.proofs.docs.docs.Goals.{then-minimum-gt0-via-then-minimum-gt0, then-minimum-gt0-via-else-minimum-gt0+then-is_empty}
+use Rattle.qm_search.proofs.docs.docs.Goals as goal
+
+pub returns-then-minimum-gt0-clause-documents : goal.returns-then-minimum-gt0-clause-documents
+returns-then-minimum-gt0-clause-documents c =
+    let segment = c.args.segment.now in
+    let words = c.in-Bool.words.items in
+    let minimum = c.in-Bool.minimum in
+    let tree = Bool minimum c.in-Bool.words in
+    let numbers = range_with_len 0 (length segment) in
+    rw (c.new-then-minimum-gt0.ensures.items, c.in-Bool.is) (sym (elim c.then-minimum-gt0.branch [
+      | then-minimum-gt0-via-then-minimum-gt0 w ↦ filter-none (matches tree segment) numbers (λ d. boolean_matches-minimum minimum (map (λ t. holds segment (string_bytes t) d) words) w.if-minimum-gt0.true)
+      | then-minimum-gt0-via-else-minimum-gt0+then-is_empty w ↦
+          let none : length words ≡ 0 = search (tests, rules) in
+          filter-none (matches tree segment) numbers (λ d. boolean_matches-no_clause minimum (map (λ t. holds segment (string_bytes t) d) words) (length-map words (λ t. holds segment (string_bytes t) d) ∙ none))
+    ]))
+
+pub returns-in_ok-collect-in-All-clause-documents : goal.returns-in_ok-collect-in-All-clause-documents
+returns-in_ok-collect-in-All-clause-documents c =
+    let numbers = range_with_len 0 c.max_doc.result in
+    let collected = items_from_collect c.collect.result c.collect.ensures.ran (YieldsList-from_range 0 c.max_doc.result c.max_doc.result refl (omega arith)) in
+    let items = IfOk-at_ok (λ v. vec_items v ≡ numbers) c.in_ok-collect-in-All.was collected in
+    rw c.in-All.is (items ∙ ap (range_with_len 0) c.max_doc.ensures.number ∙ sym (filter-all (range_with_len 0 (length c.args.segment.now))))
+
+pub returns-in-Empty-clause-documents : goal.returns-in-Empty-clause-documents
+returns-in-Empty-clause-documents c =
+    rw (c.new.ensures.items, c.in-Empty.is) (sym (filter-none (matches Empty c.args.segment.now) (range_with_len 0 (length c.args.segment.now)) (λ d. refl)))
+
+pub returns-in_ok-into_documents-in-Bool-clause-documents : goal.returns-in_ok-into_documents-in-Bool-clause-documents
+returns-in_ok-into_documents-in-Bool-clause-documents c =
+    let segment = c.args.segment.now in
+    let words = c.in-Bool.words.items in
+    let members = c.in_ok-members-in-Bool.members.items in
+    let entries = c.in_ok-members-in-Bool.ensures.entries ∙ ap (map (λ w. map plain (holders segment (string_bytes w)))) c.as_slice.ensures.value in
+    let some : 0 < length words = search (tests, rules) in
+    let no_minimum : c.in-Bool.minimum ≡ 0 = omega arith in
+    let found = c.in_ok-into_documents-in-Bool.ensures ∙ ap (λ i. filter (is_common i.items) (range_with_len 0 c.max_doc-in-Bool.result)) c.new-in-Bool.ensures ∙ ap (λ n. filter (is_common members) (range_with_len 0 n)) c.max_doc-in-Bool.ensures.number in
+    let same = filter-range-same (is_common members) (λ d. boolean_matches 0 (map (λ w. holds segment (string_bytes w) d) words) []) 0 (length segment) (is_common-within segment words members some entries) in
+    rw c.in-Bool.is (found ∙ same ∙ ap (λ m. filter (λ d. boolean_matches m (map (λ w. holds segment (string_bytes w) d) words) []) (range_with_len 0 (length segment))) (sym no_minimum))

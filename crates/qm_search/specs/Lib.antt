@@ -1,0 +1,7 @@
+pub mod Segment
+pub mod Postings
+pub mod Trees
+pub mod Text
+pub mod Answers
+pub mod Intersection
+pub mod Lines

@@ -1,0 +1,92 @@
+//! What a line of a script asks for.
+
+ghost use Rattle.std.specs.Prelude.{◌^◌, ◌<◌, IfOk, IsSome, IsUtf8, SomeIff};
+ghost use Rattle.std.specs.Str.Parse.{IsNumeral, digits_value};
+
+use crate::tree::Tree;
+use std::alloc::{AllocError, Global};
+use std::str;
+
+/// What a line asks for.
+#[derive(Debug, Drop)]
+pub enum Command {
+    /// Nothing: the line has no word.
+    Nothing,
+    /// To add a document with these words.
+    AddDocument(Vec<String>),
+    /// To list the documents that match.
+    ListDocuments(Tree),
+}
+
+/// What a line asks for, or `None` where it isn't understood: where it isn't UTF-8, or doesn't fit
+/// the language. Words are cut at spaces and tabs. An error says that there was no memory for the
+/// words of the line.
+pub fn parse_line(alloc: Global, line: &[u8]) -> Result<Option<Command>, AllocError>
+    ensures text { IfOk result (λ command. IsSome command → IsUtf8 line.now) }
+{
+    let Ok(text) = str::from_utf8(line) else {
+        return Ok(None);
+    };
+    let mut words = Vec::new(alloc);
+    for word in text.split(|c: char| c == ' ' || c == '\t') {
+        if !word.is_empty() {
+            words.push(word)?;
+        }
+    }
+    match words.as_slice() {
+        [] => Ok(Some(Command::Nothing)),
+        ["doc", words @ ..] => {
+            let mut owned = Vec::with_capacity(alloc, words.len())?;
+            for word in words {
+                owned.push(String::from_str(alloc, word)?)?;
+            }
+            Ok(Some(Command::AddDocument(owned)))
+        }
+        ["docs", query @ ..] => Ok(parse_query(alloc, query)?.map(Command::ListDocuments)),
+        _ => Ok(None),
+    }
+}
+
+// A query that takes all of the words.
+fn parse_query(alloc: Global, words: &[&str]) -> Result<Option<Tree>, AllocError> {
+    match words {
+        ["all"] => Ok(Some(Tree::All)),
+        ["none"] => Ok(Some(Tree::Empty)),
+        ["term", word] => Ok(Some(Tree::Term(String::from_str(alloc, word)?))),
+        ["bool", minimum, count, clauses @ ..] => parse_bool(alloc, minimum, count, clauses),
+        _ => Ok(None),
+    }
+}
+
+// As many Must clauses as the count says, each a term.
+fn parse_bool(
+    alloc: Global,
+    minimum: &str,
+    count: &str,
+    clauses: &[&str],
+) -> Result<Option<Tree>, AllocError> {
+    let (Some(minimum), Some(count)) = (parse_number(minimum), parse_number(count)) else {
+        return Ok(None);
+    };
+    let mut words = Vec::new(alloc);
+    let mut rest = clauses;
+    while let ["+", "term", word, more @ ..] = rest {
+        words.push(String::from_str(alloc, word)?)?;
+        rest = more;
+    }
+    if rest.is_empty() && words.len() == count as usize {
+        Ok(Some(Tree::Bool { minimum, words }))
+    } else {
+        Ok(None)
+    }
+}
+
+// Decimal digits, with leading zeros or none, up to 4294967295.
+fn parse_number(text: &str) -> Option<u32>
+    ensures { SomeIff result (IsNumeral 10 text.now × (digits_value 10 text.now < 2 ^ 32)) (digits_value 10 text.now) }
+{
+    if text.starts_with('+') {
+        return None;
+    }
+    text.parse().ok()
+}

@@ -1,0 +1,95 @@
+//! Running a script.
+
+ghost use Rattle.std.specs.Prelude.{◌≤◌, IfOk};
+
+use crate::answer::answer_command;
+use crate::flat_segment::FlatSegment;
+use crate::lines::Lines;
+use crate::parse::parse_line;
+use std::alloc::{AllocError, AllocFailed, Global};
+use std::io::{BufWriter, Read, Write};
+use thiserror::Error;
+
+/// Why a run ended before the end of its script.
+#[derive(Clone, Copy, Debug, PartialEq, Eq, Error)]
+pub enum RunError {
+    /// The input answered an error.
+    #[error("the script could not be read")]
+    Read,
+    /// The output answered an error.
+    #[error("the answers could not be written")]
+    Write,
+    /// There was no memory left for a line, for the documents, or for a text to be written.
+    #[error("out of memory")]
+    Memory,
+}
+
+impl From<AllocError> for RunError {
+    fn from(_error: AllocError) -> RunError {
+        RunError::Memory
+    }
+}
+
+impl<T: Drop> From<AllocFailed<T>> for RunError {
+    fn from(_error: AllocFailed<T>) -> RunError {
+        RunError::Memory
+    }
+}
+
+/// Runs the script that the input gives, writes the answers to the output, and answers the exit
+/// status: 2 where some line wasn't understood, else 1 where some line was refused, else 0.
+///
+/// The first error ends the run. What was answered before it has been written then, and after
+/// `Write` nothing more is written.
+pub fn run<R: Read, W: Write>(alloc: Global, input: &mut R, output: &mut W) -> Result<u8, RunError>
+    ensures status { IfOk result (λ status. status ≤ 2) }
+{
+    let Ok(mut output) = BufWriter::new(alloc, output) else {
+        return Err(RunError::Memory);
+    };
+    let answered = answer_lines(alloc, input, &mut output);
+    let flushed = if answered == Err(RunError::Write) {
+        Ok(())
+    } else {
+        output.flush()
+    };
+    // What could not be written stays in the buffer, which would write it when it is dropped.
+    let (_output, _unwritten) = output.into_parts();
+    let status = answered?;
+    match flushed {
+        Ok(()) => Ok(status),
+        Err(_) => Err(RunError::Write),
+    }
+}
+
+// Answers every line, and gives the worst status.
+fn answer_lines<R: Read, W: Write>(
+    alloc: Global,
+    input: &mut R,
+    output: &mut W,
+) -> Result<u8, RunError>
+    ensures status { IfOk result (λ status. status ≤ 2) }
+{
+    let mut lines = Lines::new();
+    let mut line = Vec::new(alloc);
+    let mut segment = FlatSegment::new(alloc);
+    let mut status = 0;
+    for number in 1..u64::MAX {
+        if !lines.next_line(input, &mut line)? {
+            break;
+        }
+        let command = parse_line(alloc, line.as_slice())?;
+        let answer = answer_command(alloc, &mut segment, command)?;
+        status = answer.status().max(status);
+        let text = answer.text(alloc, number)?;
+        if output.write_all(text.as_bytes()).is_err() {
+            return Err(RunError::Write);
+        }
+    }
+    Ok(status)
+}
+
+#[cfg(test)]
+mod fakes;
+#[cfg(test)]
+mod tests;

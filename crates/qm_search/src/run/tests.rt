@@ -1,0 +1,258 @@
+use super::fakes::{BadWriter, InterruptedReader, SlowReader};
+use super::{RunError, run};
+use std::process::Abort;
+use std::test::Fail;
+
+const FIRST: &[u8] = b"doc a b\ndoc a c\ndoc a b c\ndoc b\ndocs bool 0 2 + term a + term b\n";
+
+// Runs the whole script, and compares what it writes and its status.
+fn expect_run(rt: &(impl Abort + AllocGlobal), script: &[u8], text: &[u8], status: u8) {
+    let mut input = script;
+    let mut output = Vec::new(rt.alloc());
+    let answer = run(rt.alloc(), &mut input, &mut output);
+    assert_eq!(rt; answer, Ok(status));
+    assert_eq!(rt; output.as_slice(), text);
+}
+
+#[test]
+fn runs_the_first_script(rt: HostRuntime) {
+    expect_run(&rt, FIRST, b"0 2\n", 0);
+}
+
+#[test]
+fn answers_every_form_of_a_query(rt: HostRuntime) {
+    let script =
+        b"doc a\ndocs all\ndocs none\ndocs bool 0 0\ndocs bool 1 1 + term a\ndocs term z\n";
+    expect_run(&rt, script, b"0\n\n\n\n\n", 0);
+    let script =
+        b"doc a b\ndoc\ndoc b b a\ndocs all\ndocs term b\ndocs bool 0 1 + term b\ndocs bool 0 3 + term b + term a + term b\ndocs bool 0 2 + term a + term z\n";
+    expect_run(&rt, script, b"0 1 2\n0 2\n0 2\n0 2\n\n", 0);
+}
+
+#[test]
+fn writes_nothing_for_an_empty_script(rt: HostRuntime) {
+    expect_run(&rt, b"", b"", 0);
+}
+
+#[test]
+fn does_not_understand_what_it_does_not_serve(rt: HostRuntime) {
+    expect_run(&rt, b"scores all\n", b"line 1: not understood\n", 2);
+    let cases: [&[u8]; 20] = [
+        b"docs bool 0 2 + term a",
+        b"docs",
+        b"docs all all",
+        b"docs term",
+        b"docs term a b",
+        b"docs bool 0 1 + term a b",
+        b"docs bool 0 1 ? term a",
+        b"docs bool 0 1 - term a",
+        b"docs bool 0 1 + all",
+        b"docs bool 0 1 + bool 0 0",
+        b"docs bool 0",
+        b"docs bool 0 0 + term a",
+        b"docs bool -1 0",
+        b"docs bool +1 0",
+        b"docs bool 4294967296 0",
+        b"docs bool 0 4294967296",
+        b"docs bool 1x 0",
+        b"docs phrase 0 1 a",
+        b"Doc a",
+        b"doc a\xff",
+    ];
+    for script in cases {
+        expect_run(&rt, script, b"line 1: not understood\n", 2);
+    }
+}
+
+#[test]
+fn reads_numbers_with_leading_zeros_up_to_their_limit(rt: HostRuntime) {
+    let script =
+        b"doc a\ndocs bool 000 0000000000001 + term a\ndocs bool 4294967295 1 + term a\ndocs bool 00000000004294967295 0\n";
+    expect_run(&rt, script, b"0\n\n\n", 0);
+}
+
+#[test]
+fn cuts_lines_and_words(rt: HostRuntime) {
+    // a last line without byte 10
+    expect_run(&rt, b"doc a\ndocs all", b"0\n", 0);
+    // one byte 13 before byte 10 is dropped, and no other
+    expect_run(&rt, b"doc a\r\ndocs term a\r\n", b"0\n", 0);
+    expect_run(
+        &rt,
+        b"doc a\r\r\ndocs term a\ndocs term a\r\r\n",
+        b"\n0\n",
+        0,
+    );
+    expect_run(&rt, b"doc a\rb\ndocs term a\rb\n", b"0\n", 0);
+    expect_run(&rt, b"docs all\r", b"line 1: not understood\n", 2);
+    // words are cut at spaces and tabs alone
+    expect_run(&rt, b"\tdoc\ta  b\t\ndocs\tterm b \n", b"0\n", 0);
+    expect_run(
+        &rt,
+        b"doc a\x0bb\ndocs term b\ndocs term a\x0bb\n",
+        b"\n0\n",
+        0,
+    );
+    // a word that is not ASCII, and one that differs from it in its last byte
+    expect_run(
+        &rt,
+        "doc über\ndocs term über\ndocs term üb\u{00e9}r\n".as_bytes(),
+        b"0\n\n",
+        0,
+    );
+}
+
+#[test]
+fn numbers_all_lines(rt: HostRuntime) {
+    let script = b"\n \t \nfoo\n\r\ndoc a\nbar\n";
+    expect_run(
+        &rt,
+        script,
+        b"line 3: not understood\nline 6: not understood\n",
+        2,
+    );
+    // the lines after one that isn't understood are answered
+    expect_run(
+        &rt,
+        b"doc a\ndoc \xc3\ndocs all\n",
+        b"line 2: not understood\n0\n",
+        2,
+    );
+}
+
+#[test]
+fn reads_one_byte_at_a_time(rt: HostRuntime) {
+    let mut output = Vec::new(rt.alloc());
+    let mut input = SlowReader {
+        text: FIRST,
+        reads_left: usize::MAX,
+    };
+    assert_eq!(rt; run(rt.alloc(), &mut input, &mut output), Ok(0));
+    assert_eq!(rt; output.as_slice(), b"0 2\n".as_slice());
+    let mut output = Vec::new(rt.alloc());
+    let mut input = InterruptedReader {
+        text: FIRST,
+        interrupted: false,
+    };
+    assert_eq!(rt; run(rt.alloc(), &mut input, &mut output), Ok(0));
+    assert_eq!(rt; output.as_slice(), b"0 2\n".as_slice());
+}
+
+#[test]
+fn answers_the_whole_lines_before_a_failed_read(rt: HostRuntime) {
+    let script = b"doc a\ndocs all\nfoo\ndocs term a\n";
+    let text = b"0\nline 3: not understood\n0\n";
+    // the line ends after this many bytes, and the text of the answers so far
+    let ends = [(15, 2), (19, 25), (31, 27)];
+    for reads in 0..script.len() + 1 {
+        let mut written = 0;
+        for (line_end, text_end) in ends {
+            if reads >= line_end {
+                written = text_end;
+            }
+        }
+        let mut output = Vec::new(rt.alloc());
+        let mut input = SlowReader {
+            text: script,
+            reads_left: reads,
+        };
+        assert_eq!(rt;
+            run(rt.alloc(), &mut input, &mut output),
+            Err(RunError::Read)
+        );
+        assert!(rt; written <= text.len());
+        assert_eq!(rt; output.as_slice(), &text[..written], "after {reads} reads");
+    }
+}
+
+// A thousand documents that are listed four times, which is more than a buffer holds.
+fn long_script(rt: &impl AllocGlobal) -> Result<Vec<u8>, Fail> {
+    let mut script = Vec::new(rt.alloc());
+    for _ in 0..1000 {
+        script.extend_from_slice(b"doc a\n")?;
+    }
+    for _ in 0..4 {
+        script.extend_from_slice(b"docs all\n")?;
+    }
+    Ok(script)
+}
+
+// Runs the script over a writer that takes at most so many bytes a write and fails after so many.
+fn run_badly(
+    rt: &impl AllocGlobal,
+    script: &[u8],
+    most: usize,
+    writes: usize,
+) -> (Result<u8, RunError>, BadWriter) {
+    let mut input = script;
+    let mut output = BadWriter {
+        taken: Vec::new(rt.alloc()),
+        most,
+        writes_left: writes,
+        has_failed: false,
+        called_after: false,
+    };
+    let answer = run(rt.alloc(), &mut input, &mut output);
+    (answer, output)
+}
+
+#[test]
+fn writes_nothing_after_a_failed_write(rt: HostRuntime) -> Result<(), Fail> {
+    let script = long_script(&rt)?;
+    let (answer, whole) = run_badly(&rt, script.as_slice(), usize::MAX, usize::MAX);
+    assert_eq!(rt; answer, Ok(0));
+    // four times the numbers from 0 to 999, each with a space or the end of the line after it
+    assert_eq!(rt; whole.taken.len(), 4 * (10 * 2 + 90 * 3 + 900 * 4));
+    let writes = usize::MAX - whole.writes_left;
+    assert!(rt; writes > 1);
+    for failing in 0..8 {
+        let (answer, output) = run_badly(&rt, script.as_slice(), 3000, failing);
+        let (whole_text, text) = (whole.taken.as_slice(), output.taken.as_slice());
+        if output.has_failed {
+            assert_eq!(rt; answer, Err(RunError::Write));
+        } else {
+            assert_eq!(rt; answer, Ok(0));
+            assert_eq!(rt; text, whole_text);
+        }
+        assert!(rt; !output.called_after);
+        assert!(rt; whole_text.starts_with(text));
+    }
+    let (answer, output) = run_badly(&rt, FIRST, 1, 3);
+    assert_eq!(rt; answer, Err(RunError::Write));
+    assert_eq!(rt; output.taken.as_slice(), b"0 2".as_slice());
+    assert!(rt; !output.called_after);
+    Ok(())
+}
+
+#[test]
+fn keeps_the_first_error(rt: HostRuntime) {
+    let mut input = SlowReader {
+        text: b"docs all\n",
+        reads_left: 9,
+    };
+    let mut output = BadWriter {
+        taken: Vec::new(rt.alloc()),
+        most: 1,
+        writes_left: 0,
+        has_failed: false,
+        called_after: false,
+    };
+    assert_eq!(rt;
+        run(rt.alloc(), &mut input, &mut output),
+        Err(RunError::Read)
+    );
+    assert!(rt; output.has_failed && !output.called_after);
+}
+
+#[test]
+fn says_why_a_run_ended(rt: HostRuntime) -> Result<(), Fail> {
+    let texts = [
+        (RunError::Read, "the script could not be read"),
+        (RunError::Write, "the answers could not be written"),
+        (RunError::Memory, "out of memory"),
+    ];
+    for (error, text) in texts {
+        assert_eq!(rt; error.to_string(rt.alloc())?.as_str(), text);
+    }
+    Ok(())
+}
