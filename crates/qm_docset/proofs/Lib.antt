@@ -1,3 +1,15 @@
 pub mod Buffers
+pub mod CommonEntries
+pub mod Gathering
+pub mod Permuted
+pub mod MembersLemmas
+pub mod TinySetLemmas
+pub mod BitSetLemmas
+pub mod AliveLemmas
+pub mod MemberEntries
+pub mod BitSetMembers
+pub mod MembersLeft
+pub mod CountMembers
+pub mod ExclusionLemmas
 pub mod GallopFacts
 pub mod Plain

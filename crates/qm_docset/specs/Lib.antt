@@ -1,5 +1,16 @@
 pub mod Entry
 pub mod EntryFacts
+pub mod Gather
+pub mod GatherFacts
 pub mod Cursor
 pub mod Documents
 pub mod VecDocSet
+pub mod Members
+pub mod TinySet
+pub mod Words
+pub mod BitSet
+pub mod AliveBitSet
+pub mod MembersFacts
+pub mod BitSetDocSet
+pub mod BitSetDocSetFacts
+pub mod Exclusion

@@ -2,6 +2,7 @@
 
 ghost use Rattle.std.specs.Prelude.{◌≡◌};
 
+use crate::alive_bit_set::AliveBitSet;
 use crate::doc_set::{COLLECT_BLOCK_BUFFER_LEN, DocId, DocSet, SeekDangerResult};
 
 impl<T: DocSet> DocSet for Box<T> {
@@ -39,6 +40,10 @@ impl<T: DocSet> DocSet for Box<T> {
 
     fn cost(&self) -> u64 {
         self.as_ref().cost()
+    }
+
+    fn count(&mut self, alive: &AliveBitSet) -> u32 {
+        self.as_mut().count(alive)
     }
 
     fn count_including_deleted(&mut self) -> u32 {

@@ -1,8 +1,11 @@
 //! The contract of a cursor over documents.
 
 ghost use Rattle.std.specs.Prelude.{◌≡◌, ◌↔◌, ℕ, ◌+◌, ◌<◌, ◌≤◌, IsTrue, List, [], length, take, drop, min};
+ghost use Rattle.qm_docset.specs.AliveBitSet.{alive_entries};
 ghost use Rattle.qm_docset.specs.Cursor.{IsSeekAnswer, OnFound};
 ghost use Rattle.qm_docset.specs.Entry.{Entry, Limits, no_limits, documents, head_document, from, AreEntries};
+
+use crate::alive_bit_set::AliveBitSet;
 
 /// A document's number within its segment, from 0 up.
 pub type DocId = u32;
@@ -138,6 +141,29 @@ pub trait DocSet: Drop {
         requires { valid self.now }
     {
         u64::from(self.size_hint())
+    }
+
+    /// The number of remaining documents that are alive; leaves none.
+    ///
+    /// By default it steps.
+    fn count(&mut self, alive: &AliveBitSet) -> u32
+        requires valid { valid self.old }
+        requires placed { placed self.old }
+        ensures count { result ≡ length (alive_entries alive.now (entries self.old)) }
+        ensures entries { entries self.new ≡ [] }
+        ensures limits { limits self.new ≡ limits self.old }
+        ensures valid { valid self.new }
+        ensures placed { placed self.new }
+    {
+        let mut count = 0;
+        let mut doc = self.doc();
+        while doc < TERMINATED {
+            if alive.is_alive(doc) {
+                count += 1;
+            }
+            doc = self.advance();
+        }
+        count
     }
 
     /// The number of remaining documents, deleted ones too; leaves none.

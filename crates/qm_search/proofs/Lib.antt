@@ -1,6 +1,6 @@
 mod PostingLists
 mod Holders
-mod Leapfrog
+mod InCommon
 mod Matching
 mod Texts
 mod LineBytes

@@ -16,7 +16,7 @@ use Rattle.qm_docset.specs.declared.vec_docset.VecDocSet.{VecDocSet}
 use Rattle.qm_docset.specs.declared.doc_set.TheConstants.{TERMINATED}
 use Rattle.qm_search.specs.Segment.{Segment, holds, holders}
 use Rattle.qm_search.specs.Trees.{boolean_matches}
-use Rattle.qm_search.specs.Intersection.{has, is_common}
+use Rattle.qm_search.proofs.InCommon.{has, is_common}
 use Rattle.qm_search.proofs.Holders.{All-holders, list_any-map}
 
 -- the documents that hold a word are documents of a cursor
@@ -117,3 +117,13 @@ is_common-past segment (word ∷ words) members some entries d past =
 pub map-take-more : {X Y : Type 0} (f : X → Y) (xs : List X) (i : ℕ) (item : X) → i < length xs → item ≡ get_or xs i item → map f (take (i + 1) xs) ≡ map f (take i xs) ++ f item ∷ []
 map-take-more f xs i item within is_item =
     ap (map f) (take_more xs i item within) ∙ map-append f (take i xs) (get_or xs i item ∷ []) ∙ ap (λ x. map f (take i xs) ++ f x ∷ []) (sym is_item)
+
+-- a Boolean query of one Must clause matches where the clause does
+pub boolean_matches-one : (must : Bool) → boolean_matches 0 (must ∷ []) [] ≡ must
+boolean_matches-one true = refl
+boolean_matches-one false = refl
+
+pub only_word : {X : Type 0} (words : List X) (word : X) → length words ≡ 1 → word ≡ get_or words 0 word → words ≡ word ∷ []
+only_word [] word one first = absurd (omega arith)
+only_word (x ∷ []) word one first = ap (λ w. w ∷ []) (sym first)
+only_word (x ∷ (y ∷ words)) word one first = absurd (omega arith)

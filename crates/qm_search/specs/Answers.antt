@@ -8,8 +8,8 @@ use Rattle.qm_search.specs.Trees.{matching}
 use Rattle.qm_search.specs.declared.tree.Tree.{Tree}
 use Rattle.qm_search.specs.declared.parse.Command.{Command}
 use Rattle.qm_search.specs.declared.parse.Command.TheVariants.{Nothing, AddDocument, ListDocuments}
-use Rattle.qm_search.specs.declared.error.QueryError.{QueryError}
-use Rattle.qm_search.specs.declared.error.QueryError.TheVariants.{Memory}
+use Rattle.qm_schema.specs.declared.error.QueryError.{QueryError}
+use Rattle.qm_schema.specs.declared.error.QueryError.TheVariants.{TooFewTerms, EmptyPrefix, MixedFields, OffsetTooLarge, UnknownField, NotIndexed, NoPositions, TieBreaker, ScoreBound, DoesNotMatch, NoSuchSegment, Provider, Memory, TooManyDocuments, BadDocument, BadBlockLength, BadNorms, TooManySegments}
 use Rattle.qm_search.specs.declared.answer.Answer.{Answer}
 use Rattle.qm_search.specs.declared.answer.Answer.TheVariants.{Silence, Documents, Refused, NotUnderstood}
 
@@ -22,7 +22,24 @@ status_of NotUnderstood = 2
 
 -- the number by which a refusal is written
 abbrev pub refusal_of : QueryError → ℕ
+refusal_of TooFewTerms = 1
+refusal_of EmptyPrefix = 2
+refusal_of MixedFields = 3
+refusal_of (OffsetTooLarge offset) = 4
+refusal_of UnknownField = 5
+refusal_of NotIndexed = 6
+refusal_of NoPositions = 7
+refusal_of TieBreaker = 8
+refusal_of ScoreBound = 9
+refusal_of (DoesNotMatch document) = 10
+refusal_of (NoSuchSegment segment) = 11
+refusal_of (Provider code) = 12
 refusal_of Memory = 13
+refusal_of TooManyDocuments = 14
+refusal_of BadDocument = 15
+refusal_of BadBlockLength = 16
+refusal_of BadNorms = 17
+refusal_of TooManySegments = 18
 
 -- what is written where a line has this number and this answer; each line ends at byte 10
 abbrev pub answer_text : ℕ → Answer → List ℕ

@@ -3,5 +3,4 @@ pub mod Postings
 pub mod Trees
 pub mod Text
 pub mod Answers
-pub mod Intersection
 pub mod Lines

@@ -5,10 +5,10 @@ ghost use Rattle.qm_search.specs.Text.{spaced};
 ghost use Rattle.qm_search.specs.Answers.{answer_text, status_of, refusal_of, IsAnswer};
 
 use crate::docs::docs;
-use crate::error::QueryError;
 use crate::flat_segment::FlatSegment;
 use crate::parse::Command;
 use qm_docset::DocId;
+use qm_schema::QueryError;
 use std::alloc::{AllocError, Global};
 
 /// The number of the refusal of a document for which the segment has no number left.
@@ -90,7 +90,24 @@ fn refusal_number(error: QueryError) -> u8
     ensures { result ≡ refusal_of error }
 {
     match error {
+        QueryError::TooFewTerms => 1,
+        QueryError::EmptyPrefix => 2,
+        QueryError::MixedFields => 3,
+        QueryError::OffsetTooLarge(_) => 4,
+        QueryError::UnknownField => 5,
+        QueryError::NotIndexed => 6,
+        QueryError::NoPositions => 7,
+        QueryError::TieBreaker => 8,
+        QueryError::ScoreBound => 9,
+        QueryError::DoesNotMatch(_) => 10,
+        QueryError::NoSuchSegment(_) => 11,
+        QueryError::Provider(_) => 12,
         QueryError::Memory => 13,
+        QueryError::TooManyDocuments => 14,
+        QueryError::BadDocument => 15,
+        QueryError::BadBlockLength => 16,
+        QueryError::BadNorms => 17,
+        QueryError::TooManySegments => 18,
     }
 }
 
@@ -152,13 +169,6 @@ mod tests {
             let answer = answer_command(alloc, &mut segment, command)?;
             assert_eq!(rt; answer.text(alloc, 1)?.as_str(), text);
         }
-        Ok(())
-    }
-
-    #[test]
-    fn names_the_refusal(rt: HostRuntime) -> Result<(), Fail> {
-        let text = QueryError::Memory.to_string(rt.alloc())?;
-        assert_eq!(rt; text.as_str(), "out of memory");
         Ok(())
     }
 }

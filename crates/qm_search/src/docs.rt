@@ -1,17 +1,17 @@
 //! The documents that a tree matches.
 
-ghost use Rattle.std.specs.Prelude.{◌≡◌, IfOk, IsOkUnless, map, string_bytes};
+ghost use Rattle.std.specs.Prelude.{◌≡◌, All, IfOk, IsOkUnless, map, string_bytes};
 ghost use Rattle.qm_docset.specs.Entry.{plain};
-ghost use Rattle.qm_docset.specs.VecDocSet.{remaining};
-ghost use Rattle.qm_search.specs.Intersection.{AreCursors};
+ghost use Rattle.qm_docset.specs.VecDocSet.{remaining, IsCursor};
 ghost use Rattle.qm_search.specs.Segment.{holders};
 ghost use Rattle.qm_search.specs.Trees.{matching};
 
-use crate::error::QueryError;
+use crate::documents_left::documents_left;
 use crate::flat_segment::FlatSegment;
-use crate::intersection::Intersection;
 use crate::tree::Tree;
+use qm_combine::Intersection;
 use qm_docset::{DocId, VecDocSet};
+use qm_schema::QueryError;
 use std::alloc::{AllocError, Global};
 
 /// The documents of the segment that the tree matches, ascending. `Memory` is its only refusal.
@@ -30,8 +30,12 @@ pub fn docs(alloc: Global, segment: &FlatSegment, tree: &Tree) -> Result<Vec<Doc
             if *minimum > 0 || words.is_empty() {
                 return Ok(Vec::new(alloc));
             }
+            if let [word] = words.as_slice() {
+                return Ok(Vec::from_slice(alloc, segment.postings(word.as_str()))?);
+            }
             let members = cursors(alloc, segment, words.as_slice())?;
-            Ok(Intersection::new(members).into_documents(alloc, segment.max_doc())?)
+            let common = Intersection::new(alloc, members, segment.max_doc())?;
+            Ok(documents_left(alloc, common)?)
         }
     }
 }
@@ -42,7 +46,7 @@ fn cursors(
     segment: &FlatSegment,
     words: &[String],
 ) -> Result<Vec<VecDocSet>, AllocError>
-    ensures valid { IfOk result (λ members. AreCursors members.items) }
+    ensures valid { IfOk result (λ members. All (λ m. IsCursor m) members.items) }
     ensures entries { IfOk result (λ members. map (λ m. remaining m) members.items
         ≡ map (λ w. map plain (holders segment.now (string_bytes w))) words.now) }
 {

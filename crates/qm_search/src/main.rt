@@ -4,9 +4,8 @@
 
 mod answer;
 mod docs;
-mod error;
+mod documents_left;
 mod flat_segment;
-mod intersection;
 mod lines;
 mod parse;
 mod postings;

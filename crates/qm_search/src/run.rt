@@ -92,4 +92,6 @@ fn answer_lines<R: Read, W: Write>(
 #[cfg(test)]
 mod fakes;
 #[cfg(test)]
+mod refused_memory;
+#[cfg(test)]
 mod tests;

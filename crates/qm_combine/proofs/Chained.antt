@@ -1,0 +1,318 @@
+-- Members in a heap by their documents: its first is the member of the least document, and what is
+-- gathered from the members as the first of them moves.
+use Rattle.std.proofs.Common.{◌≡◌, ℕ, zero, suc, ◌+◌, ◌<◌, ◌≤◌, ◌≢◌, Bool, true, false, cond, nat_eq, List, [], ◌∷◌, ◌++◌, length, map, get_or, drop, fold, max, sum, sum_by, refl, ap, sym, subst, ◌∙◌, arith, inl, inr}
+use Rattle.std.specs.List.{All, AllByRecursion}
+use Rattle.std.specs.List.Sorted.{IsPermutation}
+use Rattle.std.specs.BinaryHeap.{IsUpperBound}
+use Rattle.std.specs.Ordering.{is_lt, nat_cmp}
+use Rattle.std.specs.declared.cmp.Ordering.{Ordering}
+use Rattle.std.specs.declared.cmp.Ordering.TheVariants.{Less}
+use Rattle.std.proofs.lemmas.Bool.{cases_lt, cases_eq, eq-eqb, ne_eqb, lt-ltb}
+use Rattle.std.proofs.lemmas.Bool.Decides.{nat_tests}
+use Rattle.std.proofs.lemmas.List.{length-map}
+use Rattle.std.proofs.lemmas.List.Elements.{All-cons, All-head, All-map, All-tail, All-weaker}
+use Rattle.std.proofs.lemmas.List.Sorted.{IsPermutation-refl, IsPermutation-trans, IsPermutation-cons, IsPermutation-map, All-permutation, sum_by-IsPermutation, length_permutation}
+use Rattle.std.proofs.lemmas.List.Sums.{fold-append, sum_by-append, sum_by-cons}
+use Rattle.qm_docset.specs.Entry.{Entry, Limits, AreEntries, from, greatest_score, head_document, head_score}
+use Rattle.qm_docset.specs.EntryFacts.{from-drop, from-from, from-nil, from-skip, from-keep, from-reached, from-next, head_document-bounds, AreEntries-drop, AreEntries-from_low}
+use Rattle.qm_docset.specs.Gather.{scored, entries_of, scores_at, gather, IsBare, AreMembers}
+use Rattle.qm_docset.specs.GatherFacts.{scores_at-cons, scores_at-nil, entries_of-before, entries_of-nil, length-scores_at, sum-scores_at, AreMembers-map}
+use Rattle.qm_docset.specs.declared.doc_set.TheConstants.{TERMINATED}
+use Rattle.qm_docset.proofs.Gathering.{gather-bare, gather-first, gather-from, gather-none, gather-permutation, scores_at-from_past, scores_at-permutation}
+use Rattle.qm_combine.proofs.Uniting.{score_of-here, scores_at-ahead}
+use Rattle.qm_combine.specs.CombineFacts.{combine-permutation}
+use Rattle.qm_combine.specs.Combine.{combine}
+use Rattle.qm_combine.specs.Disjunction.{HasRoomFor, least_first, led_by, led_by-here, led_by-ended, tops_at}
+use Rattle.qm_combine.specs.Union.{least_head, total_top, united_limits}
+use Rattle.qm_combine.specs.declared.disjunction.scorer_wrapper.ScorerWrapper.{ScorerWrapper}
+
+-- The first of some elements gives way to another, and the elements change their order.
+module _ {X : Type 0} (xs ys rest : List X) (x y : X) (was : IsPermutation xs (x ∷ rest)) (is : IsPermutation (y ∷ rest) ys) where
+  -- what reads the same of both
+  pub replaced-same : {Y : Type 0} (f : X → Y) → f y ≡ f x → IsPermutation (map f xs) (map f ys)
+  replaced-same f same =
+      let before = IsPermutation-map f xs (x ∷ rest) was in
+      let after = IsPermutation-map f (y ∷ rest) ys is in
+      IsPermutation-trans (map f xs) (f x ∷ map f rest) (map f ys) before (subst (λ z. IsPermutation (z ∷ map f rest) (map f ys)) same after)
+
+  -- what holds of each
+  pub replaced-all : (P : X → Type 0) → (P x → P y) → All P xs → All P ys
+  replaced-all P keeps all =
+      let old = All-permutation P xs (x ∷ rest) was all in
+      All-permutation P (y ∷ rest) ys is (All-cons P y rest (keeps (All-head P x rest old)) (All-tail P x rest old))
+
+  pub replaced-first : (P : X → Type 0) → All P xs → P x
+  replaced-first P all = All-head P x rest (All-permutation P xs (x ∷ rest) was all)
+
+  -- what they add up to
+  pub replaced-sum : (f : X → ℕ) → sum_by f ys + f x ≡ sum_by f xs + f y
+  replaced-sum f = omega (arith, sum_by-IsPermutation f xs (x ∷ rest) was, sum_by-IsPermutation f (y ∷ rest) ys is, sum_by-cons f x rest, sum_by-cons f y rest)
+
+-- The least of the documents that some lists begin with.
+
+-- no list begins before it
+pub least_head-least : (ess : List (List Entry)) → All (λ es. least_head ess ≤ head_document es) ess
+least_head-least [] = λ k d below. absurd (omega arith)
+least_head-least (es ∷ ess) =
+    All-cons (λ xs. least_head (es ∷ ess) ≤ head_document xs) es ess (omega arith) (All-weaker (λ xs. least_head ess ≤ head_document xs) (λ xs. least_head (es ∷ ess) ≤ head_document xs) (λ xs h. omega arith) ess (least_head-least ess))
+
+-- and it is at or past all that none begins before
+pub least_head-past : (t : ℕ) (ess : List (List Entry)) → t ≤ TERMINATED → All (λ es. t ≤ head_document es) ess → t ≤ least_head ess
+least_head-past t [] h all = h
+least_head-past t (es ∷ ess) h all =
+    let first = All-head (λ xs. t ≤ head_document xs) es ess all in
+    let rest = least_head-past t ess h (All-tail (λ xs. t ≤ head_document xs) es ess all) in
+    omega arith
+
+pub least_head-most : (ess : List (List Entry)) → least_head ess ≤ TERMINATED
+least_head-most [] = omega arith
+least_head-most (es ∷ ess) = omega (arith, least_head-most ess)
+
+pub least_head-permutation : (xss yss : List (List Entry)) → IsPermutation xss yss → least_head xss ≤ least_head yss
+least_head-permutation xss yss moved = least_head-past (least_head xss) yss (least_head-most xss) (All-permutation (λ es. least_head xss ≤ head_document es) xss yss moved (least_head-least xss))
+
+-- lists that begin at or past a target lose nothing below it
+from-ahead : (t : ℕ) (bounds : List Limits) (ess : List (List Entry)) → AreMembers bounds ess → t ≤ least_head ess → map (from t) ess ≡ ess
+from-ahead t [] [] members h = refl
+from-ahead t [] (es ∷ ess) members h = absurd members
+from-ahead t (limits ∷ bounds) [] members h = absurd members
+from-ahead t (limits ∷ bounds) (es ∷ ess) members h =
+    let first = from-reached t 0 limits es (omega arith) members.0 in
+    let rest = from-ahead t bounds ess members.1 (omega arith) in
+    ap (λ r. r ∷ map (from t) ess) first ∙ ap (λ r. es ∷ r) rest
+
+pub IsBare-ahead : (least t : ℕ) (bounds : List Limits) (ess : List (List Entry)) → 1 ≤ least → AreMembers bounds ess → t ≤ least_head ess → IsBare least t ess
+IsBare-ahead least t bounds ess some members h d below = omega (arith, ap length (scores_at-ahead d bounds ess members (omega arith)))
+
+-- What is gathered from lists that were brought to a target, in any order, is what was gathered from
+-- there on.
+module _ (least : ℕ) (combined : List ℕ → ℕ) (any_order : (xs ys : List ℕ) → IsPermutation xs ys → combined xs ≡ combined ys) (some : 1 ≤ least) where
+  pub gather-brought : (t : ℕ) (bounds : List Limits) (old new : List (List Entry)) → AreMembers bounds new → t ≤ least_head new → IsPermutation (map (from t) old) (map (from t) new) → gather least combined new ≡ from t (gather least combined old)
+  gather-brought t bounds old new members ahead moved =
+      ap (gather least combined) (sym (from-ahead t bounds new members ahead))
+      ∙ sym (gather-permutation least combined (map (from t) old) (map (from t) new) any_order moved)
+      ∙ gather-from least t combined old some
+
+  -- past a document that too few have nothing is lost
+  pub gather-missed : (d : ℕ) (bounds others : List Limits) (old new : List (List Entry)) → AreMembers bounds old → AreMembers others new → d ≤ least_head old → d + 1 ≤ least_head new → length (scores_at d old) < least → IsPermutation (map (from (d + 1)) old) (map (from (d + 1)) new) → gather least combined old ≡ gather least combined new
+  gather-missed d bounds others old new members after first past few moved =
+      let bare : IsBare least (d + 1) old = λ x below. elim (cases_lt x d) [
+        | inl before ↦ IsBare-ahead least d bounds old some members first x before
+        | inr reached ↦ let here : x ≡ d = omega arith in omega (arith, ap (λ n. length (scores_at n old)) here)
+      ] in
+      sym (gather-bare least (d + 1) combined old some bare) ∙ sym (gather-brought (d + 1) others old new after past moved)
+
+  -- a document that enough have is the first, and past it is the rest
+  pub gather-met : (d : ℕ) (bounds others : List Limits) (old new : List (List Entry)) → AreMembers bounds old → AreMembers others new → d < TERMINATED → d ≤ least_head old → d + 1 ≤ least_head new → least ≤ length (scores_at d old) → IsPermutation (map (from (d + 1)) old) (map (from (d + 1)) new) → gather least combined old ≡ scored d (combined (scores_at d old)) ∷ gather least combined new
+  gather-met d bounds others old new members after below first past enough moved =
+      gather-first least d combined old below (IsBare-ahead least d bounds old some members first) enough
+      ∙ ap (λ r. scored d (combined (scores_at d old)) ∷ r) (sym (gather-brought (d + 1) others old new after past moved))
+
+  -- where all are at their ends nothing is left
+  pub gather-over : (bounds : List Limits) (ess : List (List Entry)) → AreMembers bounds ess → TERMINATED ≤ least_head ess → gather least combined ess ≡ []
+  gather-over bounds ess members h = gather-none least combined ess (IsBare-ahead least TERMINATED bounds ess some members h)
+
+-- fewer lists than are needed have nothing together
+pub gather-few : (least : ℕ) (combined : List ℕ → ℕ) (bounds : List Limits) (ess : List (List Entry)) → AreMembers bounds ess → length ess < least → gather least combined ess ≡ []
+gather-few least combined bounds ess members few = gather-none least combined ess (λ d below. omega (arith, length-scores_at d bounds ess members))
+
+-- The first of some lists steps past its document.
+scores_at-stepped : (d : ℕ) (limits : Limits) (es : List Entry) → AreEntries 0 limits es → head_document es ≡ d → entries_of d (drop 1 es) ≡ []
+scores_at-stepped d limits [] a here = entries_of-nil d
+scores_at-stepped d limits (e ∷ es) a here = entries_of-before d (e.document + 1) limits es (omega arith) a.4
+
+pub scores_at-taken : (d : ℕ) (limits : Limits) (es : List Entry) (old new rest : List (List Entry)) → IsPermutation old (es ∷ rest) → IsPermutation (drop 1 es ∷ rest) new → AreEntries 0 limits es → head_document es ≡ d → d < TERMINATED → IsPermutation (scores_at d old) (head_score es ∷ scores_at d new)
+scores_at-taken d limits es old new rest was is a here below =
+    let before : scores_at d (es ∷ rest) ≡ head_score es ∷ scores_at d rest = scores_at-cons d es rest ∙ ap (λ r. r ++ scores_at d rest) (score_of-here d limits es a here below) in
+    let after : scores_at d (drop 1 es ∷ rest) ≡ scores_at d rest = scores_at-cons d (drop 1 es) rest ∙ ap (λ r. map (λ e. e.score) r ++ scores_at d rest) (scores_at-stepped d limits es a here) in
+    let one = subst (λ r. IsPermutation (scores_at d old) r) before (scores_at-permutation d old (es ∷ rest) was) in
+    let two = subst (λ r. IsPermutation r (scores_at d new)) after (scores_at-permutation d (drop 1 es ∷ rest) new is) in
+    IsPermutation-trans (scores_at d old) (head_score es ∷ scores_at d rest) (head_score es ∷ scores_at d new) one (IsPermutation-cons (head_score es) (scores_at d rest) (scores_at d new) two)
+
+-- what is dropped by a step, or by a seek past the first document, is at least one entry
+pub length-stepped : (es : List Entry) → head_document es < TERMINATED → length (drop 1 es) < length es
+length-stepped [] h = absurd (omega arith)
+length-stepped (e ∷ es) h = omega arith
+
+length-from : (t : ℕ) (es : List Entry) → length (from t es) ≤ length es
+length-from t [] = omega (arith, ap length (from-nil t))
+length-from t (e ∷ es) =
+    elim (cases_lt e.document t) [
+      | inl below ↦ omega (arith, ap length (from-skip t e es below), length-from t es)
+      | inr kept ↦ omega (arith, ap length (from-keep t e es kept), length-from t es)
+    ]
+
+pub length-sought : (t : ℕ) (es : List Entry) → head_document es < t → t ≤ TERMINATED → length (from t es) < length es
+length-sought t [] h b = absurd (omega arith)
+length-sought t (e ∷ es) h b = omega (arith, ap length (from-skip t e es h), length-from t es)
+
+head_score-top : (low : ℕ) (limits : Limits) (es : List Entry) → AreEntries low limits es → head_score es ≤ limits.top
+head_score-top low limits [] a = omega arith
+head_score-top low limits (e ∷ es) a = omega arith
+
+-- two readings, one after the other
+map-both : {X Y Z : Type 0} (f : Y → Z) (g : X → Y) (xs : List X) → map f (map g xs) ≡ map (λ x. f (g x)) xs
+map-both f g [] = refl
+map-both f g (x ∷ xs) = ap (λ r. f (g x) ∷ r) (map-both f g xs)
+
+pub read-through : {X Y Z : Type 0} (f : Y → Z) (g : X → Y) (ys : List Y) (xs : List X) → IsPermutation ys (map g xs) → IsPermutation (map f ys) (map (λ x. f (g x)) xs)
+read-through f g ys xs moved = subst (IsPermutation (map f ys)) (map-both f g xs) (IsPermutation-map f ys (map g xs) moved)
+
+pub moved-lists : {X : Type 0} (t : ℕ) (list : X → List Entry) (xs ys : List X) → IsPermutation (map (λ x. from t (list x)) xs) (map (λ x. from t (list x)) ys) → IsPermutation (map (from t) (map list xs)) (map (from t) (map list ys))
+moved-lists t list xs ys moved = rw (map-both (from t) list xs, map-both (from t) list ys) moved
+
+nat_cmp-less : (b a : ℕ) → b < a → nat_cmp b a ≡ Less
+nat_cmp-less b a less = rw (lt-ltb b a less) refl
+
+less_first : (b a : ℕ) → b < a → is_lt (nat_cmp b a) ≡ false → ⊥
+less_first b a less h = let t : true ≡ false = sym (ap is_lt (nat_cmp-less b a less)) ∙ h in cc
+
+-- what the heap's order says of two documents
+below_first : (a b : ℕ) → is_lt (nat_cmp b a) ≡ false → a ≤ b
+below_first a b h = elim (cases_lt b a) [ inl less ↦ absurd (less_first b a less h) | inr order ↦ order ]
+
+at_most : (b : Bool) (n : ℕ) → cond b n 0 ≤ n
+at_most true n = omega arith
+at_most false n = omega arith
+
+stepped-past : (limits : Limits) (es : List Entry) → AreEntries 0 limits es → head_document es < TERMINATED → head_document es < head_document (drop 1 es)
+stepped-past limits [] a h = absurd (omega arith)
+stepped-past limits (e ∷ es) a h = omega (arith, head_document-bounds (e.document + 1) limits es (omega arith) a.4)
+
+-- a list that steps begins no earlier
+stepped-later : (limits : Limits) (es : List Entry) → AreEntries 0 limits es → head_document es ≤ head_document (drop 1 es)
+stepped-later limits [] a = omega arith
+stepped-later limits (e ∷ es) a = omega (arith, head_document-bounds (e.document + 1) limits es (omega arith) a.4)
+
+-- The members of a disjunction, each beside the document that it stands on.
+module _ {S : Type 0} (valid placed : S → Type 0) (bound : S → Limits) (list : S → List Entry) (law : (s : S) → valid s → AreEntries 0 (bound s) (list s)) where
+  abbrev pub Stands : ScorerWrapper S → Type 0
+  Stands w = valid w.scorer × placed w.scorer × (w.doc ≡ head_document (list w.scorer))
+
+  abbrev pub lists_of : List (ScorerWrapper S) → List (List Entry)
+  lists_of xs = map (λ (w : ScorerWrapper S). list w.scorer) xs
+
+  abbrev pub bounds_of : List (ScorerWrapper S) → List Limits
+  bounds_of xs = map (λ (w : ScorerWrapper S). bound w.scorer) xs
+
+  pub standing_members : (xs : List (ScorerWrapper S)) → All Stands xs → AreMembers (bounds_of xs) (lists_of xs)
+  standing_members xs all = AreMembers-map (λ (w : ScorerWrapper S). bound w.scorer) (λ w. list w.scorer) xs (All-weaker Stands (λ w. AreEntries 0 (bound w.scorer) (list w.scorer)) (λ w h. law w.scorer h.0) xs all)
+
+  first_is-least : (x : ScorerWrapper S) (xs : List (ScorerWrapper S)) → x.doc ≤ TERMINATED → IsUpperBound (least_first (λ w. w.doc)) x xs → All Stands xs → x.doc ≤ least_head (lists_of xs)
+  first_is-least x [] h most all = h
+  first_is-least x (y ∷ ys) h most all =
+      let here : y.doc ≡ head_document (list y.scorer) = (All-head Stands y ys all).2 in
+      let rest = first_is-least x ys h most.1 (All-tail Stands y ys all) in
+      let order : x.doc ≤ y.doc = below_first x.doc y.doc most.0 in
+      omega arith
+
+  -- what is first in a heap is the member of the least document
+  pub least_head-first : (x : ScorerWrapper S) (xs rest : List (ScorerWrapper S)) → IsPermutation xs (x ∷ rest) → IsUpperBound (least_first (λ w. w.doc)) x xs → All Stands xs → x.doc ≡ least_head (lists_of xs)
+  least_head-first x xs rest was most all =
+      let here = All-head Stands x rest (All-permutation Stands xs (x ∷ rest) was all) in
+      let within = head_document-bounds 0 (bound x.scorer) (list x.scorer) (omega arith) (law x.scorer here.0) in
+      let doc : x.doc ≡ head_document (list x.scorer) = here.2 in
+      let low = first_is-least x xs (omega arith) most all in
+      let high = least_head-permutation (lists_of xs) (list x.scorer ∷ lists_of rest) (IsPermutation-map (λ (w : ScorerWrapper S). list w.scorer) xs (x ∷ rest) was) in
+      omega arith
+
+  tops-cons : (d : ℕ) (x : ScorerWrapper S) (xs : List (ScorerWrapper S)) → tops_at (λ w. list w.scorer) (λ w. bound w.scorer) d (x ∷ xs) ≡ cond (nat_eq (head_document (list x.scorer)) d) (bound x.scorer).top 0 + tops_at (λ w. list w.scorer) (λ w. bound w.scorer) d xs
+  tops-cons d x xs = sum_by-cons (λ (w : ScorerWrapper S). cond (nat_eq (head_document (list w.scorer)) d) (bound w.scorer).top 0) x xs
+
+  pub tops_at-total : (d : ℕ) (xs : List (ScorerWrapper S)) → tops_at (λ w. list w.scorer) (λ w. bound w.scorer) d xs ≤ total_top (bounds_of xs)
+  tops_at-total d [] = omega arith
+  tops_at-total d (x ∷ xs) =
+      let rest = tops_at-total d xs in
+      let one : cond (nat_eq (head_document (list x.scorer)) d) (bound x.scorer).top 0 ≤ (bound x.scorer).top = at_most (nat_eq (head_document (list x.scorer)) d) (bound x.scorer).top in
+      omega (arith, tops-cons d x xs, sum_by-cons (λ (l : Limits). l.top) (bound x.scorer) (bounds_of xs))
+
+  -- The first member, at the least document, gives way to one that has moved on.
+  module _ (items rest new : List (ScorerWrapper S)) (x y : ScorerWrapper S) (was : IsPermutation items (x ∷ rest)) (is : IsPermutation (y ∷ rest) new) (most : IsUpperBound (least_first (λ w. w.doc)) x items) (all : All Stands items) where
+    here : Stands x
+    here = All-head Stands x rest (All-permutation Stands items (x ∷ rest) was all)
+
+    doc_here : head_document (list x.scorer) ≡ least_head (lists_of items)
+    doc_here = sym here.2 ∙ least_head-first x items rest was most all
+
+    entries_here : AreEntries 0 (bound x.scorer) (list x.scorer)
+    entries_here = law x.scorer here.0
+
+    pub moved-fewer : (t : ℕ) → t ≤ TERMINATED → least_head (lists_of items) < t → list y.scorer ≡ from t (list x.scorer) → sum_by (λ (w : ScorerWrapper S). length (list w.scorer)) new < sum_by (λ (w : ScorerWrapper S). length (list w.scorer)) items
+    moved-fewer t h behind sought =
+        let less = length-sought t (list x.scorer) (omega (arith, doc_here)) h in
+        omega (arith, replaced-sum items new rest x y was is (λ (w : ScorerWrapper S). length (list w.scorer)), ap length sought)
+
+    pub taken-scores : least_head (lists_of items) < TERMINATED → list y.scorer ≡ drop 1 (list x.scorer) → IsPermutation (scores_at (least_head (lists_of items)) (lists_of items)) (head_score (list x.scorer) ∷ scores_at (least_head (lists_of items)) (lists_of new))
+    taken-scores below stepped =
+        let before = IsPermutation-map (λ (w : ScorerWrapper S). list w.scorer) items (x ∷ rest) was in
+        let after = subst (λ r. IsPermutation (r ∷ lists_of rest) (lists_of new)) stepped (IsPermutation-map (λ (w : ScorerWrapper S). list w.scorer) (y ∷ rest) new is) in
+        scores_at-taken (least_head (lists_of items)) (bound x.scorer) (list x.scorer) (lists_of items) (lists_of new) (lists_of rest) before after entries_here doc_here below
+
+    pub taken-forward : list y.scorer ≡ drop 1 (list x.scorer) → least_head (lists_of items) ≤ least_head (lists_of new)
+    taken-forward stepped =
+        let before = least_head-permutation (lists_of items) (list x.scorer ∷ lists_of rest) (IsPermutation-map (λ (w : ScorerWrapper S). list w.scorer) items (x ∷ rest) was) in
+        let after = least_head-permutation (list y.scorer ∷ lists_of rest) (lists_of new) (IsPermutation-map (λ (w : ScorerWrapper S). list w.scorer) (y ∷ rest) new is) in
+        omega (arith, stepped-later (bound x.scorer) (list x.scorer) entries_here, ap head_document stepped)
+
+    pub taken-kept : least_head (lists_of items) < TERMINATED → list y.scorer ≡ drop 1 (list x.scorer) → from (least_head (lists_of items) + 1) (list y.scorer) ≡ from (least_head (lists_of items) + 1) (list x.scorer)
+    taken-kept below stepped = ap (from (least_head (lists_of items) + 1)) stepped ∙ from-drop (least_head (lists_of items) + 1) (list x.scorer) (omega (arith, doc_here)) (omega arith)
+
+    tops_first : cond (nat_eq (head_document (list x.scorer)) (least_head (lists_of items))) (bound x.scorer).top 0 ≡ (bound x.scorer).top
+    tops_first = rw (eq-eqb (head_document (list x.scorer)) (least_head (lists_of items)) doc_here) refl
+
+    tops_before : tops_at (λ w. list w.scorer) (λ w. bound w.scorer) (least_head (lists_of items)) items ≡ (bound x.scorer).top + tops_at (λ w. list w.scorer) (λ w. bound w.scorer) (least_head (lists_of items)) rest
+    tops_before = sym (sum_by-IsPermutation (λ (w : ScorerWrapper S). cond (nat_eq (head_document (list w.scorer)) (least_head (lists_of items))) (bound w.scorer).top 0) items (x ∷ rest) was) ∙ tops-cons (least_head (lists_of items)) x rest ∙ ap (λ n. n + tops_at (λ w. list w.scorer) (λ w. bound w.scorer) (least_head (lists_of items)) rest) tops_first
+
+    tops_gone : least_head (lists_of items) < TERMINATED → list y.scorer ≡ drop 1 (list x.scorer) → cond (nat_eq (head_document (list y.scorer)) (least_head (lists_of items))) (bound y.scorer).top 0 ≡ 0
+    tops_gone below stepped =
+        let past = stepped-past (bound x.scorer) (list x.scorer) entries_here (omega (arith, doc_here)) in
+        let other : head_document (list y.scorer) ≢ least_head (lists_of items) = omega (arith, ap head_document stepped, doc_here) in
+        rw (ne_eqb (head_document (list y.scorer)) (least_head (lists_of items)) other) refl
+
+    tops_after : least_head (lists_of items) < TERMINATED → list y.scorer ≡ drop 1 (list x.scorer) → tops_at (λ w. list w.scorer) (λ w. bound w.scorer) (least_head (lists_of items)) new ≡ tops_at (λ w. list w.scorer) (λ w. bound w.scorer) (least_head (lists_of items)) rest
+    tops_after below stepped =
+        let moved = sum_by-IsPermutation (λ (w : ScorerWrapper S). cond (nat_eq (head_document (list w.scorer)) (least_head (lists_of items))) (bound w.scorer).top 0) (y ∷ rest) new is in
+        omega (arith, moved, tops-cons (least_head (lists_of items)) y rest, tops_gone below stepped)
+
+    -- there is room for the score of the first, and then for those of the others there
+    pub room-first : (scores : List ℕ) → tops_at (λ w. list w.scorer) (λ w. bound w.scorer) (least_head (lists_of items)) items + sum scores ≤ greatest_score → (bound x.scorer).top + sum scores ≤ greatest_score
+    room-first scores h = omega (arith, tops_before)
+
+    pub room-rest : (scores : List ℕ) → least_head (lists_of items) < TERMINATED → list y.scorer ≡ drop 1 (list x.scorer) → tops_at (λ w. list w.scorer) (λ w. bound w.scorer) (least_head (lists_of items)) items + sum scores ≤ greatest_score → tops_at (λ w. list w.scorer) (λ w. bound w.scorer) (least_head (lists_of items)) new + sum (scores ++ head_score (list x.scorer) ∷ []) ≤ greatest_score
+    room-rest scores below stepped h =
+        let score = head_score-top 0 (bound x.scorer) (list x.scorer) entries_here in
+        omega (arith, tops_before, tops_after below stepped, sum_by-append (λ n. n) scores (head_score (list x.scorer) ∷ []), sum_by-cons (λ n. n) (head_score (list x.scorer)) [])
+
+-- The order of the members is of no consequence for the limits.
+pub united-permutation : (some others : List Limits) → IsPermutation some others → united_limits some ≡ united_limits others
+united-permutation some others moved = ap (λ n. let l : Limits = record { top = max 1 n; room = 0 } in l) (sym (sum_by-IsPermutation (λ (l : Limits). l.top) some others moved))
+
+pub total_top-permutation : (some others : List Limits) → IsPermutation some others → total_top others ≡ total_top some
+total_top-permutation some others moved = sum_by-IsPermutation (λ (l : Limits). l.top) some others moved
+
+-- A document that is kept apart, and what is left past it.
+pub head_document-led_by : (d score : ℕ) (es : List Entry) → d ≤ TERMINATED → head_document (led_by d score es) ≡ d
+head_document-led_by d score es h =
+    elim (cases_lt d TERMINATED) [
+      | inl here ↦ ap head_document (led_by-here d score es here)
+      | inr ended ↦ omega (arith, ap head_document (led_by-ended d score es ended))
+    ]
+
+pub head_score-led_by : (d score : ℕ) (es : List Entry) → d < TERMINATED → head_score (led_by d score es) ≡ score
+head_score-led_by d score es h = ap head_score (led_by-here d score es h)
+
+pub led_by-step : (d score : ℕ) (es : List Entry) → d < TERMINATED → drop 1 (led_by d score es) ≡ es
+led_by-step d score es h = ap (drop 1) (led_by-here d score es h)
+
+pub led_by-stay : (d score : ℕ) (es : List Entry) → TERMINATED ≤ d → drop 1 (led_by d score es) ≡ led_by d score es
+led_by-stay d score es h = ap (drop 1) (led_by-ended d score es h) ∙ sym (led_by-ended d score es h)
+
+pub led_by-sought : (t d score : ℕ) (es : List Entry) → d < t → t ≤ TERMINATED → from t (led_by d score es) ≡ from t es
+led_by-sought t d score es h below = ap (from t) (led_by-here d score es (omega arith)) ∙ from-skip t (scored d score) es h
+
+pub led_by-reached : (t d score : ℕ) (limits : Limits) (es : List Entry) → t ≤ d → d ≤ TERMINATED → AreEntries 0 limits (led_by d score es) → from t (led_by d score es) ≡ led_by d score es
+led_by-reached t d score limits es h most a = from-reached t 0 limits (led_by d score es) (omega (arith, head_document-led_by d score es most)) a
+
+-- What a combiner makes of some scores depends on no order of theirs.
+pub any_order : {C : Type 0} (step : C → ℕ → C) (value : C → ℕ) → ((c : C) (x y : ℕ) → step (step c x) y ≡ step (step c y) x) → (start : C) (xs ys : List ℕ) → IsPermutation xs ys → combine step value start xs ≡ combine step value start ys
+any_order step value commutes start xs ys moved = sym (combine-permutation step commutes value start xs ys moved)

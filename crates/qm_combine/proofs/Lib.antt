@@ -1,0 +1,5 @@
+pub mod Chained
+pub mod Counting
+pub mod EachMember
+pub mod Leading
+pub mod Uniting

@@ -1,0 +1,15 @@
+pub mod AllDocuments
+pub mod AllDocumentsFacts
+pub mod Combine
+pub mod CombineFacts
+pub mod Combiners
+pub mod HeldSum
+pub mod HeldSumFacts
+pub mod Union
+pub mod OptionalFacts
+pub mod Rescored
+pub mod RescoredFacts
+pub mod Without
+pub mod WithoutFacts
+pub mod Disjunction
+pub mod SharedSeek

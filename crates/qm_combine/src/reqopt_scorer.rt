@@ -1,0 +1,172 @@
+//! A cursor over required documents whose scores an optional cursor adds to.
+
+ghost use Rattle.std.specs.Prelude.{◌≡◌, ℕ, ◌+◌, ◌≤◌, ◌<◌, ◌↔◌, fold, max, IfOk, IsErrOf, IsOkUnless};
+ghost use Rattle.qm_docset.specs.Entry.{from, greatest_score, head_document};
+ghost use Rattle.qm_combine.specs.Combine.{combine};
+ghost use Rattle.qm_combine.specs.CombineFacts.{combine-bounded};
+ghost use Rattle.qm_combine.specs.Rescored.{limited, scores_of, with_optional};
+ghost use Rattle.qm_combine.specs.OptionalFacts.{AreEntries-with_optional};
+
+use crate::score_combiner::ScoreCombiner;
+use crate::scoring::Scorer;
+use qm_docset::{
+    AliveBitSet, COLLECT_BLOCK_BUFFER_LEN, DocId, DocSet, Score, SeekDangerResult, TERMINATED,
+};
+use qm_schema::QueryError;
+
+/// The documents of a required scorer, each with its score combined with that of an optional scorer
+/// where that one has the document too.
+///
+/// Every call costs what that of the required scorer does. The optional scorer moves only when a
+/// score is asked for: at most one seek for each, and no step.
+#[derive(Drop)]
+pub struct RequiredOptionalScorer<R, O, C> {
+    required: R,
+    optional: O,
+    combiner: C,
+}
+
+impl<R: Scorer, O: Scorer, C: ScoreCombiner> RequiredOptionalScorer<R, O, C> {
+    /// A scorer over the remaining documents of the required scorer. Its scores are those of a
+    /// default combiner that was cleared. Asks that the optional scorer is placed, and is placed
+    /// where the required one is.
+    ///
+    /// Refuses with [`QueryError::ScoreBound`], and nothing else, exactly where the `max_score` of
+    /// the two add up to more than 9223372036854775807. Takes no memory.
+    pub fn new(required: R, optional: O) -> Result<RequiredOptionalScorer<R, O, C>, QueryError>
+        requires required { R.valid required }
+        requires optional { O.valid optional }
+        requires placed { O.placed optional }
+        ensures refused { IsErrOf result QueryError.ScoreBound ↔ (greatest_score < (R.limits required).top + (O.limits optional).top) }
+        ensures only { IsOkUnless result QueryError.ScoreBound }
+        ensures entries { IfOk result (λ s. (start : C) × C.is_default start
+            × (⟦<RequiredOptionalScorer<R, O, C> as DocSet>⟧.entries s
+            ≡ with_optional (combine C.step C.value (C.cleared start)) (R.entries required) (O.entries optional))) }
+        ensures limits { IfOk result (λ s. ⟦<RequiredOptionalScorer<R, O, C> as DocSet>⟧.limits s
+            ≡ limited (max 1 ((R.limits required).top + (O.limits optional).top)) (R.limits required)) }
+        ensures valid { IfOk result (λ s. ⟦<RequiredOptionalScorer<R, O, C> as DocSet>⟧.valid s) }
+        ensures positioned { R.placed required → IfOk result (λ s. ⟦<RequiredOptionalScorer<R, O, C> as DocSet>⟧.placed s) }
+    {
+        if required
+            .max_score()
+            .checked_add(optional.max_score())
+            .is_none()
+        {
+            return Err(QueryError::ScoreBound);
+        }
+        let mut combiner = C::default();
+        combiner.clear();
+        Ok(RequiredOptionalScorer {
+            required,
+            optional,
+            combiner,
+        })
+    }
+}
+
+// what `seek` does, without the call where the cursor is there already
+fn reach<D: DocSet>(docset: &mut D, target: DocId) -> DocId
+    requires valid { D.valid docset.old }
+    requires placed { D.placed docset.old }
+    requires target { target ≤ TERMINATED }
+    ensures head { result ≡ head_document (D.entries docset.new) }
+    ensures entries { D.entries docset.new ≡ from target (D.entries docset.old) }
+    ensures limits { D.limits docset.new ≡ D.limits docset.old }
+    ensures valid { D.valid docset.new }
+    ensures placed { D.placed docset.new }
+{
+    let doc = docset.doc();
+    if doc < target {
+        docset.seek(target)
+    } else {
+        doc
+    }
+}
+
+// Moves the optional scorer to a document, unless it is there or past it, and takes its score where
+// it has the document.
+fn add_optional<O: Scorer, C: ScoreCombiner>(combiner: &mut C, optional: &mut O, doc: DocId)
+    requires valid { O.valid optional.old }
+    requires placed { O.placed optional.old }
+    requires document { doc < TERMINATED }
+    requires room { C.has_room combiner.old (O.limits optional.old).top }
+    ensures state { combiner.new ≡ fold C.step combiner.old (scores_of doc (O.entries optional.old)) }
+    ensures entries { O.entries optional.new ≡ from doc (O.entries optional.old) }
+    ensures limits { O.limits optional.new ≡ O.limits optional.old }
+    ensures valid { O.valid optional.new }
+    ensures placed { O.placed optional.new }
+{
+    if reach(optional, doc) == doc {
+        combiner.update(optional);
+    }
+}
+
+#[tactic(auto, using(crate::specs::RescoredFacts::rescoring))]
+impl<R: Scorer, O: Scorer, C: ScoreCombiner> DocSet for RequiredOptionalScorer<R, O, C> {
+    ghost entries = { λ s. with_optional (combine C.step C.value s.combiner) (R.entries s.required) (O.entries s.optional) };
+
+    ghost limits = { λ s. limited (max 1 ((R.limits s.required).top + (O.limits s.optional).top)) (R.limits s.required) };
+
+    ghost placed = { λ s. R.placed s.required };
+
+    // the combiner is one that was cleared, and has room for the scores of both
+    ghost valid = { λ s. R.valid s.required × O.valid s.optional × O.placed s.optional
+        × ((R.limits s.required).top + (O.limits s.optional).top ≤ greatest_score)
+        × ((start : C) × (s.combiner ≡ C.cleared start)) };
+
+    fn doc(&self) -> DocId {
+        self.required.doc()
+    }
+
+    fn advance(&mut self) -> DocId {
+        self.required.advance()
+    }
+
+    fn seek(&mut self, target: DocId) -> DocId {
+        self.required.seek(target)
+    }
+
+    fn seek_danger(&mut self, target: DocId) -> SeekDangerResult {
+        self.required.seek_danger(target)
+    }
+
+    fn fill_buffer(&mut self, buffer: &mut [DocId; COLLECT_BLOCK_BUFFER_LEN]) -> usize {
+        self.required.fill_buffer(buffer)
+    }
+
+    fn size_hint(&self) -> u32 {
+        self.required.size_hint()
+    }
+
+    fn cost(&self) -> u64 {
+        self.required.cost()
+    }
+
+    fn count(&mut self, alive: &AliveBitSet) -> u32 {
+        self.required.count(alive)
+    }
+
+    fn count_including_deleted(&mut self) -> u32 {
+        self.required.count_including_deleted()
+    }
+
+    ghost ascending = { λ s h. AreEntries-with_optional (combine C.step C.value s.combiner) (max 1 ((R.limits s.required).top + (O.limits s.optional).top))
+        (R.limits s.required) (O.limits s.optional) (R.entries s.required) (O.entries s.optional)
+        (λ scores within. combine-bounded C.step C.cleared C.value C.bounded s.combiner h.4.0 h.4.1 scores ((R.limits s.required).top + (O.limits s.optional).top) within h.3)
+        (R.ascending s.required h.0) (O.ascending s.optional h.1) };
+}
+
+#[tactic(auto, using(crate::specs::RescoredFacts::rescoring))]
+impl<R: Scorer, O: Scorer, C: ScoreCombiner> Scorer for RequiredOptionalScorer<R, O, C> {
+    fn score(&mut self) -> Score {
+        let doc = self.required.doc();
+        let mut combiner = self.combiner;
+        combiner.update(&mut self.required);
+        add_optional(&mut combiner, &mut self.optional, doc);
+        combiner.score()
+    }
+
+    fn max_score(&self) -> Score {
+        (self.required.max_score() + self.optional.max_score()).max(1)
+    }
+}

@@ -1,0 +1,3 @@
+pub mod Option
+pub mod Schema
+pub mod Term
