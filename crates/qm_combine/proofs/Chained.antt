@@ -1,28 +1,25 @@
 -- Members in a heap by their documents: its first is the member of the least document, and what is
 -- gathered from the members as the first of them moves.
-use Rattle.std.proofs.Common.{◌≡◌, ℕ, zero, suc, ◌+◌, ◌<◌, ◌≤◌, ◌≢◌, Bool, true, false, cond, nat_eq, List, [], ◌∷◌, ◌++◌, length, map, get_or, drop, fold, max, sum, sum_by, refl, ap, sym, subst, ◌∙◌, arith, inl, inr}
-use Rattle.std.specs.List.{All, AllByRecursion}
+use Rattle.std.proofs.Common.{◌≡◌, ℕ, ◌+◌, ◌<◌, ◌≤◌, ◌≢◌, Bool, true, false, cond, nat_eq, List, [], ◌∷◌, ◌++◌, length, map, drop, max, sum, sum_by, refl, ap, sym, subst, ◌∙◌, arith, inl, inr}
+use Rattle.std.specs.List.{All}
 use Rattle.std.specs.List.Sorted.{IsPermutation}
 use Rattle.std.specs.BinaryHeap.{IsUpperBound}
 use Rattle.std.specs.Ordering.{is_lt, nat_cmp}
-use Rattle.std.specs.declared.cmp.Ordering.{Ordering}
 use Rattle.std.specs.declared.cmp.Ordering.TheVariants.{Less}
-use Rattle.std.proofs.lemmas.Bool.{cases_lt, cases_eq, eq-eqb, ne_eqb, lt-ltb}
-use Rattle.std.proofs.lemmas.Bool.Decides.{nat_tests}
-use Rattle.std.proofs.lemmas.List.{length-map}
-use Rattle.std.proofs.lemmas.List.Elements.{All-cons, All-head, All-map, All-tail, All-weaker}
-use Rattle.std.proofs.lemmas.List.Sorted.{IsPermutation-refl, IsPermutation-trans, IsPermutation-cons, IsPermutation-map, All-permutation, sum_by-IsPermutation, length_permutation}
-use Rattle.std.proofs.lemmas.List.Sums.{fold-append, sum_by-append, sum_by-cons}
+use Rattle.std.proofs.lemmas.Bool.{cases_lt, eq-eqb, ne_eqb, lt-ltb}
+use Rattle.std.proofs.lemmas.List.Elements.{All-cons, All-head, All-tail, All-weaker}
+use Rattle.std.proofs.lemmas.List.Sorted.{IsPermutation-trans, IsPermutation-cons, IsPermutation-map, All-permutation, sum_by-IsPermutation}
+use Rattle.std.proofs.lemmas.List.Sums.{sum_by-append, sum_by-cons}
 use Rattle.qm_docset.specs.Entry.{Entry, Limits, AreEntries, from, greatest_score, head_document, head_score}
-use Rattle.qm_docset.specs.EntryFacts.{from-drop, from-from, from-nil, from-skip, from-keep, from-reached, from-next, head_document-bounds, AreEntries-drop, AreEntries-from_low}
+use Rattle.qm_docset.specs.EntryFacts.{from-drop, from-nil, from-skip, from-keep, from-reached, head_document-bounds}
 use Rattle.qm_docset.specs.Gather.{scored, entries_of, scores_at, gather, IsBare, AreMembers}
-use Rattle.qm_docset.specs.GatherFacts.{scores_at-cons, scores_at-nil, entries_of-before, entries_of-nil, length-scores_at, sum-scores_at, AreMembers-map}
+use Rattle.qm_docset.specs.GatherFacts.{scores_at-cons, entries_of-before, entries_of-nil, length-scores_at, AreMembers-map}
 use Rattle.qm_docset.specs.declared.doc_set.TheConstants.{TERMINATED}
-use Rattle.qm_docset.proofs.Gathering.{gather-bare, gather-first, gather-from, gather-none, gather-permutation, scores_at-from_past, scores_at-permutation}
+use Rattle.qm_docset.proofs.Gathering.{gather-bare, gather-first, gather-from, gather-none, gather-permutation, scores_at-permutation}
 use Rattle.qm_combine.proofs.Uniting.{score_of-here, scores_at-ahead}
 use Rattle.qm_combine.specs.CombineFacts.{combine-permutation}
 use Rattle.qm_combine.specs.Combine.{combine}
-use Rattle.qm_combine.specs.Disjunction.{HasRoomFor, least_first, led_by, led_by-here, led_by-ended, tops_at}
+use Rattle.qm_combine.specs.Disjunction.{least_first, led_by, led_by-here, led_by-ended, tops_at}
 use Rattle.qm_combine.specs.Union.{least_head, total_top, united_limits}
 use Rattle.qm_combine.specs.declared.disjunction.scorer_wrapper.ScorerWrapper.{ScorerWrapper}
 

@@ -1,7 +1,7 @@
 -- Facts on every document from a number on.
 use Rattle.std.specs.Prelude.{◌≡◌, ℕ, ◌+◌, ◌-◌, ◌<◌, ◌≤◌, List, [], ◌∷◌, length, map, take, drop, min, max}
 use Rattle.std.specs.List.{range_with_len}
-use Rattle.std.proofs.Common.{zero, suc, arith, refl, ap, ◌∙◌, inl, inr}
+use Rattle.std.proofs.Common.{zero, suc, arith, ap, ◌∙◌, inl, inr}
 use Rattle.std.proofs.lemmas.Bool.{cases_lt}
 use Rattle.std.proofs.lemmas.List.FromFn.{length-map-range_with_len}
 use Rattle.qm_docset.specs.Entry.{Entry, AreEntries, documents, from, head_document, head_score}

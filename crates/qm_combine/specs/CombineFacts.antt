@@ -1,6 +1,6 @@
 -- Facts on what combiners answer: the order of the scores is of no consequence.
 use Rattle.std.specs.Prelude.{◌≡◌, ℕ, ◌+◌, ◌-◌, ◌*◌, ◌/◌, ◌%◌, ◌<◌, ◌≤◌, List, [], ◌∷◌, length, max}
-use Rattle.std.specs.List.{fold, sum, sum_by, swap}
+use Rattle.std.specs.List.{fold, sum}
 use Rattle.std.specs.List.Sorted.{IsPermutation}
 use Rattle.std.proofs.Common.{zero, suc, get_or, set, arith, refl, sym, ap, ◌∙◌}
 use Rattle.std.proofs.lemmas.List.Sorted.{IsPermutation-keeps}

@@ -13,3 +13,4 @@ pub mod Without
 pub mod WithoutFacts
 pub mod Disjunction
 pub mod SharedSeek
+pub mod Given

@@ -1,6 +1,7 @@
 -- Cursors that give the documents of another cursor scores of their own.
-use Rattle.std.specs.Prelude.{ℕ, List, [], ◌∷◌, map, filter, nat_eq}
+use Rattle.std.specs.Prelude.{ℕ, List, [], ◌∷◌, map}
 use Rattle.qm_docset.specs.Entry.{Entry, Limits, head_document, head_frequency, head_positions, head_score}
+use Rattle.qm_docset.specs.Gather.{scores_at}
 
 -- the same entries, each with the score that is given to it
 unfoldable pub rescored : (Entry → ℕ) → List Entry → List Entry
@@ -14,11 +15,7 @@ head_entry es = record { document = head_document es; score = head_score es; fre
 abbrev pub limited : ℕ → Limits → Limits
 limited top limits = record limits { top = top }
 
--- the scores that a list has for a document: one where it has the document, else none
-unfoldable pub scores_of : ℕ → List Entry → List ℕ
-scores_of document es = map (λ e. e.score) (filter (λ e. nat_eq e.document document) es)
-
 -- The required entries, each with what `combined` makes of its own score and of the score, if there
 -- is one, that the optional list has for its document.
 abbrev pub with_optional : (List ℕ → ℕ) → List Entry → List Entry → List Entry
-with_optional combined required optional = rescored (λ e. combined (e.score ∷ scores_of e.document optional)) required
+with_optional combined required optional = rescored (λ e. combined (e.score ∷ scores_at e.document (optional ∷ []))) required

@@ -2,7 +2,7 @@
 use Rattle.std.specs.Prelude.{◌≡◌, ℕ, ◌≤◌, List, [], ◌∷◌, All, map, max, min, sum}
 use Rattle.std.specs.List.{fold, sum_by}
 use Rattle.qm_docset.specs.Entry.{Entry, Limits, AreEntries, greatest_score, head_document}
-use Rattle.qm_docset.specs.Gather.{gather, AreMembers}
+use Rattle.qm_docset.specs.Gather.{gather}
 use Rattle.qm_docset.specs.GatherFacts.{AreEntries-gather, AreMembers-map, IsWithin-tops}
 use Rattle.qm_docset.specs.declared.doc_set.TheConstants.{TERMINATED}
 use Rattle.qm_schema.specs.declared.error.QueryError.{QueryError}

@@ -8,10 +8,11 @@ ghost use Rattle.qm_combine.specs.Union.{IsBoundOrMemory, total_top, united_limi
 
 mod members;
 
+use crate::bounds::sum_of_bounds;
 use crate::do_nothing_combiner::DoNothingCombiner;
 use crate::score_combiner::ScoreCombiner;
 use crate::scoring::Scorer;
-use members::{combine_at, least_document, seek_all, sum_of_bounds};
+use members::{combine_at, least_document, seek_all};
 use qm_docset::{DocId, DocSet, Score, TERMINATED};
 use qm_schema::QueryError;
 use std::alloc::Global;
@@ -19,7 +20,9 @@ use std::alloc::Global;
 /// The documents that any of its members has, each with what a combiner makes of the members'
 /// scores there.
 ///
-/// A step, a seek and a score look at every member.
+/// For now it is a plain scan: a step, a seek, a score and a hint each look at every member, and
+/// nothing is kept between calls but the document. A buffered window can take the place of the body
+/// under the same contract.
 #[derive(Drop)]
 pub struct BufferedUnionScorer<S, C = DoNothingCombiner> {
     members: Vec<S>,
@@ -34,8 +37,9 @@ impl<S: Scorer, C: ScoreCombiner> BufferedUnionScorer<S, C> {
     /// only the size hint depends on. The combiner is cleared first. No member is moved.
     ///
     /// Refuses with [`QueryError::ScoreBound`] exactly where the members' `max_score` add up to more
-    /// than 9223372036854775807, and with [`QueryError::Memory`] where there is no room for what
-    /// later calls fill. No later call takes memory.
+    /// than 9223372036854775807, and otherwise with [`QueryError::Memory`] alone, where there is no
+    /// room for what the union keeps beside its members: nothing for now, so that no memory is
+    /// taken. No later call takes memory.
     pub fn build(
         _alloc: Global,
         docsets: Vec<S>,

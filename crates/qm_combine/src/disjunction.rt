@@ -1,24 +1,29 @@
 //! The documents that enough of several scorers have.
 
-ghost use Rattle.std.specs.Prelude.{◌≡◌, ℕ, ◌+◌, ◌<◌, ◌≤◌, ◌↔◌, ⊤, All, IfErr, IfOk, IsErrOf, map, max, nat_abs, pos, vec_len};
+ghost use Rattle.std.specs.Prelude.{◌≡◌, ℕ, ◌+◌, ◌<◌, ◌≤◌, ◌↔◌, ⊤, All, List, IfErr, IfOk, IsErrOf, map, max, nat_abs, pos};
 ghost use Rattle.std.specs.BinaryHeap.{IsHeap, heap_items};
+ghost use Rattle.std.specs.Iterator.{IsFiniteIterable};
 ghost use Rattle.qm_docset.specs.Entry.{Entry, Limits, AreEntries, greatest_score, head_document};
 ghost use Rattle.qm_docset.specs.Gather.{gather};
 ghost use Rattle.qm_combine.specs.Combine.{combine};
-ghost use Rattle.qm_combine.specs.Disjunction.{least_first, led_by};
-ghost use Rattle.qm_combine.specs.Union.{total_top, united_limits};
+ghost use Rattle.qm_combine.specs.Disjunction.{AreStanding, least_first, led_by};
+ghost use Rattle.qm_combine.specs.Given.{Gives, GivesOnly};
+ghost use Rattle.qm_combine.specs.Union.{IsBoundOrMemory, total_top, united_limits};
 
 mod chain;
 mod next_match;
+mod row;
 mod scorer_wrapper;
 
+use crate::bounds::sum_of_bounds;
 use crate::do_nothing_combiner::DoNothingCombiner;
 use crate::score_combiner::ScoreCombiner;
 use crate::scoring::Scorer;
-use chain::{chained, seek_behind, sum_of_bounds};
+use chain::{chained, seek_behind};
 use next_match::next_match;
 use qm_docset::{DocId, DocSet, Score, TERMINATED};
 use qm_schema::QueryError;
+use row::row_of;
 use scorer_wrapper::ScorerWrapper;
 use std::alloc::Global;
 use std::collections::BinaryHeap;
@@ -42,35 +47,60 @@ pub struct Disjunction<S, C = DoNothingCombiner> {
 
 impl<S: Scorer, C: ScoreCombiner> Disjunction<S, C> {
     /// The documents that at least `minimum` of the scorers have, from where they stand on: none
-    /// where they are fewer. The combiner is cleared first. Asks for a minimum of 2 or more, which
-    /// may be `usize::MAX`.
+    /// where they are fewer. Takes whatever can be gone through and ends. The combiner is cleared
+    /// first. Asks for a minimum of 2 or more, which may be `usize::MAX`.
     ///
-    /// Refuses with [`QueryError::ScoreBound`] exactly where the members' `max_score` add up to more
-    /// than 9223372036854775807, and else with [`QueryError::Memory`] where there is no room for the
-    /// heap of the members. No later call takes memory. The members go on up to the first document
-    /// that enough of them have, and those that have it one document further.
-    pub fn new(
+    /// Refuses with [`QueryError::ScoreBound`] where the members' `max_score` add up to more than
+    /// 9223372036854775807, and with [`QueryError::Memory`] where there is no room for a row of the
+    /// members or for their heap; where both hold, with either. No later call takes memory. The
+    /// members go on up to the first document that enough of them have, and those that have it one
+    /// document further.
+    pub fn new<I: IntoIterator<Item = S>>(
         alloc: Global,
-        docsets: Vec<S>,
+        docsets: I,
         combiner: C,
         minimum: usize,
     ) -> Result<Disjunction<S, C>, QueryError>
         requires minimum { 2 ≤ minimum }
-        requires valid { All S.valid docsets.items }
-        requires placed { All S.placed docsets.items }
-        ensures refused { IsErrOf result QueryError.ScoreBound ↔ (greatest_score < total_top (map S.limits docsets.items)) }
-        ensures memory { total_top (map S.limits docsets.items) ≤ greatest_score → IfErr result (λ e. e ≡ QueryError.Memory) }
-        ensures entries { IfOk result (λ s. ⟦<Disjunction<S, C> as DocSet>⟧.entries s ≡ gather minimum (combine C.step C.value (C.cleared combiner)) (map S.entries docsets.items)) }
-        ensures limits { IfOk result (λ s. ⟦<Disjunction<S, C> as DocSet>⟧.limits s ≡ united_limits (map S.limits docsets.items)) }
+        requires ends { IsFiniteIterable I.into_iter_gives I.IntoIter.can_next I.IntoIter.remaining docsets }
+        requires valid { GivesOnly I.into_iter_gives I.IntoIter.next_gives S.valid docsets }
+        requires placed { GivesOnly I.into_iter_gives I.IntoIter.next_gives S.placed docsets }
+        ensures refused { IsErrOf result QueryError.ScoreBound → (members : List S) × Gives I.into_iter_gives I.IntoIter.next_gives docsets members × (greatest_score < total_top (map S.limits members)) }
+        ensures only { IfErr result IsBoundOrMemory }
+        ensures made { IfOk result (λ s. (members : List S) × Gives I.into_iter_gives I.IntoIter.next_gives docsets members × (total_top (map S.limits members) ≤ greatest_score)
+            × (⟦<Disjunction<S, C> as DocSet>⟧.entries s ≡ gather minimum (combine C.step C.value (C.cleared combiner)) (map S.entries members))
+            × (⟦<Disjunction<S, C> as DocSet>⟧.limits s ≡ united_limits (map S.limits members))) }
         ensures valid { IfOk result (λ s. ⟦<Disjunction<S, C> as DocSet>⟧.valid s) }
         ensures placed { IfOk result (λ s. ⟦<Disjunction<S, C> as DocSet>⟧.placed s) }
     {
-        let Some(sum) = sum_of_bounds(&docsets) else {
+        let members = row_of(alloc, docsets)?;
+        Disjunction::of(alloc, members, combiner, minimum)
+    }
+
+    /// The same of members that stand in a row.
+    fn of(
+        alloc: Global,
+        members: Vec<S>,
+        combiner: C,
+        minimum: usize,
+    ) -> Result<Disjunction<S, C>, QueryError>
+        requires minimum { 2 ≤ minimum }
+        requires valid { All S.valid members.items }
+        requires placed { All S.placed members.items }
+        ensures refused { IsErrOf result QueryError.ScoreBound ↔ (greatest_score < total_top (map S.limits members.items)) }
+        ensures only { IfErr result IsBoundOrMemory }
+        ensures fits { IfOk result (λ _. total_top (map S.limits members.items) ≤ greatest_score) }
+        ensures entries { IfOk result (λ s. ⟦<Disjunction<S, C> as DocSet>⟧.entries s ≡ gather minimum (combine C.step C.value (C.cleared combiner)) (map S.entries members.items)) }
+        ensures limits { IfOk result (λ s. ⟦<Disjunction<S, C> as DocSet>⟧.limits s ≡ united_limits (map S.limits members.items)) }
+        ensures valid { IfOk result (λ s. ⟦<Disjunction<S, C> as DocSet>⟧.valid s) }
+        ensures placed { IfOk result (λ s. ⟦<Disjunction<S, C> as DocSet>⟧.placed s) }
+    {
+        let Some(sum) = sum_of_bounds(&members) else {
             return Err(QueryError::ScoreBound);
         };
         let mut combiner = combiner;
         combiner.clear();
-        let chain = chained(alloc, docsets)?;
+        let chain = chained(alloc, members)?;
         let mut disjunction = Disjunction {
             chain,
             combiner,
@@ -88,7 +118,7 @@ impl<S: Scorer, C: ScoreCombiner> Disjunction<S, C> {
     /// Goes to the first document that enough of the members have from where they stand on.
     fn go_on(&mut self) -> DocId
         requires heap { IsHeap (least_first (λ w. w.doc)) (heap_items self.old.chain) }
-        requires standing { All (λ w. S.valid w.scorer × S.placed w.scorer × (w.doc ≡ head_document (S.entries w.scorer))) (heap_items self.old.chain) }
+        requires standing { AreStanding S.valid S.placed S.entries (heap_items self.old.chain) }
         requires room { total_top (map (λ w. S.limits w.scorer) (heap_items self.old.chain)) ≤ greatest_score }
         requires bound { self.old.max_score ≡ pos (max 1 (total_top (map (λ w. S.limits w.scorer) (heap_items self.old.chain)))) }
         requires cleared { (start : C) × (self.old.combiner ≡ C.cleared start) }
@@ -117,7 +147,7 @@ impl<S: Scorer, C: ScoreCombiner> DocSet for Disjunction<S, C> {
     // the members are a heap of placed scorers beside their documents, and the combiner was cleared
     // and has room for all their scores
     ghost valid = { λ s. IsHeap (least_first (λ w. w.doc)) (heap_items s.chain)
-        × All (λ w. S.valid w.scorer × S.placed w.scorer × (w.doc ≡ head_document (S.entries w.scorer))) (heap_items s.chain)
+        × AreStanding S.valid S.placed S.entries (heap_items s.chain)
         × (total_top (map (λ w. S.limits w.scorer) (heap_items s.chain)) ≤ greatest_score)
         × (s.max_score ≡ pos (max 1 (total_top (map (λ w. S.limits w.scorer) (heap_items s.chain)))))
         × ((start : C) × (s.combiner ≡ C.cleared start))

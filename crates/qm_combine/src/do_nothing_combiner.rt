@@ -12,7 +12,7 @@ use qm_docset::Score;
 pub struct DoNothingCombiner;
 
 impl ScoreCombiner for DoNothingCombiner {
-    ghost use Rattle.qm_combine.specs.Combiners.{nothing_step, nothing_value};
+    ghost use Rattle.qm_combine.specs.Combiners.{nothing_step, nothing_value, combine_nothing_lem};
 
     ghost step = { nothing_step };
 
@@ -34,7 +34,7 @@ impl ScoreCombiner for DoNothingCombiner {
 
     ghost clears = { λ c x. refl };
 
-    ghost bounded = { λ c xs h. Prim.omega arith };
+    ghost bounded = { λ c xs h. Prim.omega (arith, combine_nothing_lem c xs) };
 
     ghost room = { λ c xs x h. tt };
 }

@@ -4,6 +4,7 @@
 
 mod all_scorer;
 mod boost_scorer;
+mod bounds;
 mod buffered_union;
 mod const_scorer;
 mod disjunction;

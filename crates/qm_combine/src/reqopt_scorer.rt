@@ -1,10 +1,11 @@
 //! A cursor over required documents whose scores an optional cursor adds to.
 
-ghost use Rattle.std.specs.Prelude.{◌≡◌, ℕ, ◌+◌, ◌≤◌, ◌<◌, ◌↔◌, fold, max, IfOk, IsErrOf, IsOkUnless};
+ghost use Rattle.std.specs.Prelude.{◌≡◌, ℕ, ◌+◌, ◌≤◌, ◌<◌, ◌↔◌, ◌∷◌, [], fold, max, IfOk, IsErrOf, IsOkUnless};
 ghost use Rattle.qm_docset.specs.Entry.{from, greatest_score, head_document};
+ghost use Rattle.qm_docset.specs.Gather.{scores_at};
 ghost use Rattle.qm_combine.specs.Combine.{combine};
 ghost use Rattle.qm_combine.specs.CombineFacts.{combine-bounded};
-ghost use Rattle.qm_combine.specs.Rescored.{limited, scores_of, with_optional};
+ghost use Rattle.qm_combine.specs.Rescored.{limited, with_optional};
 ghost use Rattle.qm_combine.specs.OptionalFacts.{AreEntries-with_optional};
 
 use crate::score_combiner::ScoreCombiner;
@@ -90,7 +91,7 @@ fn add_optional<O: Scorer, C: ScoreCombiner>(combiner: &mut C, optional: &mut O,
     requires placed { O.placed optional.old }
     requires document { doc < TERMINATED }
     requires room { C.has_room combiner.old (O.limits optional.old).top }
-    ensures state { combiner.new ≡ fold C.step combiner.old (scores_of doc (O.entries optional.old)) }
+    ensures state { combiner.new ≡ fold C.step combiner.old (scores_at doc (O.entries optional.old ∷ [])) }
     ensures entries { O.entries optional.new ≡ from doc (O.entries optional.old) }
     ensures limits { O.limits optional.new ≡ O.limits optional.old }
     ensures valid { O.valid optional.new }

@@ -1,5 +1,5 @@
 -- What holds between a list and each list with the same elements in another order.
-use Rattle.std.proofs.Common.{◌≡◌, ℕ, zero, suc, ◌<◌, List, [], ◌∷◌, length, get_or, set, swap, fold, refl, ap, ◌∙◌, arith}
+use Rattle.std.proofs.Common.{ℕ, zero, suc, ◌<◌, List, [], ◌∷◌, length, get_or, set, swap, arith}
 use Rattle.std.specs.List.Sorted.{IsPermutation}
 use Rattle.std.proofs.lemmas.List.Sorted.{IsPermutation-keeps}
 
@@ -30,12 +30,3 @@ module _ {X : Type 0} (R : List X → List X → Type 0)
 
   pub IsPermutation-along : (xs ys : List X) → IsPermutation xs ys → R xs ys
   IsPermutation-along xs = IsPermutation-keeps xs (R xs) (same xs) (λ l i j h k before. joined xs l _ before (swapped l i j h k))
-
--- a fold whose steps commute gives the same in every order
-pub fold-IsPermutation : {S X : Type 0} (step : S → X → S) → ((s : S) (x y : X) → step (step s x) y ≡ step (step s y) x) → (xs ys : List X) → IsPermutation xs ys → (s : S) → fold step s xs ≡ fold step s ys
-fold-IsPermutation {S} {X} step commutes =
-    IsPermutation-along (λ (xs ys : List X). (s : S) → fold step s xs ≡ fold step s ys)
-    (λ xs s. refl)
-    (λ x xs ys h s. h (step s x))
-    (λ x y xs s. ap (λ t. fold step t xs) (commutes s x y))
-    (λ xs ys zs h k s. h s ∙ k s)

@@ -5,10 +5,10 @@ ghost use Rattle.qm_docset.specs.Exclusion.{has_document, some_has_document};
 
 use crate::doc_set::{DocId, DocSet, SeekDangerResult, TERMINATED};
 
-/// A set of documents that is asked for documents in ascending order.
+/// A set of documents that are left out, which may be asked for documents in any order.
 ///
 /// An answer may drop members below the document that was asked for, so that a cursor may stand
-/// behind it.
+/// behind it: such a member, asked for later, may no longer be there.
 pub trait ExclusionSet: Drop {
     // whether a document is in what remains of the set
     ghost excludes: { Self → ℕ → Bool };

@@ -1,6 +1,6 @@
 //! The fields that the documents of a segment may have.
 
-ghost use Rattle.std.specs.Prelude.{◌≡◌, ◌<◌, [], slice_get, IfSome, IfOk, IsOkUnless};
+ghost use Rattle.std.specs.Prelude.{◌≡◌, ◌<◌, ◌≤◌, [], length, slice_get, IfSome, IfOk, IsOkUnless};
 ghost use Rattle.std.specs.Option.{option_copied};
 ghost use Rattle.qm_schema.specs.Schema.{field_named};
 
@@ -70,11 +70,13 @@ impl Schema {
         self.entries.get(field.field_id() as usize)
     }
 
-    /// The same schema again, in memory of its own from `alloc`; costs a copy of each name.
+    /// The same schema again, in memory of its own from `alloc`; costs a copy of each name. Like every
+    /// schema it has at most 4294967295 fields.
     ///
     /// Refused with [`QueryError::Memory`] alone.
     pub fn clone(&self, alloc: Global) -> Result<Schema, QueryError>
         ensures ok { IfOk result (λ schema. schema ≡ self.now) }
+        ensures few { IfOk result (λ schema. length schema ≤ u32.MAX) }
         ensures refused { IsOkUnless result QueryError.Memory }
     {
         let mut entries = Vec::with_capacity(alloc, self.entries.len())?;

@@ -1,24 +1,21 @@
--- What ascending lists have in common: the documents that each of them has.
-use Rattle.std.proofs.Common.{All, ◌≡◌, ℕ, ◌+◌, ◌-◌, ◌<◌, ◌≤◌, Bool, true, false, cond, List, [], ◌∷◌, ◌++◌, length, map, filter, refl, ap, sym, ◌∙◌, arith, suc, zero, inl, inr, nat_le, ◌==◌, ◌||◌, ◌&&◌, length-append, zero-add}
+-- What the cursors of some words have in common: the documents that hold all of the words.
+use Rattle.std.proofs.Common.{◌≡◌, ℕ, ◌+◌, ◌-◌, ◌<◌, ◌≤◌, Bool, true, false, cond, List, [], ◌∷◌, length, map, filter, refl, ap, sym, ◌∙◌, arith, suc, zero, inl, inr, nat_le, ◌==◌, ◌||◌, ◌&&◌, length-append, zero-add, String, string_bytes}
+use Rattle.std.specs.Global.{Global}
 use Rattle.std.specs.List.{list_any, list_all, range_with_len}
 use Rattle.std.proofs.lemmas.Bool.{cases_eq, eq-eqb, ne_eqb}
 use Rattle.std.proofs.lemmas.Bool.Decides.{nat_tests}
 use Rattle.std.proofs.lemmas.List.Folds.{list_all-map}
-use Rattle.qm_docset.specs.Entry.{Entry, Limits, AreEntries, documents, no_limits}
-use Rattle.qm_docset.specs.Documents.{AreEntries-documents}
+use Rattle.qm_docset.specs.Entry.{Entry, Limits, AreEntries, documents}
 use Rattle.qm_docset.specs.Gather.{scored, entries_of, scores_at, documents_below, gathered, gather, common_entries, AreMembers}
-use Rattle.qm_docset.specs.GatherFacts.{AreMembers-map, entries_of-nil, entries_of-here, entries_of-other, entries_of-before, scores_at-nil, scores_at-cons, length-scores_at}
-use Rattle.qm_docset.specs.VecDocSet.{remaining, IsCursor}
-use Rattle.qm_docset.specs.declared.vec_docset.VecDocSet.{VecDocSet}
+use Rattle.qm_docset.specs.GatherFacts.{entries_of-nil, entries_of-here, entries_of-other, entries_of-before, scores_at-nil, scores_at-cons, length-scores_at}
 use Rattle.qm_docset.specs.declared.doc_set.TheConstants.{TERMINATED}
+use Rattle.qm_postings.specs.Segment.{Segment, holders}
+use Rattle.qm_search.specs.Trees.{common_holders, holds_word, word_term}
+use Rattle.qm_search.proofs.Holders.{filter-range-same, list_any-map, list_any-after, list_any-within}
 
 -- whether document d is among these entries
 abbrev pub has : ℕ → List Entry → Bool
 has d entries = list_any (λ e. e.document == d) entries
-
--- whether document d remains in every member
-abbrev pub is_common : List VecDocSet → ℕ → Bool
-is_common members d = list_all (λ m. has d (remaining m)) members
 
 -- what an ascending list says of a document: one score where it has it, else none
 length-entries_of : (d low : ℕ) (limits : Limits) (es : List Entry) → AreEntries low limits es → length (map (λ e. e.score) (entries_of d es)) ≡ cond (has d es) 1 0
@@ -59,10 +56,6 @@ filter-same : (p q : ℕ → Bool) (ds : List ℕ) → ((d : ℕ) → p d ≡ q 
 filter-same p q [] same = refl
 filter-same p q (d ∷ ds) same = ap (λ b. cond b (d ∷ filter p ds) (filter p ds)) (same d) ∙ ap (λ r. cond (q d) (d ∷ r) r) (filter-same p q ds same)
 
-pub documents-common_entries : (combined : List ℕ → ℕ) (bounds : List Limits) (ess : List (List Entry)) → AreMembers bounds ess → documents (common_entries combined ess) ≡ filter (λ d. list_all (has d) ess) (range_with_len 0 TERMINATED)
-documents-common_entries combined bounds ess a =
-    documents-gather (length ess) combined ess ∙ filter-same (λ d. nat_le (length ess) (length (scores_at d ess))) (λ d. list_all (has d) ess) (range_with_len 0 TERMINATED) (λ d. in_all d bounds ess a)
-
 -- where no number from a bound on passes, only those below it are left
 filter-none_from : (p : ℕ → Bool) (a n : ℕ) → ((d : ℕ) → a ≤ d → p d ≡ false) → filter p (range_with_len a n) ≡ []
 filter-none_from p a zero none = refl
@@ -79,11 +72,43 @@ filter-below p n most h none =
     let split : most ≡ n + (most - n) = omega arith in
     ap (λ k. filter p (range_with_len 0 k)) split ∙ filter-short p 0 n (most - n) (λ d above. none d (omega arith))
 
--- the documents that all of some cursors over lists have, where none of them is past a bound
-pub documents-cursors : (combined : List ℕ → ℕ) (n : ℕ) (members : List VecDocSet) → n ≤ TERMINATED → All (λ m. IsCursor m) members → ((d : ℕ) → n ≤ d → is_common members d ≡ false) → documents (common_entries combined (map (λ m. remaining m) members)) ≡ filter (is_common members) (range_with_len 0 n)
-documents-cursors combined n members few all past =
-    let lists = map (λ m. remaining m) members in
-    let cursors = AreMembers-map (λ m. no_limits) (λ m. remaining m) members (λ k d below. AreEntries-documents _ _ (all k d below).1) in
-    documents-common_entries combined (map (λ m. no_limits) members) lists cursors
-    ∙ filter-same (λ d. list_all (has d) lists) (is_common members) (range_with_len 0 TERMINATED) (λ d. list_all-map (has d) (λ m. remaining m) members)
-    ∙ filter-below (is_common members) n TERMINATED few past
+-- whether all of some lists have a document, by the documents of each
+all_have : (d : ℕ) (ess : List (List Entry)) → list_all (has d) ess ≡ list_all (λ ds. list_any (λ x. x == d) ds) (map documents ess)
+all_have d [] = refl
+all_have d (es ∷ ess) = ap (λ b. b && list_all (has d) ess) (sym (list_any-map (λ x. x == d) (λ e. e.document) es)) ∙ ap (λ b. list_any (λ x. x == d) (documents es) && b) (all_have d ess)
+
+-- whether the lists of some words have document d in common
+abbrev have_words : Segment → List (String Global) → ℕ → Bool
+have_words segment words d = list_all (λ w. list_any (λ x. x == d) (holders segment (word_term (string_bytes w)))) words
+
+abbrev AreOfWords : Segment → List (String Global) → List (List Entry) → Type 0
+AreOfWords segment words ess = map documents ess ≡ map (λ w. holders segment (word_term (string_bytes w))) words
+
+common_words : (segment : Segment) (words : List (String Global)) (ess : List (List Entry)) (d : ℕ) → AreOfWords segment words ess → list_all (has d) ess ≡ have_words segment words d
+common_words segment words ess d of_words =
+    all_have d ess ∙ ap (list_all (λ ds. list_any (λ x. x == d) ds)) of_words ∙ list_all-map (λ ds. list_any (λ x. x == d) ds) (λ w. holders segment (word_term (string_bytes w))) words
+
+have_words-within : (segment : Segment) (words : List (String Global)) (d : ℕ) → d < 0 + length segment.documents → have_words segment words d ≡ list_all (λ w. holds_word segment (string_bytes w) d) words
+have_words-within segment [] d within = refl
+have_words-within segment (w ∷ words) d within =
+    let here = list_any-within (holds_word segment (string_bytes w)) 0 (length segment.documents) d (omega arith) within in
+    ap (λ b. b && have_words segment words d) here ∙ ap (λ b. holds_word segment (string_bytes w) d && b) (have_words-within segment words d within)
+
+have_words-past : (segment : Segment) (words : List (String Global)) (d : ℕ) → 0 < length words → length segment.documents ≤ d → have_words segment words d ≡ false
+have_words-past segment [] d some past = absurd (omega arith)
+have_words-past segment (w ∷ words) d some past =
+    ap (λ b. b && have_words segment words d) (list_any-after (holds_word segment (string_bytes w)) 0 (length segment.documents) d (omega arith))
+
+-- The documents that all of the lists have, each of which has the documents that hold one of the
+-- words: those that hold all of the words.
+pub all_of-words : (segment : Segment) (words : List (String Global)) (bounds : List Limits) (ess : List (List Entry)) → 0 < length words → length segment.documents ≤ TERMINATED → AreMembers bounds ess → map documents ess ≡ map (λ w. holders segment (word_term (string_bytes w))) words → filter (λ d. nat_le (length ess) (length (scores_at d ess))) (range_with_len 0 TERMINATED) ≡ common_holders segment words
+all_of-words segment words bounds ess some few members of_words =
+    let n = length segment.documents in
+    filter-same (λ d. nat_le (length ess) (length (scores_at d ess))) (have_words segment words) (range_with_len 0 TERMINATED) (λ d. in_all d bounds ess members ∙ common_words segment words ess d of_words)
+    ∙ filter-below (have_words segment words) n TERMINATED few (λ d past. have_words-past segment words d some past)
+    ∙ filter-range-same (have_words segment words) (λ d. list_all (λ w. holds_word segment (string_bytes w) d) words) 0 n (have_words-within segment words)
+
+-- the same of the documents that an intersection lists
+pub documents-common_entries : (combined : List ℕ → ℕ) (segment : Segment) (words : List (String Global)) (bounds : List Limits) (ess : List (List Entry)) → 0 < length words → length segment.documents ≤ TERMINATED → AreMembers bounds ess → map documents ess ≡ map (λ w. holders segment (word_term (string_bytes w))) words → documents (common_entries combined ess) ≡ common_holders segment words
+documents-common_entries combined segment words bounds ess some few members of_words =
+    documents-gather (length ess) combined ess ∙ all_of-words segment words bounds ess some few members of_words

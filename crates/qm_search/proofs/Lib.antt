@@ -1,6 +1,9 @@
-mod PostingLists
 mod Holders
 mod InCommon
+mod CommonScores
 mod Matching
 mod Texts
 mod LineBytes
+mod TreeScores
+mod WordEntries
+mod SegmentTexts

@@ -1,6 +1,6 @@
 -- The first line of some bytes, and what stands after it.
-use Rattle.std.proofs.Common.{◌≡◌, ℕ, ◌+◌, ◌-◌, ◌<◌, ◌≤◌, Bool, true, false, cond, List, [], ◌∷◌, ◌++◌, length, get_or, take, drop, Some, None, Option, IfSome, IsTrue, refl, ap, sym, ◌∙◌, subst, append_assoc, append-nil, arith, rules, tests, ◌||◌, ◌&&◌, ◌==◌, zero, suc, position, length-append, nat_lt, add-one, slice_range, if◌then◌else◌}
-use Rattle.std.specs.List.{list_any, position_or_len}
+use Rattle.std.proofs.Common.{◌≡◌, ℕ, ◌+◌, ◌-◌, ◌<◌, ◌≤◌, Bool, true, false, cond, List, [], ◌∷◌, ◌++◌, length, get_or, take, drop, Some, None, Option, IfSome, refl, ap, sym, ◌∙◌, subst, append_assoc, append-nil, arith, rules, tests, ◌||◌, ◌&&◌, ◌==◌, suc, position, length-append, nat_lt, add-one, slice_range, if◌then◌else◌}
+use Rattle.std.specs.List.{position_or_len}
 use Rattle.std.specs.Io.KnownBytes.{prepend_known}
 use Rattle.std.specs.Io.BufRead.{take_through, drop_through, ends_with_byte, strip_last, first_line}
 use Rattle.std.proofs.lemmas.Bool.{false≢true, eqb-true}

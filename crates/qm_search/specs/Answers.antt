@@ -1,22 +1,53 @@
 -- What the program answers to a line, and the text of each answer.
-use Rattle.std.specs.Prelude.{◌≡◌, ℕ, List, [], ◌∷◌, ◌++◌, ◌<◌, length, map, codes, Option, Some, None}
+use Rattle.std.specs.Prelude.{◌≡◌, ℕ, Option, None, Some, List, [], ◌∷◌, ◌++◌, codes}
 use Rattle.std.specs.Fmt.{decimal}
-use Rattle.qm_docset.specs.declared.doc_set.TheConstants.{TERMINATED}
-use Rattle.qm_search.specs.Segment.{Segment, texts_of}
-use Rattle.qm_search.specs.Text.{spaced}
-use Rattle.qm_search.specs.Trees.{matching}
+use Rattle.qm_postings.specs.Segment.{Segment}
+use Rattle.qm_search.specs.AllSegments.{all_matching}
+use Rattle.qm_search.specs.ScriptDocuments.{all_segments}
+use Rattle.qm_search.specs.declared.documents.Documents.{Documents as ScriptDocuments}
 use Rattle.qm_search.specs.declared.tree.Tree.{Tree}
-use Rattle.qm_search.specs.declared.parse.Command.{Command}
-use Rattle.qm_search.specs.declared.parse.Command.TheVariants.{Nothing, AddDocument, ListDocuments}
+use Rattle.qm_search.specs.Text.{spaced, spaced_pairs}
 use Rattle.qm_schema.specs.declared.error.QueryError.{QueryError}
 use Rattle.qm_schema.specs.declared.error.QueryError.TheVariants.{TooFewTerms, EmptyPrefix, MixedFields, OffsetTooLarge, UnknownField, NotIndexed, NoPositions, TieBreaker, ScoreBound, DoesNotMatch, NoSuchSegment, Provider, Memory, TooManyDocuments, BadDocument, BadBlockLength, BadNorms, TooManySegments}
 use Rattle.qm_search.specs.declared.answer.Answer.{Answer}
-use Rattle.qm_search.specs.declared.answer.Answer.TheVariants.{Silence, Documents, Refused, NotUnderstood}
+use Rattle.qm_search.specs.declared.answer.Answer.TheVariants.{Silence, Documents, Scores, Refused, NotUnderstood}
+use Rattle.qm_search.specs.declared.parse.Command.{Command}
+use Rattle.qm_search.specs.declared.parse.Command.TheVariants.{Nothing, AddDocument, SetWeight, EndSegment, ListDocuments, ListScores}
+
+-- nothing, or a refusal
+abbrev pub IsQuiet : Answer → Type 0
+IsQuiet Silence = Unit {0}
+IsQuiet (Refused number) = Unit {0}
+IsQuiet answer = ⊥
+
+-- the documents that the tree matches in all segments, or a refusal
+abbrev pub ListsDocuments : Tree → List Segment → Answer → Type 0
+ListsDocuments tree segments (Documents found) = found.items ≡ all_matching tree 0 segments
+ListsDocuments tree segments (Refused number) = Unit {0}
+ListsDocuments tree segments answer = ⊥
+
+-- documents with their scores, or a refusal
+abbrev pub ListsScores : Answer → Type 0
+ListsScores (Scores found) = Unit {0}
+ListsScores (Refused number) = Unit {0}
+ListsScores answer = ⊥
+
+-- what a line can be answered, by the documents before it and by what it asks for: None where it
+-- isn't understood
+abbrev pub CanAnswer : ScriptDocuments → Option Command → Answer → Type 0
+CanAnswer documents None answer = answer ≡ NotUnderstood
+CanAnswer documents (Some Nothing) answer = answer ≡ Silence
+CanAnswer documents (Some (AddDocument text)) answer = IsQuiet answer
+CanAnswer documents (Some (SetWeight word weight)) answer = IsQuiet answer
+CanAnswer documents (Some EndSegment) answer = IsQuiet answer
+CanAnswer documents (Some (ListDocuments tree)) answer = ListsDocuments tree (all_segments documents) answer
+CanAnswer documents (Some (ListScores tree)) answer = ListsScores answer
 
 -- the exit status of a script in which no other line is answered worse than this
 abbrev pub status_of : Answer → ℕ
 status_of Silence = 0
 status_of (Documents found) = 0
+status_of (Scores found) = 0
 status_of (Refused number) = 1
 status_of NotUnderstood = 2
 
@@ -45,25 +76,6 @@ refusal_of TooManySegments = 18
 abbrev pub answer_text : ℕ → Answer → List ℕ
 answer_text line Silence = []
 answer_text line (Documents found) = spaced found.items ++ 10 ∷ []
+answer_text line (Scores found) = spaced_pairs found.items ++ 10 ∷ []
 answer_text line (Refused number) = codes "line " ++ (decimal line ++ (codes ": refused " ++ (decimal number ++ 10 ∷ [])))
 answer_text line NotUnderstood = codes "line " ++ (decimal line ++ (codes ": not understood" ++ 10 ∷ []))
-
--- A document is added, where there is a number left for it; else it is refused with number 14, and
--- the segment stays.
-abbrev pub IsAddition : Segment → Segment → List (List ℕ) → Answer → Type 0
-IsAddition old new words answer =
-    (length old < TERMINATED → (answer ≡ Silence) × (new ≡ old ++ words ∷ [])) × (length old ≡ TERMINATED → (answer ≡ Refused 14) × (new ≡ old))
-
--- the documents that the tree matches; nothing but the want of memory, number 13, refuses it
-abbrev pub IsListing : Segment → Tree → Answer → Type 0
-IsListing segment tree (Documents found) = found.items ≡ matching tree segment
-IsListing segment tree (Refused number) = number ≡ 13
-IsListing segment tree Silence = ⊥
-IsListing segment tree NotUnderstood = ⊥
-
--- what is answered to each command, None being a line that isn't understood
-abbrev pub IsAnswer : Segment → Segment → Option Command → Answer → Type 0
-IsAnswer old new None answer = (answer ≡ NotUnderstood) × (new ≡ old)
-IsAnswer old new (Some Nothing) answer = (answer ≡ Silence) × (new ≡ old)
-IsAnswer old new (Some (AddDocument words)) answer = IsAddition old new (texts_of words.items) answer
-IsAnswer old new (Some (ListDocuments tree)) answer = (new ≡ old) × IsListing old tree answer

@@ -1,6 +1,9 @@
-pub mod Segment
-pub mod Postings
 pub mod Trees
 pub mod Text
 pub mod Answers
 pub mod Lines
+pub mod Scores
+pub mod WordScorers
+pub mod AllSegments
+pub mod ScriptDocuments
+pub mod TextSegments

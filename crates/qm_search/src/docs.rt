@@ -1,112 +1,74 @@
 //! The documents that a tree matches.
 
-ghost use Rattle.std.specs.Prelude.{◌≡◌, All, IfOk, IsOkUnless, map, string_bytes};
-ghost use Rattle.qm_docset.specs.Entry.{plain};
-ghost use Rattle.qm_docset.specs.VecDocSet.{remaining, IsCursor};
-ghost use Rattle.qm_search.specs.Segment.{holders};
-ghost use Rattle.qm_search.specs.Trees.{matching};
+ghost use Rattle.std.specs.Prelude.{◌≡◌, ◌≤◌, IfOk, IsOkUnless, length};
+ghost use Rattle.qm_postings.specs.Segment.{holders};
+ghost use Rattle.qm_search.specs.Trees.{common_holders, matching, word_term};
 
-use crate::documents_left::documents_left;
-use crate::flat_segment::FlatSegment;
+use crate::left::documents_left;
+use crate::terms::{common_postings, word_postings};
 use crate::tree::Tree;
 use qm_combine::Intersection;
-use qm_docset::{DocId, VecDocSet};
+use qm_docset::DocId;
+use qm_postings::SegmentReader;
 use qm_schema::QueryError;
-use std::alloc::{AllocError, Global};
+use std::alloc::Global;
 
-/// The documents of the segment that the tree matches, ascending. `Memory` is its only refusal.
+/// The documents of the segment that the tree matches, ascending, deleted ones too. `Memory` is its
+/// only refusal.
 ///
-/// A term costs a look-up and a copy of its list; a `Bool` as much for each of its words, and then
-/// the seeks of an intersection.
-pub fn docs(alloc: Global, segment: &FlatSegment, tree: &Tree) -> Result<Vec<DocId>, QueryError>
-    ensures documents { IfOk result (λ found. found.items ≡ matching tree.now segment.now) }
+/// A term costs a search by halving and a step for each document that holds it; a `Bool` a search
+/// for each of its words, and then the seeks of an intersection.
+pub fn docs(alloc: Global, segment: &SegmentReader, tree: &Tree) -> Result<Vec<DocId>, QueryError>
+    ensures documents { IfOk result (λ found. found.items ≡ matching tree.now segment.now.segment) }
     ensures refused { IsOkUnless result QueryError.Memory }
 {
     match tree {
         Tree::All => Ok((0..segment.max_doc()).collect(alloc)?),
         Tree::Empty => Ok(Vec::new(alloc)),
-        Tree::Term(word) => Ok(Vec::from_slice(alloc, segment.postings(word.as_str()))?),
+        Tree::Term(word) => word_documents(alloc, segment, word.as_str()),
         Tree::Bool { minimum, words } => {
-            if *minimum > 0 || words.is_empty() {
+            if *minimum > 0 {
                 return Ok(Vec::new(alloc));
             }
-            if let [word] = words.as_slice() {
-                return Ok(Vec::from_slice(alloc, segment.postings(word.as_str()))?);
+            match words.as_slice() {
+                [] => Ok(Vec::new(alloc)),
+                [word] => word_documents(alloc, segment, word.as_str()),
+                words => common_documents(alloc, segment, words),
             }
-            let members = cursors(alloc, segment, words.as_slice())?;
+        }
+    }
+}
+
+// The documents that hold a word.
+fn word_documents(
+    alloc: Global,
+    segment: &SegmentReader,
+    word: &str,
+) -> Result<Vec<DocId>, QueryError>
+    ensures documents { IfOk result (λ found. found.items ≡ holders segment.now.segment (word_term word.now)) }
+    ensures refused { IsOkUnless result QueryError.Memory }
+{
+    match word_postings(alloc, segment, word)? {
+        Some(postings) => Ok(documents_left(alloc, postings)?),
+        None => Ok(Vec::new(alloc)),
+    }
+}
+
+// The documents that hold each of at least two words.
+fn common_documents(
+    alloc: Global,
+    segment: &SegmentReader,
+    words: &[String],
+) -> Result<Vec<DocId>, QueryError>
+    requires two { 2 ≤ length words.now }
+    ensures documents { IfOk result (λ found. found.items ≡ common_holders segment.now.segment words.now) }
+    ensures refused { IsOkUnless result QueryError.Memory }
+{
+    match common_postings(alloc, segment, words)? {
+        Some(members) => {
             let common = Intersection::new(alloc, members, segment.max_doc())?;
             Ok(documents_left(alloc, common)?)
         }
-    }
-}
-
-// For each word a cursor over the documents that hold it.
-fn cursors(
-    alloc: Global,
-    segment: &FlatSegment,
-    words: &[String],
-) -> Result<Vec<VecDocSet>, AllocError>
-    ensures valid { IfOk result (λ members. All (λ m. IsCursor m) members.items) }
-    ensures entries { IfOk result (λ members. map (λ m. remaining m) members.items
-        ≡ map (λ w. map plain (holders segment.now (string_bytes w))) words.now) }
-{
-    let mut members = Vec::with_capacity(alloc, words.len())?;
-    for word in words {
-        let list = Vec::from_slice(alloc, segment.postings(word.as_str()))?;
-        members.push(VecDocSet::new(list))?;
-    }
-    Ok(members)
-}
-
-#[cfg(test)]
-mod tests {
-    use super::*;
-    use std::process::Abort;
-    use std::test::Fail;
-
-    // "a b", "a c", "a b c", "b"
-    fn segment(rt: &(impl Abort + AllocGlobal)) -> Result<FlatSegment, Fail> {
-        let alloc = rt.alloc();
-        let texts: [&[&str]; 4] = [&["a", "b"], &["a", "c"], &["a", "b", "c"], &["b"]];
-        let mut segment = FlatSegment::new(alloc);
-        for text in texts {
-            assert!(rt; !segment.is_full());
-            segment.add_document(words(alloc, text)?)?;
-        }
-        Ok(segment)
-    }
-
-    fn words(alloc: Global, texts: &[&str]) -> Result<Vec<String>, Fail> {
-        let mut words = Vec::new(alloc);
-        for text in texts {
-            words.push(String::from_str(alloc, text)?)?;
-        }
-        Ok(words)
-    }
-
-    #[test]
-    fn lists_the_documents_that_match(rt: HostRuntime) -> Result<(), Fail> {
-        let alloc = rt.alloc();
-        let segment = segment(&rt)?;
-        let cases: [(Tree, &[DocId]); 8] = [
-            (Tree::All, &[0, 1, 2, 3]),
-            (Tree::Empty, &[]),
-            (Tree::Term(String::from_str(alloc, "b")?), &[0, 2, 3]),
-            (Tree::Term(String::from_str(alloc, "z")?), &[]),
-            (bool_tree(alloc, 0, &["a", "b"])?, &[0, 2]),
-            (bool_tree(alloc, 0, &["c", "b", "a"])?, &[2]),
-            (bool_tree(alloc, 0, &[])?, &[]),
-            (bool_tree(alloc, 1, &["a"])?, &[]),
-        ];
-        for (tree, numbers) in &cases {
-            let found = docs(alloc, &segment, tree)?;
-            assert_eq!(rt; found.as_slice(), *numbers, "{tree:?}");
-        }
-        Ok(())
-    }
-
-    fn bool_tree(alloc: Global, minimum: u32, texts: &[&str]) -> Result<Tree, Fail> {
-        let words = words(alloc, texts)?;
-        Ok(Tree::Bool { minimum, words })
+        None => Ok(Vec::new(alloc)),
     }
 }

@@ -3,14 +3,18 @@
 #![tactic(auto)]
 
 mod answer;
+mod corpus;
 mod docs;
-mod documents_left;
-mod flat_segment;
+mod documents;
+mod left;
 mod lines;
 mod parse;
-mod postings;
 mod run;
+mod scores;
+mod terms;
 mod tree;
+mod weight;
+mod word_scorer;
 
 use crate::run::run;
 use std::io;

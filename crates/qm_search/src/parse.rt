@@ -1,9 +1,11 @@
 //! What a line of a script asks for.
 
-ghost use Rattle.std.specs.Prelude.{◌^◌, ◌<◌, IfOk, IsSome, IsUtf8, SomeIff};
+ghost use Rattle.std.specs.Prelude.{◌^◌, ◌<◌, IfOk, IsSome, IsUtf8, SomeIff, pos};
 ghost use Rattle.std.specs.Str.Parse.{IsNumeral, digits_value};
 
 use crate::tree::Tree;
+use crate::weight::Weight;
+use qm_docset::Score;
 use std::alloc::{AllocError, Global};
 use std::str;
 
@@ -12,10 +14,16 @@ use std::str;
 pub enum Command {
     /// Nothing: the line has no word.
     Nothing,
-    /// To add a document with these words.
-    AddDocument(Vec<String>),
+    /// To add a document with the words of this text, which spaces part.
+    AddDocument(String),
+    /// To give a word its weight, from now on.
+    SetWeight(String, Weight),
+    /// To end the open segment, and to open another.
+    EndSegment,
     /// To list the documents that match.
     ListDocuments(Tree),
+    /// To list the documents that match, each with its score.
+    ListScores(Tree),
 }
 
 /// What a line asks for, or `None` where it isn't understood: where it isn't UTF-8, or doesn't fit
@@ -35,16 +43,39 @@ pub fn parse_line(alloc: Global, line: &[u8]) -> Result<Option<Command>, AllocEr
     }
     match words.as_slice() {
         [] => Ok(Some(Command::Nothing)),
-        ["doc", words @ ..] => {
-            let mut owned = Vec::with_capacity(alloc, words.len())?;
-            for word in words {
-                owned.push(String::from_str(alloc, word)?)?;
-            }
-            Ok(Some(Command::AddDocument(owned)))
-        }
+        ["doc", words @ ..] => Ok(Some(Command::AddDocument(joined(alloc, words)?))),
+        ["weight", word, weight] => parse_weight(alloc, word, weight),
+        ["segment"] => Ok(Some(Command::EndSegment)),
         ["docs", query @ ..] => Ok(parse_query(alloc, query)?.map(Command::ListDocuments)),
+        ["scores", query @ ..] => Ok(parse_query(alloc, query)?.map(Command::ListScores)),
         _ => Ok(None),
     }
+}
+
+// The words, each behind a space but the first.
+fn joined(alloc: Global, words: &[&str]) -> Result<String, AllocError> {
+    let mut text = String::new(alloc);
+    for (i, word) in words.iter().enumerate() {
+        if i > 0 {
+            text.push(' ')?;
+        }
+        text.push_str(word)?;
+    }
+    Ok(text)
+}
+
+fn parse_weight(alloc: Global, word: &str, weight: &str) -> Result<Option<Command>, AllocError> {
+    let Some(weight) = parse_score(weight) else {
+        return Ok(None);
+    };
+    Ok(Some(Command::SetWeight(String::from_str(alloc, word)?, Weight::new(weight))))
+}
+
+// Decimal digits, with leading zeros or none, up to 9223372036854775807.
+fn parse_score(text: &str) -> Option<Score>
+    ensures { SomeIff result (IsNumeral 10 text.now × (digits_value 10 text.now < 2 ^ 63)) (pos (digits_value 10 text.now)) }
+{
+    Score::try_from(parse_digits(text)?).ok()
 }
 
 // A query that takes all of the words.
@@ -84,6 +115,13 @@ fn parse_bool(
 // Decimal digits, with leading zeros or none, up to 4294967295.
 fn parse_number(text: &str) -> Option<u32>
     ensures { SomeIff result (IsNumeral 10 text.now × (digits_value 10 text.now < 2 ^ 32)) (digits_value 10 text.now) }
+{
+    u32::try_from(parse_digits(text)?).ok()
+}
+
+// Decimal digits, with leading zeros or none, up to 18446744073709551615.
+fn parse_digits(text: &str) -> Option<u64>
+    ensures { SomeIff result (IsNumeral 10 text.now × (digits_value 10 text.now < 2 ^ 64)) (digits_value 10 text.now) }
 {
     if text.starts_with('+') {
         return None;

@@ -3,7 +3,7 @@
 ghost use Rattle.std.specs.Prelude.{◌≤◌, IfOk};
 
 use crate::answer::answer_command;
-use crate::flat_segment::FlatSegment;
+use crate::corpus::Corpus;
 use crate::lines::Lines;
 use crate::parse::parse_line;
 use std::alloc::{AllocError, AllocFailed, Global};
@@ -72,14 +72,16 @@ fn answer_lines<R: Read, W: Write>(
 {
     let mut lines = Lines::new();
     let mut line = Vec::new(alloc);
-    let mut segment = FlatSegment::new(alloc);
+    let Ok(mut corpus) = Corpus::new(alloc) else {
+        return Err(RunError::Memory);
+    };
     let mut status = 0;
     for number in 1..u64::MAX {
         if !lines.next_line(input, &mut line)? {
             break;
         }
         let command = parse_line(alloc, line.as_slice())?;
-        let answer = answer_command(alloc, &mut segment, command)?;
+        let answer = answer_command(alloc, &mut corpus, command)?;
         status = answer.status().max(status);
         let text = answer.text(alloc, number)?;
         if output.write_all(text.as_bytes()).is_err() {

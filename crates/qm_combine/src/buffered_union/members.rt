@@ -1,28 +1,13 @@
 //! The members of a union.
 
-ghost use Rattle.std.specs.Prelude.{◌≡◌, ◌+◌, ◌<◌, ◌≤◌, All, SomeIff, fold, map, pos};
+ghost use Rattle.std.specs.Prelude.{◌≡◌, ◌+◌, ◌<◌, ◌≤◌, All, fold, map};
 ghost use Rattle.qm_docset.specs.Entry.{from, greatest_score, head_document};
 ghost use Rattle.qm_docset.specs.Gather.{scores_at};
 ghost use Rattle.qm_combine.specs.Union.{least_head, total_top};
 
 use crate::score_combiner::ScoreCombiner;
 use crate::scoring::Scorer;
-use qm_docset::{DocId, DocSet, Score, TERMINATED};
-
-/// The sum of the members' `max_score`, where it is a score.
-pub(super) fn sum_of_bounds<S: Scorer>(members: &[S]) -> Option<Score>
-    requires { All S.valid members.now }
-    ensures { SomeIff result (total_top (map S.limits members.now) ≤ greatest_score) (pos (total_top (map S.limits members.now))) }
-{
-    let mut sum = 0u64;
-    for member in members {
-        sum += member.max_score() as u64;
-        if sum > Score::MAX as u64 {
-            return None;
-        }
-    }
-    Some(sum as Score)
-}
+use qm_docset::{DocId, DocSet, TERMINATED};
 
 /// The least of the documents that the members stand on.
 pub(super) fn least_document<D: DocSet>(members: &[D]) -> DocId

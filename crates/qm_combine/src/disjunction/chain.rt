@@ -1,34 +1,19 @@
 //! The members of a disjunction, in a heap by their documents.
 
-ghost use Rattle.std.specs.Prelude.{◌≡◌, ℕ, ◌+◌, ◌<◌, ◌≤◌, ◌∷◌, All, IfOk, SomeIff, fold, length, map, pos, sum_by};
+ghost use Rattle.std.specs.Prelude.{◌≡◌, ℕ, ◌+◌, ◌<◌, ◌≤◌, ◌∷◌, All, IfOk, fold, length, map, sum_by};
 ghost use Rattle.std.specs.BinaryHeap.{IsHeap, heap_items};
 ghost use Rattle.std.specs.List.Sorted.{IsPermutation};
-ghost use Rattle.qm_docset.specs.Entry.{from, greatest_score, head_document};
+ghost use Rattle.qm_docset.specs.Entry.{from};
 ghost use Rattle.qm_docset.specs.Gather.{scores_at};
-ghost use Rattle.qm_combine.specs.Disjunction.{HasRoomFor, least_first, tops_at};
-ghost use Rattle.qm_combine.specs.Union.{least_head, total_top};
+ghost use Rattle.qm_combine.specs.Disjunction.{AreStanding, HasRoomFor, least_first, tops_at};
+ghost use Rattle.qm_combine.specs.Union.{least_head};
 
 use super::scorer_wrapper::ScorerWrapper;
 use crate::score_combiner::ScoreCombiner;
 use crate::scoring::Scorer;
-use qm_docset::{DocId, DocSet, Score, TERMINATED};
+use qm_docset::{DocId, DocSet, TERMINATED};
 use std::alloc::{AllocError, Global};
 use std::collections::BinaryHeap;
-
-/// The sum of the members' `max_score`, where it is a score.
-pub(super) fn sum_of_bounds<S: Scorer>(members: &[S]) -> Option<Score>
-    requires { All S.valid members.now }
-    ensures { SomeIff result (total_top (map S.limits members.now) ≤ greatest_score) (pos (total_top (map S.limits members.now))) }
-{
-    let mut sum = 0u64;
-    for member in members {
-        sum += member.max_score() as u64;
-        if sum > Score::MAX as u64 {
-            return None;
-        }
-    }
-    Some(sum as Score)
-}
 
 /// The members in a heap by their documents.
 pub(super) fn chained<S: DocSet>(
@@ -39,7 +24,7 @@ pub(super) fn chained<S: DocSet>(
     requires placed { All S.placed members.items }
     ensures members { IfOk result (λ chain. IsPermutation members.items (map (λ w. w.scorer) (heap_items chain))) }
     ensures heap { IfOk result (λ chain. IsHeap (least_first (λ w. w.doc)) (heap_items chain)) }
-    ensures standing { IfOk result (λ chain. All (λ w. S.valid w.scorer × S.placed w.scorer × (w.doc ≡ head_document (S.entries w.scorer))) (heap_items chain)) }
+    ensures standing { IfOk result (λ chain. AreStanding S.valid S.placed S.entries (heap_items chain)) }
 {
     let mut chain = BinaryHeap::with_capacity(alloc, members.len())?;
     for scorer in members {
@@ -52,7 +37,7 @@ pub(super) fn chained<S: DocSet>(
 /// The least of the documents that the members stand on.
 pub(super) fn least_document<S: DocSet>(chain: &BinaryHeap<ScorerWrapper<S>>) -> DocId
     requires heap { IsHeap (least_first (λ w. w.doc)) (heap_items chain.now) }
-    requires standing { All (λ w. S.valid w.scorer × S.placed w.scorer × (w.doc ≡ head_document (S.entries w.scorer))) (heap_items chain.now) }
+    requires standing { AreStanding S.valid S.placed S.entries (heap_items chain.now) }
     ensures { result ≡ least_head (map (λ w. S.entries w.scorer) (heap_items chain.now)) }
 {
     match chain.peek() {
@@ -67,12 +52,12 @@ fn seek_first<S: DocSet>(chain: &mut BinaryHeap<ScorerWrapper<S>>, target: DocId
     requires target { target ≤ TERMINATED }
     requires behind { least_head (map (λ w. S.entries w.scorer) (heap_items chain.old)) < target }
     requires heap { IsHeap (least_first (λ w. w.doc)) (heap_items chain.old) }
-    requires standing { All (λ w. S.valid w.scorer × S.placed w.scorer × (w.doc ≡ head_document (S.entries w.scorer))) (heap_items chain.old) }
+    requires standing { AreStanding S.valid S.placed S.entries (heap_items chain.old) }
     ensures fewer { sum_by (λ w. length (S.entries w.scorer)) (heap_items chain.new) < sum_by (λ w. length (S.entries w.scorer)) (heap_items chain.old) }
     ensures entries { IsPermutation (map (λ w. from target (S.entries w.scorer)) (heap_items chain.old)) (map (λ w. from target (S.entries w.scorer)) (heap_items chain.new)) }
     ensures limits { IsPermutation (map (λ w. S.limits w.scorer) (heap_items chain.old)) (map (λ w. S.limits w.scorer) (heap_items chain.new)) }
     ensures heap { IsHeap (least_first (λ w. w.doc)) (heap_items chain.new) }
-    ensures standing { All (λ w. S.valid w.scorer × S.placed w.scorer × (w.doc ≡ head_document (S.entries w.scorer))) (heap_items chain.new) }
+    ensures standing { AreStanding S.valid S.placed S.entries (heap_items chain.new) }
 {
     if let Some(mut first) = chain.peek_mut() {
         first.seek(target);
@@ -87,14 +72,14 @@ fn take_first<S: Scorer, C: ScoreCombiner>(
     requires here { least_head (map (λ w. S.entries w.scorer) (heap_items chain.old)) < TERMINATED }
     requires room { HasRoomFor C.step C.cleared (tops_at (λ w. S.entries w.scorer) (λ w. S.limits w.scorer) (least_head (map (λ w. S.entries w.scorer) (heap_items chain.old))) (heap_items chain.old)) combiner.old }
     requires heap { IsHeap (least_first (λ w. w.doc)) (heap_items chain.old) }
-    requires standing { All (λ w. S.valid w.scorer × S.placed w.scorer × (w.doc ≡ head_document (S.entries w.scorer))) (heap_items chain.old) }
+    requires standing { AreStanding S.valid S.placed S.entries (heap_items chain.old) }
     ensures score { (score : ℕ) × (combiner.new ≡ C.step combiner.old score) × IsPermutation (scores_at (least_head (map (λ w. S.entries w.scorer) (heap_items chain.old))) (map (λ w. S.entries w.scorer) (heap_items chain.old))) (score ∷ scores_at (least_head (map (λ w. S.entries w.scorer) (heap_items chain.old))) (map (λ w. S.entries w.scorer) (heap_items chain.new))) }
     ensures room { HasRoomFor C.step C.cleared (tops_at (λ w. S.entries w.scorer) (λ w. S.limits w.scorer) (least_head (map (λ w. S.entries w.scorer) (heap_items chain.old))) (heap_items chain.new)) combiner.new }
     ensures forward { least_head (map (λ w. S.entries w.scorer) (heap_items chain.old)) ≤ least_head (map (λ w. S.entries w.scorer) (heap_items chain.new)) }
     ensures entries { IsPermutation (map (λ w. from (least_head (map (λ w. S.entries w.scorer) (heap_items chain.old)) + 1) (S.entries w.scorer)) (heap_items chain.old)) (map (λ w. from (least_head (map (λ w. S.entries w.scorer) (heap_items chain.old)) + 1) (S.entries w.scorer)) (heap_items chain.new)) }
     ensures limits { IsPermutation (map (λ w. S.limits w.scorer) (heap_items chain.old)) (map (λ w. S.limits w.scorer) (heap_items chain.new)) }
     ensures heap { IsHeap (least_first (λ w. w.doc)) (heap_items chain.new) }
-    ensures standing { All (λ w. S.valid w.scorer × S.placed w.scorer × (w.doc ≡ head_document (S.entries w.scorer))) (heap_items chain.new) }
+    ensures standing { AreStanding S.valid S.placed S.entries (heap_items chain.new) }
 {
     if let Some(mut first) = chain.peek_mut() {
         first.take(combiner);
@@ -107,12 +92,12 @@ fn take_first<S: Scorer, C: ScoreCombiner>(
 pub(super) fn seek_behind<S: DocSet>(chain: &mut BinaryHeap<ScorerWrapper<S>>, target: DocId)
     requires target { target ≤ TERMINATED }
     requires heap { IsHeap (least_first (λ w. w.doc)) (heap_items chain.old) }
-    requires standing { All (λ w. S.valid w.scorer × S.placed w.scorer × (w.doc ≡ head_document (S.entries w.scorer))) (heap_items chain.old) }
+    requires standing { AreStanding S.valid S.placed S.entries (heap_items chain.old) }
     ensures reached { target ≤ least_head (map (λ w. S.entries w.scorer) (heap_items chain.new)) }
     ensures entries { IsPermutation (map (λ w. from target (S.entries w.scorer)) (heap_items chain.old)) (map (λ w. from target (S.entries w.scorer)) (heap_items chain.new)) }
     ensures limits { IsPermutation (map (λ w. S.limits w.scorer) (heap_items chain.old)) (map (λ w. S.limits w.scorer) (heap_items chain.new)) }
     ensures heap { IsHeap (least_first (λ w. w.doc)) (heap_items chain.new) }
-    ensures standing { All (λ w. S.valid w.scorer × S.placed w.scorer × (w.doc ≡ head_document (S.entries w.scorer))) (heap_items chain.new) }
+    ensures standing { AreStanding S.valid S.placed S.entries (heap_items chain.new) }
 {
     while least_document(chain) < target {
         seek_first(chain, target);
@@ -130,14 +115,14 @@ pub(super) fn take_at<S: Scorer, C: ScoreCombiner>(
     requires first { doc ≤ least_head (map (λ w. S.entries w.scorer) (heap_items chain.old)) }
     requires room { HasRoomFor C.step C.cleared (tops_at (λ w. S.entries w.scorer) (λ w. S.limits w.scorer) doc (heap_items chain.old)) combiner.old }
     requires heap { IsHeap (least_first (λ w. w.doc)) (heap_items chain.old) }
-    requires standing { All (λ w. S.valid w.scorer × S.placed w.scorer × (w.doc ≡ head_document (S.entries w.scorer))) (heap_items chain.old) }
+    requires standing { AreStanding S.valid S.placed S.entries (heap_items chain.old) }
     ensures count { result ≡ length (scores_at doc (map (λ w. S.entries w.scorer) (heap_items chain.old))) }
     ensures state { combiner.new ≡ fold C.step combiner.old (scores_at doc (map (λ w. S.entries w.scorer) (heap_items chain.old))) }
     ensures past { doc + 1 ≤ least_head (map (λ w. S.entries w.scorer) (heap_items chain.new)) }
     ensures entries { IsPermutation (map (λ w. from (doc + 1) (S.entries w.scorer)) (heap_items chain.old)) (map (λ w. from (doc + 1) (S.entries w.scorer)) (heap_items chain.new)) }
     ensures limits { IsPermutation (map (λ w. S.limits w.scorer) (heap_items chain.old)) (map (λ w. S.limits w.scorer) (heap_items chain.new)) }
     ensures heap { IsHeap (least_first (λ w. w.doc)) (heap_items chain.new) }
-    ensures standing { All (λ w. S.valid w.scorer × S.placed w.scorer × (w.doc ≡ head_document (S.entries w.scorer))) (heap_items chain.new) }
+    ensures standing { AreStanding S.valid S.placed S.entries (heap_items chain.new) }
 {
     let mut count = 0;
     while least_document(chain) == doc {

@@ -1,12 +1,12 @@
 //! The next document that enough of the members of a disjunction have.
 
-ghost use Rattle.std.specs.Prelude.{◌≡◌, ◌+◌, ◌<◌, ◌≤◌, All, map, nat_abs, pos};
+ghost use Rattle.std.specs.Prelude.{◌≡◌, ◌+◌, ◌<◌, ◌≤◌, map, nat_abs, pos};
 ghost use Rattle.std.specs.BinaryHeap.{IsHeap, heap_items};
 ghost use Rattle.std.specs.List.Sorted.{IsPermutation};
-ghost use Rattle.qm_docset.specs.Entry.{greatest_score, head_document};
+ghost use Rattle.qm_docset.specs.Entry.{greatest_score};
 ghost use Rattle.qm_docset.specs.Gather.{gather};
 ghost use Rattle.qm_combine.specs.Combine.{combine};
-ghost use Rattle.qm_combine.specs.Disjunction.{least_first, led_by};
+ghost use Rattle.qm_combine.specs.Disjunction.{AreStanding, least_first, led_by};
 ghost use Rattle.qm_combine.specs.Union.{total_top};
 
 use super::chain::{least_document, take_at};
@@ -30,13 +30,13 @@ pub(super) fn next_match<S: Scorer, C: ScoreCombiner>(
     requires cleared { (start : C) × (combiner ≡ C.cleared start) }
     requires room { total_top (map (λ w. S.limits w.scorer) (heap_items chain.old)) ≤ greatest_score }
     requires heap { IsHeap (least_first (λ w. w.doc)) (heap_items chain.old) }
-    requires standing { All (λ w. S.valid w.scorer × S.placed w.scorer × (w.doc ≡ head_document (S.entries w.scorer))) (heap_items chain.old) }
+    requires standing { AreStanding S.valid S.placed S.entries (heap_items chain.old) }
     ensures document { result.0 ≤ TERMINATED }
     ensures score { result.1 ≡ pos (nat_abs result.1) }
     ensures entries { gather minimum (combine C.step C.value combiner) (map (λ w. S.entries w.scorer) (heap_items chain.old)) ≡ led_by result.0 (nat_abs result.1) (gather minimum (combine C.step C.value combiner) (map (λ w. S.entries w.scorer) (heap_items chain.new))) }
     ensures limits { IsPermutation (map (λ w. S.limits w.scorer) (heap_items chain.old)) (map (λ w. S.limits w.scorer) (heap_items chain.new)) }
     ensures heap { IsHeap (least_first (λ w. w.doc)) (heap_items chain.new) }
-    ensures standing { All (λ w. S.valid w.scorer × S.placed w.scorer × (w.doc ≡ head_document (S.entries w.scorer))) (heap_items chain.new) }
+    ensures standing { AreStanding S.valid S.placed S.entries (heap_items chain.new) }
 {
     if chain.len() < minimum {
         return (TERMINATED, 0);

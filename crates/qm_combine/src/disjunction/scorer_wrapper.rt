@@ -5,8 +5,8 @@ ghost use Rattle.std.proofs.Common.{rules};
 ghost use Rattle.std.specs.Cmp.{partial_order_from_own_ties};
 ghost use Rattle.std.specs.Cmp.Rules.{comparing};
 ghost use Rattle.std.specs.Ordering.{as_partial_cmp, eq_by_cmp};
-ghost use Rattle.qm_docset.specs.Entry.{from, head_document, head_score};
-ghost use Rattle.qm_combine.specs.Disjunction.{least_first};
+ghost use Rattle.qm_docset.specs.Entry.{from, head_score};
+ghost use Rattle.qm_combine.specs.Disjunction.{IsStanding, least_first};
 
 use crate::score_combiner::ScoreCombiner;
 use crate::scoring::Scorer;
@@ -28,7 +28,7 @@ impl<T: DocSet> ScorerWrapper<T> {
         requires target { target ≤ TERMINATED }
         ensures entries { T.entries self.new.scorer ≡ from target (T.entries self.old.scorer) }
         ensures limits { T.limits self.new.scorer ≡ T.limits self.old.scorer }
-        ensures standing { T.valid self.new.scorer × T.placed self.new.scorer × (self.new.doc ≡ head_document (T.entries self.new.scorer)) }
+        ensures standing { IsStanding T.valid T.placed T.entries self.new }
     {
         self.doc = self.scorer.seek(target);
     }
@@ -37,13 +37,13 @@ impl<T: DocSet> ScorerWrapper<T> {
 impl<T: Scorer> ScorerWrapper<T> {
     /// Takes in the score of the document that the scorer stands on, and steps it to the next.
     pub(super) fn take<C: ScoreCombiner>(&mut self, combiner: &mut C)
-        requires standing { T.valid self.old.scorer × T.placed self.old.scorer × (self.old.doc ≡ head_document (T.entries self.old.scorer)) }
+        requires standing { IsStanding T.valid T.placed T.entries self.old }
         requires here { self.old.doc < TERMINATED }
         requires room { C.has_room combiner.old (T.limits self.old.scorer).top }
         ensures state { combiner.new ≡ C.step combiner.old (head_score (T.entries self.old.scorer)) }
         ensures entries { T.entries self.new.scorer ≡ drop 1 (T.entries self.old.scorer) }
         ensures limits { T.limits self.new.scorer ≡ T.limits self.old.scorer }
-        ensures standing { T.valid self.new.scorer × T.placed self.new.scorer × (self.new.doc ≡ head_document (T.entries self.new.scorer)) }
+        ensures standing { IsStanding T.valid T.placed T.entries self.new }
     {
         combiner.update(&mut self.scorer);
         self.doc = self.scorer.advance();

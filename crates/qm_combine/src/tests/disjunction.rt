@@ -1,8 +1,14 @@
-ghost use Rattle.std.specs.Prelude.{◌≤◌, IfOk};
+ghost use Rattle.std.specs.Prelude.{◌≡◌, ◌<◌, ◌≤◌, All, IfOk, IsErrOf, map};
+ghost use Rattle.qm_docset.specs.Entry.{greatest_score};
+ghost use Rattle.qm_docset.specs.Gather.{gather};
+ghost use Rattle.qm_combine.specs.Combine.{combine};
+ghost use Rattle.qm_combine.specs.Union.{total_top, united_limits};
 
-use crate::tests::least_cursor::{LeastCursor, least};
+use crate::tests::least_cursor::{LeastCursor, least, least_of_each};
 use crate::tests::visits::{dangerous_seek_as_steps, seeks_as_steps, visits};
-use crate::{AllScorer, ConstScorer, Disjunction, DoNothingCombiner, ScoreCombiner, SumCombiner};
+use crate::{
+    AllScorer, ConstScorer, Disjunction, DoNothingCombiner, ScoreCombiner, Scorer, SumCombiner,
+};
 use qm_docset::{DocId, DocSet, Score, TERMINATED, VecDocSet, are_documents};
 use qm_schema::QueryError;
 use std::alloc::Global;
@@ -32,11 +38,28 @@ fn some_of<'a, C: ScoreCombiner>(
     ensures valid { IfOk result (λ s. ⟦<Disjunction<LeastCursor<'a>, C> as DocSet>⟧.valid s) }
     ensures placed { IfOk result (λ s. ⟦<Disjunction<LeastCursor<'a>, C> as DocSet>⟧.placed s) }
 {
-    let mut members = Vec::new(alloc);
-    for docs in lists {
-        members.push(least(rt, alloc, docs, 1, moves)?)?;
-    }
+    let members = least_of_each(rt, alloc, lists, 1, moves)?;
     Ok(Disjunction::new(alloc, members, combiner, minimum)?)
+}
+
+/// Of a `Vec` the contract says that the members are its elements.
+fn of_elements<S: Scorer, C: ScoreCombiner>(
+    alloc: Global,
+    elements: Vec<S>,
+    combiner: C,
+    minimum: usize,
+) -> Result<Disjunction<S, C>, QueryError>
+    requires minimum { 2 ≤ minimum }
+    requires valid { All S.valid elements.items }
+    requires placed { All S.placed elements.items }
+    ensures refused { IsErrOf result QueryError.ScoreBound → greatest_score < total_top (map S.limits elements.items) }
+    ensures fits { IfOk result (λ _. total_top (map S.limits elements.items) ≤ greatest_score) }
+    ensures entries { IfOk result (λ s. ⟦<Disjunction<S, C> as DocSet>⟧.entries s ≡ gather minimum (combine C.step C.value (C.cleared combiner)) (map S.entries elements.items)) }
+    ensures limits { IfOk result (λ s. ⟦<Disjunction<S, C> as DocSet>⟧.limits s ≡ united_limits (map S.limits elements.items)) }
+    ensures valid { IfOk result (λ s. ⟦<Disjunction<S, C> as DocSet>⟧.valid s) }
+    ensures placed { IfOk result (λ s. ⟦<Disjunction<S, C> as DocSet>⟧.placed s) }
+{
+    Disjunction::new(alloc, elements, combiner, minimum)
 }
 
 /// A cursor over these documents, each with the score 1.
@@ -111,8 +134,40 @@ fn takes_members_from_where_they_stand(rt: HostRuntime) -> Result<(), Fail> {
     first.advance();
     other.seek(4);
     let members = vec![in rt.alloc(); first, other]?;
-    let mut both = Disjunction::new(rt.alloc(), members, SumCombiner::default(), 2)?;
+    let mut both = of_elements(rt.alloc(), members, SumCombiner::default(), 2)?;
     visits(&rt, &mut both, &[(5, 4), (7, 4)]);
+    Ok(())
+}
+
+/// What two of the first `count` members have.
+fn two_of_first<S: Scorer>(
+    alloc: Global,
+    members: Vec<S>,
+    count: usize,
+) -> Result<Disjunction<S, SumCombiner>, QueryError>
+    requires valid { All S.valid members.items }
+    requires placed { All S.placed members.items }
+    ensures valid { IfOk result (λ s. ⟦<Disjunction<S, SumCombiner> as DocSet>⟧.valid s) }
+    ensures placed { IfOk result (λ s. ⟦<Disjunction<S, SumCombiner> as DocSet>⟧.placed s) }
+{
+    let first = members.into_iter().take(count);
+    Disjunction::new(alloc, first, SumCombiner::default(), 2)
+}
+
+#[test]
+fn takes_what_an_iterator_gives(rt: HostRuntime) -> Result<(), Fail> {
+    let moves = Cell::new(0);
+    let lists: [&[DocId]; 3] = [&[1, 3], &[3, 5], &[3, 5, 7]];
+    let members = least_of_each(&rt, rt.alloc(), &lists, 1, &moves)?;
+    visits(&rt, &mut two_of_first(rt.alloc(), members, 2)?, &[(3, 4)]);
+    Ok(())
+}
+
+#[test]
+fn takes_members_as_they_are_made(rt: HostRuntime) -> Result<(), Fail> {
+    let made = (1..6).map(|max_doc| AllScorer::new(max_doc));
+    let mut most = Disjunction::new(rt.alloc(), made, SumCombiner::default(), 4)?;
+    visits(&rt, &mut most, &[(0, 5), (1, 4)]);
     Ok(())
 }
 

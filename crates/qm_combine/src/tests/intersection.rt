@@ -1,6 +1,6 @@
 ghost use Rattle.std.specs.Prelude.{◌≤◌, IfOk, length};
 
-use crate::tests::least_cursor::{LeastCursor, least};
+use crate::tests::least_cursor::{LeastCursor, least, least_of_each};
 use crate::tests::visits::{dangerous_seek_as_steps, seeks_as_steps, takes_a_row, visits};
 use crate::{AllScorer, ConstScorer, Intersection, Scorer};
 use qm_docset::{DocId, DocSet, Score, TERMINATED};
@@ -29,10 +29,7 @@ fn common<'a>(
     ensures valid { IfOk result (λ s. ⟦<Intersection<LeastCursor<'a>, LeastCursor<'a>> as DocSet>⟧.valid s) }
     ensures placed { IfOk result (λ s. ⟦<Intersection<LeastCursor<'a>, LeastCursor<'a>> as DocSet>⟧.placed s) }
 {
-    let mut members = Vec::new(alloc);
-    for docs in lists {
-        members.push(least(rt, alloc, docs, weight, moves)?)?;
-    }
+    let members = least_of_each(rt, alloc, lists, weight, moves)?;
     Ok(Intersection::new(alloc, members, 10000)?)
 }
 

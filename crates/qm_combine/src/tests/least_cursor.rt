@@ -1,6 +1,6 @@
 //! A cursor that keeps the law of its trait and no more.
 
-ghost use Rattle.std.specs.Prelude.{◌≡◌, ℕ, ◌+◌, ◌*◌, ◌%◌, ◌≤◌, IfOk, IsTrue};
+ghost use Rattle.std.specs.Prelude.{◌≡◌, ℕ, ◌+◌, ◌*◌, ◌%◌, ◌≤◌, All, IfOk, IsTrue, length, vec_len};
 ghost use Rattle.std.proofs.Common.{arith};
 ghost use Rattle.qm_docset.specs.Documents.{AreEntries-documents};
 ghost use Rattle.qm_docset.specs.Entry.{Entry, documents, no_limits};
@@ -49,6 +49,25 @@ pub fn least<'a>(
         standing: true,
         moves,
     })
+}
+
+/// Such a cursor over each of these lists.
+pub fn least_of_each<'a>(
+    rt: &impl Abort,
+    alloc: Global,
+    lists: &[&[DocId]],
+    weight: u32,
+    moves: &'a Cell<u32>,
+) -> Result<Vec<LeastCursor<'a>>, Fail>
+    ensures count { IfOk result (λ row. vec_len row ≡ length lists.now) }
+    ensures valid { IfOk result (λ row. All ⟦<LeastCursor<'a> as DocSet>⟧.valid row.items) }
+    ensures placed { IfOk result (λ row. All ⟦<LeastCursor<'a> as DocSet>⟧.placed row.items) }
+{
+    let mut members = Vec::new(alloc);
+    for docs in lists {
+        members.push(least(rt, alloc, docs, weight, moves)?)?;
+    }
+    Ok(members)
 }
 
 impl<'a> LeastCursor<'a> {

@@ -1,8 +1,11 @@
 //! Calls under an allocator that refuses what it is told to: tests/refuse_memory.c, where it is
 //! preloaded. Without it nothing is refused, and `rt ci` runs these tests so.
 
+ghost use Rattle.std.specs.Prelude.{All, IfOk};
+
 use crate::tests::visits::visits;
-use crate::{AllScorer, Intersection};
+use crate::{AllScorer, BufferedUnionScorer, Disjunction, Intersection, Scorer, SumCombiner};
+use qm_docset::DocSet;
 use qm_schema::QueryError;
 use std::alloc::Global;
 use std::env;
@@ -47,5 +50,87 @@ fn an_intersection_is_refused_its_memory(rt: HostRuntime) -> Result<(), Fail> {
         false,
         "an intersection of two asks for memory twenty times"
     );
+    Ok(())
+}
+
+#[test]
+fn a_disjunction_is_refused_its_memory(rt: HostRuntime) -> Result<(), Fail> {
+    if !can_refuse(&rt) {
+        return Ok(());
+    }
+    for number in 1..20 {
+        let members = vec![in rt.alloc(); AllScorer::new(3), AllScorer::new(2)]?;
+        refuse(rt.alloc(), number);
+        let made = Disjunction::new(rt.alloc(), members, SumCombiner::default(), 2);
+        refuse(rt.alloc(), 0);
+        match made {
+            Ok(mut both) => {
+                assert!(rt; number > 1);
+                visits(&rt, &mut both, &[(0, 2), (1, 2)]);
+                return Ok(());
+            }
+            Err(error) => assert_eq!(rt; error, QueryError::Memory),
+        }
+    }
+    assert!(rt; false, "a disjunction of two asks for memory twenty times");
+    Ok(())
+}
+
+/// What two of the members have, which come without word of how many they are.
+fn of_unforetold<S: Scorer>(
+    alloc: Global,
+    members: Vec<S>,
+) -> Result<Disjunction<S, SumCombiner>, QueryError>
+    requires valid { All S.valid members.items }
+    requires placed { All S.placed members.items }
+    ensures valid { IfOk result (λ s. ⟦<Disjunction<S, SumCombiner> as DocSet>⟧.valid s) }
+    ensures placed { IfOk result (λ s. ⟦<Disjunction<S, SumCombiner> as DocSet>⟧.placed s) }
+{
+    let each = members.into_iter().filter(|_| true);
+    Disjunction::new(alloc, each, SumCombiner::default(), 2)
+}
+
+#[test]
+fn a_disjunction_is_refused_memory_for_one_member_more(rt: HostRuntime) -> Result<(), Fail> {
+    if !can_refuse(&rt) {
+        return Ok(());
+    }
+    for number in 1..20 {
+        let members = vec![in rt.alloc(); AllScorer::new(3), AllScorer::new(2)]?;
+        refuse(rt.alloc(), number);
+        let made = of_unforetold(rt.alloc(), members);
+        refuse(rt.alloc(), 0);
+        match made {
+            Ok(mut both) => {
+                assert!(rt; number > 1);
+                visits(&rt, &mut both, &[(0, 2), (1, 2)]);
+                return Ok(());
+            }
+            Err(error) => assert_eq!(rt; error, QueryError::Memory),
+        }
+    }
+    assert!(rt; false, "a disjunction of two asks for memory twenty times");
+    Ok(())
+}
+
+#[test]
+fn a_union_is_refused_no_more_than_its_memory(rt: HostRuntime) -> Result<(), Fail> {
+    if !can_refuse(&rt) {
+        return Ok(());
+    }
+    for number in 1..20 {
+        let members = vec![in rt.alloc(); AllScorer::new(3), AllScorer::new(2)]?;
+        refuse(rt.alloc(), number);
+        let made = BufferedUnionScorer::build(rt.alloc(), members, SumCombiner::default(), 3);
+        refuse(rt.alloc(), 0);
+        match made {
+            Ok(mut any) => {
+                visits(&rt, &mut any, &[(0, 2), (1, 2), (2, 1)]);
+                return Ok(());
+            }
+            Err(error) => assert_eq!(rt; error, QueryError::Memory),
+        }
+    }
+    assert!(rt; false, "a union of two asks for memory twenty times");
     Ok(())
 }

@@ -1,6 +1,6 @@
 ghost use Rattle.std.specs.Prelude.{IfOk};
 
-use crate::tests::least_cursor::{LeastCursor, least};
+use crate::tests::least_cursor::{LeastCursor, least, least_of_each};
 use crate::tests::visits::{dangerous_seek_as_steps, seeks_as_steps, visits};
 use crate::{
     AllScorer, BufferedUnionScorer, ConstScorer, DisjunctionMaxCombiner, DoNothingCombiner,
@@ -31,15 +31,12 @@ fn any<'a, C: ScoreCombiner>(
     ensures valid { IfOk result (λ s. ⟦<BufferedUnionScorer<LeastCursor<'a>, C> as DocSet>⟧.valid s) }
     ensures placed { IfOk result (λ s. ⟦<BufferedUnionScorer<LeastCursor<'a>, C> as DocSet>⟧.placed s) }
 {
-    let mut members = Vec::new(alloc);
-    for docs in lists {
-        members.push(least(rt, alloc, docs, weight, moves)?)?;
-    }
+    let members = least_of_each(rt, alloc, lists, weight, moves)?;
     Ok(BufferedUnionScorer::build(alloc, members, combiner, 10000)?)
 }
 
 #[test]
-fn goes_over_windows(rt: HostRuntime) -> Result<(), Fail> {
+fn goes_over_documents_far_apart(rt: HostRuntime) -> Result<(), Fail> {
     let moves = Cell::new(0);
     let lists: [&[DocId]; 2] = [&[0, 4096], &[4095, 8192]];
     let sum = SumCombiner::default();
@@ -89,6 +86,32 @@ fn combines_the_scores_of_a_document(rt: HostRuntime) -> Result<(), Fail> {
         &mut any(&rt, rt.alloc(), &[&[], &[]], sum, 5, &moves)?,
         &[],
     );
+    Ok(())
+}
+
+#[test]
+fn combines_five_members_of_which_some_are_equal(rt: HostRuntime) -> Result<(), Fail> {
+    let moves = Cell::new(0);
+    let lists: [&[DocId]; 5] = [&[1, 4, 6], &[1, 4, 6], &[1, 4, 6], &[], &[4]];
+    let sum = SumCombiner::default();
+    visits(
+        &rt,
+        &mut any(&rt, rt.alloc(), &lists, sum, 5, &moves)?,
+        &[(1, 30), (4, 20), (6, 15)],
+    );
+    Ok(())
+}
+
+#[test]
+fn takes_members_from_where_they_stand(rt: HostRuntime) -> Result<(), Fail> {
+    let moves = Cell::new(0);
+    let mut first = least(&rt, rt.alloc(), &[1, 3, 5, 7], 1, &moves)?;
+    let mut other = least(&rt, rt.alloc(), &[1, 3, 5, 7], 1, &moves)?;
+    first.advance();
+    other.seek(6);
+    let members = vec![in rt.alloc(); first, other]?;
+    let mut any = BufferedUnionScorer::build(rt.alloc(), members, SumCombiner::default(), 8)?;
+    visits(&rt, &mut any, &[(3, 2), (5, 2), (7, 4)]);
     Ok(())
 }
 

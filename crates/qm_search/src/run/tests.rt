@@ -36,8 +36,19 @@ fn writes_nothing_for_an_empty_script(rt: HostRuntime) {
 
 #[test]
 fn does_not_understand_what_it_does_not_serve(rt: HostRuntime) {
-    expect_run(&rt, b"scores all\n", b"line 1: not understood\n", 2);
-    let cases: [&[u8]; 20] = [
+    let cases: [&[u8]; 32] = [
+        b"count all",
+        b"prune 1 all",
+        b"top 1 all",
+        b"delete 0",
+        b"scores",
+        b"scores bool 0 1 ? term a",
+        b"segment a",
+        b"weight a",
+        b"weight a 1 2",
+        b"weight a -1",
+        b"weight a +1",
+        b"weight a 9223372036854775808",
         b"docs bool 0 2 + term a",
         b"docs",
         b"docs all all",
@@ -62,6 +73,42 @@ fn does_not_understand_what_it_does_not_serve(rt: HostRuntime) {
     for script in cases {
         expect_run(&rt, script, b"line 1: not understood\n", 2);
     }
+}
+
+#[test]
+fn scores_documents_of_several_segments(rt: HostRuntime) {
+    // 1000 / 3 and 500 / 3, then 1000 * 2 / 5 and 500 / 4, each rounded down
+    let script =
+        b"doc a b\ndoc a\nsegment\ndoc a a b\nweight b 500\nscores bool 0 2 + term a + term b\ndocs term a\n";
+    expect_run(&rt, script, b"0:499 2:525\n0 1 2\n", 0);
+    // the second of three segments is empty
+    let script =
+        b"doc a\nsegment\nsegment\ndoc b\ndoc a\nscores term a\nscores all\nscores none\ndocs all\n";
+    expect_run(&rt, script, b"0:500 2:500\n0:1 1:1 2:1\n\n0 1 2\n", 0);
+}
+
+#[test]
+fn takes_documents_and_weights_between_queries(rt: HostRuntime) {
+    let script =
+        b"doc a\nscores term a\ndoc a a\nweight a 100\nscores term a\nsegment\nscores term a\nweight a 1\ndoc a\nscores term a\n";
+    expect_run(
+        &rt,
+        script,
+        b"0:500\n0:50 1:50\n0:50 1:50\n0:0 1:0 2:0\n",
+        0,
+    );
+}
+
+#[test]
+fn refuses_weights_that_pass_the_greatest_score(rt: HostRuntime) {
+    let script =
+        b"doc a\nweight a 9223372036854775807\nscores term a\nscores bool 0 2 + term a + term a\nscores bool 1 2 + term a + term a\n";
+    expect_run(
+        &rt,
+        script,
+        b"0:4611686018427387903\nline 4: refused 9\n\n",
+        1,
+    );
 }
 
 #[test]

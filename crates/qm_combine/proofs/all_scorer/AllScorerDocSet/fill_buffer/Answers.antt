@@ -1,4 +1,4 @@
-use Rattle.std.proofs.Common.{◌≡◌, ◌-◌, ◌≤◌, min, length, ap, sym, arith, ◌∙◌}
+use Rattle.std.proofs.Common.{◌≡◌, ◌-◌, min, ap, sym, arith, ◌∙◌}
 use Rattle.std.specs.List.{range_with_len}
 use Rattle.qm_combine.specs.AllDocumentsFacts.{documents-all_from, drop-all_from, length-all_from}
 use Rattle.qm_combine.proofs.Counting.{take-counted}

@@ -1,6 +1,5 @@
 -- The members stand where they were.
 use Rattle.std.proofs.Common.{map, arith, ap, ◌∙◌}
-use Rattle.qm_combine.specs.Combine.{combine}
 use Rattle.qm_combine.specs.Union.{least_head}
 use Rattle.qm_combine.proofs.Uniting.{head_document-members, least_head-le}
 use Rattle.qm_combine.proofs.buffered_union.BufferedUnionScorer.build.Goals as goal

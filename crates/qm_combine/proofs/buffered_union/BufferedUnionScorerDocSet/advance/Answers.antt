@@ -1,13 +1,12 @@
 -- Past the document that it stands on lie all others.
 use Rattle.std.proofs.Common.{◌+◌, map, min, arith, ap, ◌∙◌}
-use Rattle.qm_docset.specs.Entry.{AreEntries, from}
+use Rattle.qm_docset.specs.Entry.{from}
 use Rattle.qm_docset.specs.EntryFacts.{head_document-bounds}
 use Rattle.qm_docset.specs.Gather.{gather}
 use Rattle.qm_docset.specs.declared.doc_set.TheConstants.{TERMINATED}
 use Rattle.qm_combine.specs.Combine.{combine}
-use Rattle.qm_combine.specs.Union.{united_limits, AreEntries-union}
+use Rattle.qm_combine.specs.Union.{AreEntries-union}
 use Rattle.qm_combine.proofs.Uniting.{next_or_end}
-use Rattle.qm_combine.proofs.buffered_union.BufferedUnionScorerDocSet.advance.Given.{Over}
 use Rattle.qm_combine.proofs.buffered_union.BufferedUnionScorerDocSet.advance.Goals as goal
 
 pub overflow_add-self : goal.overflow_add-self

@@ -1,5 +1,5 @@
 -- Each member is sent to the target.
-use Rattle.std.proofs.Common.{◌≡◌, map, length, arith, ap, ◌∙◌}
+use Rattle.std.proofs.Common.{map, length, arith, ap, ◌∙◌}
 use Rattle.qm_docset.specs.Entry.{from}
 use Rattle.qm_combine.proofs.Leading.{whole}
 use Rattle.qm_combine.proofs.Uniting.{union-sought, head_document-members, least_head-le}

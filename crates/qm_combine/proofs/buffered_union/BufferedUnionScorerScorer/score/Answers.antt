@@ -1,14 +1,12 @@
 -- The score is made of those of the members that stand on the document.
-use Rattle.std.proofs.Common.{◌≡◌, ◌+◌, ◌<◌, ◌≤◌, fold, map, pos, sum, w64, arith, ap, subst, sym, ◌∙◌}
+use Rattle.std.proofs.Common.{◌≡◌, ◌<◌, fold, map, pos, w64, arith, ap, subst, sym, ◌∙◌}
 use Rattle.std.proofs.lemmas.Int.{to_z-of_z}
-use Rattle.qm_docset.specs.Entry.{greatest_score, head_document}
 use Rattle.qm_docset.specs.Gather.{scores_at}
 use Rattle.qm_docset.specs.GatherFacts.{AreMembers-map, sum-scores_at}
 use Rattle.qm_docset.specs.declared.doc_set.TheConstants.{TERMINATED}
 use Rattle.qm_combine.specs.Combine.{combine}
 use Rattle.qm_combine.specs.Union.{least_head}
 use Rattle.qm_combine.proofs.Uniting.{head_document-members, head_score-members}
-use Rattle.qm_combine.proofs.buffered_union.BufferedUnionScorerScorer.score.Given.{Over}
 use Rattle.qm_combine.proofs.buffered_union.BufferedUnionScorerScorer.score.Goals as goal
 
 pub score-requires : goal.score-requires

@@ -1,14 +1,13 @@
 -- The combiner takes in the score of a member that stands on the document, and no other.
-use Rattle.std.proofs.Common.{◌≡◌, ◌≢◌, ◌+◌, ◌<◌, ◌≤◌, [], ◌∷◌, ◌++◌, All, fold, map, length, get_or, set, take, arith, ap, sym, subst, refl, ◌∙◌}
+use Rattle.std.proofs.Common.{◌≡◌, ◌+◌, ◌<◌, ◌≤◌, [], ◌∷◌, All, fold, map, length, get_or, take, arith, ap, sym, subst, refl, ◌∙◌}
 use Rattle.std.proofs.lemmas.List.Elements.{All-set, All-get_or}
 use Rattle.std.proofs.lemmas.List.Sums.{fold-append}
-use Rattle.qm_docset.specs.Entry.{Limits, AreEntries, greatest_score, head_document, head_score}
+use Rattle.qm_docset.specs.Entry.{AreEntries, greatest_score, head_document, head_score}
 use Rattle.qm_docset.specs.Gather.{scores_at}
 use Rattle.qm_docset.specs.GatherFacts.{scores_at-nil}
 use Rattle.qm_combine.specs.Union.{total_top}
 use Rattle.qm_combine.proofs.EachMember.{map-set_same}
 use Rattle.qm_combine.proofs.Uniting.{room_left, scores_at-more, scores_at-more_ahead}
-use Rattle.qm_combine.proofs.buffered_union.members.combine_at.Given.{Over}
 use Rattle.qm_combine.proofs.buffered_union.members.combine_at.Goals as goal
 use Rattle.qm_combine.proofs.buffered_union.members.combine_at.Goals.{then-doc, else-doc}
 

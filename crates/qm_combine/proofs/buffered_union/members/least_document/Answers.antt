@@ -1,6 +1,5 @@
 -- One more member is asked.
-use Rattle.std.proofs.Common.{◌≡◌, ◌+◌, ◌<◌, ◌++◌, [], ◌∷◌, map, length, take, arith, ap, ◌∙◌}
-use Rattle.std.proofs.lemmas.List.{length-map, get_or-map, take_more}
+use Rattle.std.proofs.Common.{map, take, arith, ap}
 use Rattle.qm_combine.specs.Union.{least_head}
 use Rattle.qm_combine.proofs.Uniting.{least_head-push}
 use Rattle.qm_combine.proofs.EachMember.{take-map_more}

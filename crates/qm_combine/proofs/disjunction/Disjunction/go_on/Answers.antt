@@ -1,15 +1,13 @@
 -- What is found is what was gathered, in an order of the members that is of no consequence.
-use Rattle.std.proofs.Common.{◌≡◌, ◌≤◌, All, max, nat_abs, map, pos, rules, arith, ap, subst, sym, ◌∙◌, FitsSigned, w64}
+use Rattle.std.proofs.Common.{All, max, nat_abs, map, pos, rules, arith, ap, subst, sym, ◌∙◌, FitsSigned, w64}
 use Rattle.std.proofs.lemmas.Int.{to_z-of_z}
-use Rattle.std.specs.BinaryHeap.{IsHeap, heap_items}
-use Rattle.std.specs.List.Sorted.{IsPermutation}
-use Rattle.qm_docset.specs.Entry.{AreEntries, Entry, Limits, from, greatest_score, head_document, head_score}
-use Rattle.qm_docset.specs.Gather.{gather, scored, scores_at}
+use Rattle.std.specs.BinaryHeap.{heap_items}
+use Rattle.qm_docset.specs.Entry.{AreEntries}
+use Rattle.qm_docset.specs.Gather.{gather}
 use Rattle.qm_combine.specs.Combine.{combine}
-use Rattle.qm_combine.specs.Disjunction.{led_by, led_by-here, led_by-ended}
-use Rattle.qm_combine.specs.Union.{least_head, total_top, united_limits, AreEntries-union}
+use Rattle.qm_combine.specs.Disjunction.{led_by}
+use Rattle.qm_combine.specs.Union.{united_limits, AreEntries-union}
 use Rattle.qm_combine.specs.declared.disjunction.scorer_wrapper.ScorerWrapper.{ScorerWrapper}
-use Rattle.qm_docset.specs.declared.doc_set.TheConstants.{TERMINATED}
 use Rattle.qm_combine.proofs.Chained.{head_document-led_by, total_top-permutation, united-permutation}
 use Rattle.qm_combine.proofs.disjunction.Disjunction.go_on.Goals as goal
 

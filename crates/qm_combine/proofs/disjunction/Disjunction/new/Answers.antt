@@ -1,38 +1,31 @@
--- The heap has the members in an order of its own, which is of no consequence.
-use Rattle.std.proofs.Common.{◌≡◌, ◌≤◌, All, max, nat_abs, map, pos, rules, arith, ap, subst, sym, ◌∙◌, to_z, of_z, w64}
-use Rattle.qm_docset.proofs.Gathering.{gather-permutation}
-use Rattle.std.specs.BinaryHeap.{IsHeap, heap_items}
-use Rattle.std.specs.List.Sorted.{IsPermutation}
-use Rattle.qm_docset.specs.Entry.{AreEntries, Entry, Limits, from, greatest_score, head_document, head_score}
-use Rattle.qm_docset.specs.Gather.{gather, scored, scores_at}
-use Rattle.qm_combine.specs.Combine.{combine}
-use Rattle.qm_combine.specs.Disjunction.{led_by, led_by-here, led_by-ended}
-use Rattle.qm_combine.specs.Union.{least_head, total_top, united_limits, AreEntries-union}
-use Rattle.qm_combine.specs.declared.disjunction.scorer_wrapper.ScorerWrapper.{ScorerWrapper}
-use Rattle.qm_docset.specs.declared.doc_set.TheConstants.{TERMINATED}
-use Rattle.qm_combine.proofs.Chained.{any_order, read-through, total_top-permutation, united-permutation}
+-- The members in the row are those that the iterator gave.
+use Rattle.std.proofs.Common.{All, IfOk, List, subst}
+use Rattle.std.specs.declared.option.Option.{Option}
+use Rattle.std.specs.declared.result.Result.{Result}
+use Rattle.std.specs.declared.result.Result.TheVariants.{Ok, Err}
+use Rattle.qm_combine.specs.Given.{Gives, GivesOnly}
 use Rattle.qm_combine.proofs.disjunction.Disjunction.new.Goals as goal
 
-pub go_on-requires-clause-room : goal.go_on-requires-clause-room
-go_on-requires-clause-room g c =
-    let fits : total_top (map g.S.DocSet.limits c.args.docsets.items) ≤ greatest_score = search rules in
-    let moved = read-through g.S.DocSet.limits (λ (w : ScorerWrapper g.row.S.Denot). w.scorer) c.args.docsets.items _ c.in_ok-chain.ensures.members in
-    omega (arith, total_top-permutation _ _ moved, fits)
+all_three : {T E : Type 0} (r : Result T E) (P Q R W : T → Type 0) → ((x : T) → P x → Q x → R x → W x) → IfOk r P → IfOk r Q → IfOk r R → IfOk r W
+all_three (Ok x) P Q R W give p q r = give x p q r
+all_three (Err e) P Q R W give p q r = tt
 
-pub go_on-requires-clause-bound : goal.go_on-requires-clause-bound
-go_on-requires-clause-bound g c =
-    let moved = read-through g.S.DocSet.limits (λ (w : ScorerWrapper g.row.S.Denot). w.scorer) c.args.docsets.items _ c.in_ok-chain.ensures.members in
-    let whole : to_z w64 (of_z w64 c.max.result) ≡ pos (max 1 (total_top (map g.S.DocSet.limits c.args.docsets.items))) = search rules in
-    whole ∙ ap (λ n. pos (max 1 n)) (sym (total_top-permutation _ _ moved))
+each_given : {U T A : Type 0} (becomes : U → T → Type 0) (steps : T → Option A → T → Type 0) (x : U) (items : List A) (P : A → Type 0) → Gives becomes steps x items → GivesOnly becomes steps P x → All P items
+each_given becomes steps x items P given only =
+    let run = given.2 in
+    subst (All P) run.3 (only given.0 given.1 run.0 run.0.seen run.1)
 
-pub returns-clause-entries : goal.returns-clause-entries
-returns-clause-entries g c =
-    let moved = read-through g.S.DocSet.entries (λ (w : ScorerWrapper g.row.S.Denot). w.scorer) c.args.docsets.items _ c.in_ok-chain.ensures.members in
-    let start = c.clear.new.self in
-    let same = gather-permutation c.args.minimum (combine g.C.ScoreCombiner.step g.C.ScoreCombiner.value start) _ _ (any_order g.C.ScoreCombiner.step g.C.ScoreCombiner.value g.met.C.ScoreCombiner.commutes start) moved in
-    c.go_on.ensures.entries ∙ sym same ∙ ap (λ s. gather c.args.minimum (combine g.C.ScoreCombiner.step g.C.ScoreCombiner.value s) (map g.S.DocSet.entries c.args.docsets.items)) c.clear.ensures
+pub of-requires-clause-valid : goal.of-requires-clause-valid
+of-requires-clause-valid g c =
+    each_given g.I.IntoIterator.into_iter_gives g.I.IntoIter.Iterator.next_gives c.args.docsets c.in_ok-members.members.items g.S.DocSet.valid c.in_ok-members.ensures c.requires.valid
 
-pub returns-clause-limits : goal.returns-clause-limits
-returns-clause-limits g c =
-    let moved = read-through g.S.DocSet.limits (λ (w : ScorerWrapper g.row.S.Denot). w.scorer) c.args.docsets.items _ c.in_ok-chain.ensures.members in
-    c.go_on.ensures.limits ∙ sym (united-permutation _ _ moved)
+pub of-requires-clause-placed : goal.of-requires-clause-placed
+of-requires-clause-placed g c =
+    each_given g.I.IntoIterator.into_iter_gives g.I.IntoIter.Iterator.next_gives c.args.docsets c.in_ok-members.members.items g.S.DocSet.placed c.in_ok-members.ensures c.requires.placed
+
+pub returns-clause-refused : goal.returns-clause-refused
+returns-clause-refused g c = λ refused. (c.in_ok-members.members.items, c.in_ok-members.ensures, c.of.ensures.refused.0 refused)
+
+pub returns-clause-made : goal.returns-clause-made
+returns-clause-made g c =
+    all_three c.of.result _ _ _ _ (λ s fits entries limits. (c.in_ok-members.members.items, c.in_ok-members.ensures, fits, entries, limits)) c.of.ensures.fits c.of.ensures.entries c.of.ensures.limits

@@ -1,14 +1,9 @@
 -- Members that are brought to the target gather what is left from there on.
-use Rattle.std.proofs.Common.{◌≡◌, map, nat_abs, arith, sym, ◌∙◌}
-use Rattle.std.specs.BinaryHeap.{IsHeap, heap_items}
-use Rattle.std.specs.List.Sorted.{IsPermutation}
-use Rattle.qm_docset.specs.Entry.{AreEntries, Entry, Limits, from, greatest_score, head_document, head_score}
-use Rattle.qm_docset.specs.Gather.{gather, scored, scores_at}
+use Rattle.std.proofs.Common.{map, nat_abs, arith, sym, ◌∙◌}
+use Rattle.std.specs.BinaryHeap.{heap_items}
+use Rattle.qm_docset.specs.Gather.{gather}
 use Rattle.qm_combine.specs.Combine.{combine}
-use Rattle.qm_combine.specs.Disjunction.{led_by, led_by-here, led_by-ended}
-use Rattle.qm_combine.specs.Union.{least_head, total_top, united_limits, AreEntries-union}
 use Rattle.qm_combine.specs.declared.disjunction.scorer_wrapper.ScorerWrapper.{ScorerWrapper}
-use Rattle.qm_docset.specs.declared.doc_set.TheConstants.{TERMINATED}
 use Rattle.qm_combine.proofs.Chained.{any_order, gather-brought, head_document-led_by, led_by-reached, led_by-sought, lists_of, moved-lists, standing_members, united-permutation}
 use Rattle.qm_combine.proofs.disjunction.DisjunctionDocSet.seek.Goals as goal
 

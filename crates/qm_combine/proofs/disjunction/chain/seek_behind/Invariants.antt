@@ -1,11 +1,8 @@
-use Rattle.std.proofs.Common.{◌≡◌, ℕ, All, length, map, sum_by}
+use Rattle.std.proofs.Common.{◌≡◌, All, length, map, sum_by}
 use Rattle.std.specs.BinaryHeap.{IsHeap, heap_items}
 use Rattle.std.specs.List.Sorted.{IsPermutation}
-use Rattle.qm_docset.specs.Entry.{from, greatest_score, head_document, head_score}
-use Rattle.qm_docset.specs.Gather.{gather, scores_at}
-use Rattle.qm_combine.specs.Combine.{combine}
-use Rattle.qm_combine.specs.Disjunction.{HasRoomFor, least_first, led_by, tops_at}
-use Rattle.qm_combine.specs.Union.{least_head, total_top}
+use Rattle.qm_docset.specs.Entry.{from, head_document}
+use Rattle.qm_combine.specs.Disjunction.{least_first}
 use Rattle.qm_combine.specs.declared.disjunction.scorer_wrapper.ScorerWrapper.{ScorerWrapper}
 use Rattle.qm_combine.proofs.disjunction.chain.seek_behind.Given as goal
 

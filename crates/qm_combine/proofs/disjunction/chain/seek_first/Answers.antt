@@ -1,4 +1,4 @@
-use Rattle.std.proofs.Common.{◌≡◌, ◌<◌, rules, arith, length, ap, ◌∙◌}
+use Rattle.std.proofs.Common.{◌≡◌, rules, arith, ap, ◌∙◌}
 use Rattle.qm_docset.specs.Entry.{from, head_document}
 use Rattle.qm_docset.specs.EntryFacts.{from-from}
 use Rattle.qm_combine.proofs.Chained.{moved-fewer, replaced-all, replaced-same}

@@ -1,12 +1,11 @@
 -- Each score that is taken leaves the others of the document to come.
-use Rattle.std.proofs.Common.{◌≡◌, ℕ, ◌+◌, ◌<◌, ◌≤◌, [], ◌∷◌, fold, length, map, arith, ap, sym, subst, refl, ◌∙◌}
-use Rattle.std.specs.BinaryHeap.{IsHeap, heap_items}
+use Rattle.std.proofs.Common.{◌≡◌, ◌+◌, ◌<◌, ◌∷◌, fold, length, map, arith, ap, sym, subst, refl, ◌∙◌}
+use Rattle.std.specs.BinaryHeap.{heap_items}
 use Rattle.std.specs.List.Sorted.{IsPermutation}
-use Rattle.qm_docset.specs.Entry.{from, greatest_score, head_document, head_score}
-use Rattle.qm_docset.specs.Gather.{gather, scores_at}
-use Rattle.qm_combine.specs.Combine.{combine}
-use Rattle.qm_combine.specs.Disjunction.{HasRoomFor, least_first, led_by, tops_at}
-use Rattle.qm_combine.specs.Union.{least_head, total_top}
+use Rattle.qm_docset.specs.Entry.{from}
+use Rattle.qm_docset.specs.Gather.{scores_at}
+use Rattle.qm_combine.specs.Disjunction.{HasRoomFor, tops_at}
+use Rattle.qm_combine.specs.Union.{least_head}
 use Rattle.qm_combine.specs.declared.disjunction.scorer_wrapper.ScorerWrapper.{ScorerWrapper}
 use Rattle.std.proofs.lemmas.List.{length-map}
 use Rattle.std.proofs.lemmas.List.Sorted.{IsPermutation-refl, IsPermutation-trans, length_permutation}

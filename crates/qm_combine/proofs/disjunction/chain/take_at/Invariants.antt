@@ -1,11 +1,10 @@
-use Rattle.std.proofs.Common.{◌≡◌, ℕ, ◌+◌, ◌≤◌, All, fold, length, map}
+use Rattle.std.proofs.Common.{◌≡◌, ◌+◌, ◌≤◌, All, fold, length, map}
 use Rattle.std.specs.BinaryHeap.{IsHeap, heap_items}
 use Rattle.std.specs.List.Sorted.{IsPermutation}
-use Rattle.qm_docset.specs.Entry.{from, greatest_score, head_document, head_score}
-use Rattle.qm_docset.specs.Gather.{gather, scores_at}
-use Rattle.qm_combine.specs.Combine.{combine}
-use Rattle.qm_combine.specs.Disjunction.{HasRoomFor, least_first, led_by, tops_at}
-use Rattle.qm_combine.specs.Union.{least_head, total_top}
+use Rattle.qm_docset.specs.Entry.{from, head_document}
+use Rattle.qm_docset.specs.Gather.{scores_at}
+use Rattle.qm_combine.specs.Disjunction.{HasRoomFor, least_first, tops_at}
+use Rattle.qm_combine.specs.Union.{least_head}
 use Rattle.qm_combine.specs.declared.disjunction.scorer_wrapper.ScorerWrapper.{ScorerWrapper}
 use Rattle.qm_combine.proofs.disjunction.chain.take_at.Given as goal
 

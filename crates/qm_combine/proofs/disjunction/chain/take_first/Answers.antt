@@ -1,20 +1,12 @@
 -- The first of the heap gives its score and steps on.
-use Rattle.std.proofs.Common.{◌≡◌, ℕ, ◌+◌, ◌<◌, ◌≤◌, [], ◌∷◌, ◌++◌, fold, length, map, drop, rules, arith, ap, sym, subst, refl, ◌∙◌}
-use Rattle.std.specs.BinaryHeap.{IsHeap, heap_items}
-use Rattle.std.specs.List.Sorted.{IsPermutation}
-use Rattle.qm_docset.specs.Entry.{from, greatest_score, head_document, head_score}
-use Rattle.qm_docset.specs.Gather.{gather, scores_at}
-use Rattle.qm_combine.specs.Combine.{combine}
-use Rattle.qm_combine.specs.Disjunction.{HasRoomFor, least_first, led_by, tops_at}
-use Rattle.qm_combine.specs.Union.{least_head, total_top}
+use Rattle.std.proofs.Common.{◌≡◌, ◌+◌, [], ◌∷◌, ◌++◌, map, drop, rules, arith, ap, sym, subst, ◌∙◌}
+use Rattle.std.specs.BinaryHeap.{heap_items}
+use Rattle.qm_docset.specs.Entry.{from, head_document, head_score}
+use Rattle.qm_combine.specs.Union.{least_head}
 use Rattle.qm_combine.specs.declared.disjunction.scorer_wrapper.ScorerWrapper.{ScorerWrapper}
-use Rattle.std.specs.BinaryHeap.{IsUpperBound}
 use Rattle.std.proofs.lemmas.List.Sorted.{IsPermutation-refl}
-use Rattle.std.proofs.lemmas.List.Elements.{All-head}
-use Rattle.std.proofs.lemmas.List.Sorted.{All-permutation}
 use Rattle.std.proofs.lemmas.List.Sums.{fold-append}
-use Rattle.qm_docset.specs.declared.doc_set.TheConstants.{TERMINATED}
-use Rattle.qm_combine.proofs.Chained.{Stands, replaced-same, replaced-all, least_head-first, room-first, room-rest, taken-scores, taken-forward, taken-kept}
+use Rattle.qm_combine.proofs.Chained.{replaced-same, replaced-all, least_head-first, room-first, room-rest, taken-scores, taken-forward, taken-kept}
 use Rattle.qm_combine.proofs.disjunction.chain.take_first.Goals as goal
 
 pub take-requires-clause-here : goal.take-requires-clause-here

@@ -1,17 +1,15 @@
 -- The least document is what comes next where enough members have it; else nothing is lost past it.
-use Rattle.std.proofs.Common.{◌≡◌, ◌+◌, ◌<◌, ◌≤◌, [], ◌∷◌, length, map, nat_abs, rules, arith, ap, refl, subst, sym, ◌∙◌, FitsSigned, w64}
-use Rattle.std.specs.List.{fold, sum}
+use Rattle.std.proofs.Common.{◌+◌, ◌<◌, ◌≤◌, [], ◌∷◌, length, nat_abs, rules, arith, ap, subst, sym, ◌∙◌, FitsSigned, w64}
+use Rattle.std.specs.List.{fold}
 use Rattle.std.proofs.lemmas.Int.{to_z-of_z}
 use Rattle.std.proofs.lemmas.List.{length-map}
-use Rattle.std.proofs.lemmas.List.Sorted.{IsPermutation-refl, IsPermutation-trans}
+use Rattle.std.proofs.lemmas.List.Sorted.{IsPermutation-trans}
 use Rattle.qm_docset.specs.GatherFacts.{sum-scores_at}
-use Rattle.std.specs.BinaryHeap.{IsHeap, heap_items}
-use Rattle.std.specs.List.Sorted.{IsPermutation}
-use Rattle.qm_docset.specs.Entry.{AreEntries, Entry, Limits, from, greatest_score, head_document, head_score}
+use Rattle.std.specs.BinaryHeap.{heap_items}
 use Rattle.qm_docset.specs.Gather.{gather, scored, scores_at}
 use Rattle.qm_combine.specs.Combine.{combine}
-use Rattle.qm_combine.specs.Disjunction.{led_by, led_by-here, led_by-ended}
-use Rattle.qm_combine.specs.Union.{least_head, total_top, united_limits, AreEntries-union}
+use Rattle.qm_combine.specs.Disjunction.{led_by-here, led_by-ended}
+use Rattle.qm_combine.specs.Union.{least_head}
 use Rattle.qm_combine.specs.declared.disjunction.scorer_wrapper.ScorerWrapper.{ScorerWrapper}
 use Rattle.qm_docset.specs.declared.doc_set.TheConstants.{TERMINATED}
 use Rattle.qm_combine.proofs.Chained.{any_order, gather-few, gather-met, gather-missed, gather-over, lists_of, moved-lists, standing_members, tops_at-total, total_top-permutation}

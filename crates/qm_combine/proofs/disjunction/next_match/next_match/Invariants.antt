@@ -1,11 +1,11 @@
-use Rattle.std.proofs.Common.{◌≡◌, ℕ, ◌-◌, All, length, map}
+use Rattle.std.proofs.Common.{◌≡◌, ◌-◌, All, map}
 use Rattle.std.specs.BinaryHeap.{IsHeap, heap_items}
 use Rattle.std.specs.List.Sorted.{IsPermutation}
-use Rattle.qm_docset.specs.Entry.{AreEntries, Entry, Limits, from, greatest_score, head_document, head_score}
-use Rattle.qm_docset.specs.Gather.{gather, scored, scores_at}
+use Rattle.qm_docset.specs.Entry.{head_document}
+use Rattle.qm_docset.specs.Gather.{gather}
 use Rattle.qm_combine.specs.Combine.{combine}
-use Rattle.qm_combine.specs.Disjunction.{HasRoomFor, least_first, led_by, led_by-here, led_by-ended, tops_at}
-use Rattle.qm_combine.specs.Union.{least_head, total_top, united_limits, AreEntries-union}
+use Rattle.qm_combine.specs.Disjunction.{least_first}
+use Rattle.qm_combine.specs.Union.{least_head}
 use Rattle.qm_combine.specs.declared.disjunction.scorer_wrapper.ScorerWrapper.{ScorerWrapper}
 use Rattle.qm_docset.specs.declared.doc_set.TheConstants.{TERMINATED}
 use Rattle.qm_combine.proofs.disjunction.next_match.next_match.Given as goal

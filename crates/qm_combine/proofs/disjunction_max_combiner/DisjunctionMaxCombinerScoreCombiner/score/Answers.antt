@@ -1,5 +1,5 @@
 -- The share of the other scores, taken in two parts, is the share of them together.
-use Rattle.std.proofs.Common.{◌≡◌, ◌+◌, ◌-◌, ◌*◌, ◌/◌, ◌%◌, ◌≤◌, arith}
+use Rattle.std.proofs.Common.{◌-◌, arith}
 use Rattle.std.proofs.lemmas.Int.{ints}
 use Rattle.qm_combine.specs.CombineFacts.{thousandths-parts, thousandths-le}
 use Rattle.qm_combine.proofs.disjunction_max_combiner.DisjunctionMaxCombinerScoreCombiner.score.Goals as goal

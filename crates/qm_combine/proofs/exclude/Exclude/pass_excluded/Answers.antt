@@ -1,5 +1,5 @@
 -- The set may forget what lies before the document that it was asked for.
-use Rattle.std.proofs.Common.{◌≡◌, ◌<◌, ◌≤◌, true, arith, ap, sym, ◌∙◌}
+use Rattle.std.proofs.Common.{◌≡◌, ◌<◌, true, arith, ap, sym, ◌∙◌}
 use Rattle.qm_docset.specs.Entry.{head_document}
 use Rattle.qm_docset.specs.declared.doc_set.TheConstants.{TERMINATED}
 use Rattle.qm_combine.specs.Without.{without}

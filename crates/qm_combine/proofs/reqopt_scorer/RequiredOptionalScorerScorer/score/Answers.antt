@@ -1,15 +1,17 @@
 -- The combiner takes the scores of the document: that of the required scorer, and that of the
 -- optional one where it has the document.
-use Rattle.std.proofs.Common.{rules, ◌≡◌, ℕ, ◌+◌, ◌≤◌, ◌<◌, [], ◌∷◌, arith, refl, sym, ap, subst, ◌∙◌, pos, FitsSigned, w64}
-use Rattle.std.specs.List.{fold, sum}
+use Rattle.std.proofs.Common.{rules, ◌≡◌, ℕ, ◌<◌, [], ◌∷◌, arith, refl, sym, ap, subst, ◌∙◌, pos, FitsSigned, w64}
+use Rattle.std.specs.List.{fold}
 use Rattle.std.proofs.lemmas.Int.{to_z-of_z}
 use Rattle.std.proofs.lemmas.List.Sums.{sum_by-cons}
 use Rattle.qm_docset.specs.Entry.{head_document, head_score}
+use Rattle.qm_docset.specs.Gather.{scores_at}
 use Rattle.qm_docset.specs.declared.doc_set.TheConstants.{TERMINATED}
 use Rattle.qm_combine.specs.Combine.{combine}
-use Rattle.qm_combine.specs.Rescored.{scores_of, with_optional}
+use Rattle.qm_combine.specs.Rescored.{with_optional}
 use Rattle.qm_combine.specs.RescoredFacts.{head_document-rescored, head_score-rescored, head_score-le}
-use Rattle.qm_combine.specs.OptionalFacts.{sum-scores_of, with_optional-reached}
+use Rattle.qm_combine.specs.OptionalFacts.{sum-scores_at_one}
+use Rattle.qm_combine.proofs.OptionalScores.{with_optional-reached}
 use Rattle.qm_combine.proofs.reqopt_scorer.RequiredOptionalScorerScorer.score.Goals as goal
 
 same_room : {C : Type 0} (has_room : C → ℕ → Type 0) (a b : C) (x y : ℕ) → a ≡ b → x ≡ y → has_room b y → has_room a x
@@ -35,10 +37,10 @@ score-requires g c =
     let os = g.O.DocSet.entries c.args.self.now.optional in
     let own = head_score rs in
     let own_most = head_score-le 0 _ rs (g.met.R.DocSet.ascending c.args.self.now.required c.requires.valid.0) in
-    let optional_most = sum-scores_of c.doc-doc.result 0 _ os (g.met.O.DocSet.ascending c.args.self.now.optional c.requires.valid.1) in
-    let scores = own ∷ scores_of c.doc-doc.result os in
-    let total = sum_by-cons (λ n. n) own (scores_of c.doc-doc.result os) in
-    let taken = c.add_optional.ensures.state ∙ ap (λ s. fold g.C.ScoreCombiner.step s (scores_of c.doc-doc.result os)) (c.update.ensures.state ∙ ap (λ s. g.C.ScoreCombiner.step s own) c.requires.valid.4.1) in
+    let optional_most = sum-scores_at_one c.doc-doc.result _ os (g.met.O.DocSet.ascending c.args.self.now.optional c.requires.valid.1) in
+    let scores = own ∷ scores_at c.doc-doc.result (os ∷ []) in
+    let total = sum_by-cons (λ n. n) own (scores_at c.doc-doc.result (os ∷ [])) in
+    let taken = c.add_optional.ensures.state ∙ ap (λ s. fold g.C.ScoreCombiner.step s (scores_at c.doc-doc.result (os ∷ []))) (c.update.ensures.state ∙ ap (λ s. g.C.ScoreCombiner.step s own) c.requires.valid.4.1) in
     same_room g.C.ScoreCombiner.has_room _ _ _ _ taken refl (g.met.C.ScoreCombiner.room start scores 0 (omega arith))
 
 pub returns-clause-score : goal.returns-clause-score
@@ -46,12 +48,12 @@ returns-clause-score g c =
     let rs = g.R.DocSet.entries c.args.self.now.required in
     let os = g.O.DocSet.entries c.args.self.now.optional in
     let combined = combine g.C.ScoreCombiner.step g.C.ScoreCombiner.value c.args.self.now.combiner in
-    let here : head_document rs < TERMINATED = omega (arith, c.requires.here, head_document-rescored (λ e. combined (e.score ∷ scores_of e.document os)) rs) in
+    let here : head_document rs < TERMINATED = omega (arith, c.requires.here, head_document-rescored (λ e. combined (e.score ∷ scores_at e.document (os ∷ []))) rs) in
     let fits : FitsSigned w64 c.score.result = search rules in
-    let taken = c.add_optional.ensures.state ∙ ap (λ s. fold g.C.ScoreCombiner.step s (scores_of c.doc-doc.result os)) c.update.ensures.state in
+    let taken = c.add_optional.ensures.state ∙ ap (λ s. fold g.C.ScoreCombiner.step s (scores_at c.doc-doc.result (os ∷ []))) c.update.ensures.state in
     to_z-of_z w64 c.score.result fits ∙ c.score.ensures ∙ ap (λ s. pos (g.C.ScoreCombiner.value s)) taken
-    ∙ ap (λ d. pos (combined (head_score rs ∷ scores_of d os))) c.doc-doc.ensures
-    ∙ ap pos (sym (head_score-rescored (λ e. combined (e.score ∷ scores_of e.document os)) rs here))
+    ∙ ap (λ d. pos (combined (head_score rs ∷ scores_at d (os ∷ [])))) c.doc-doc.ensures
+    ∙ ap pos (sym (head_score-rescored (λ e. combined (e.score ∷ scores_at e.document (os ∷ []))) rs here))
 
 pub returns-clause-entries : goal.returns-clause-entries
 returns-clause-entries g c =

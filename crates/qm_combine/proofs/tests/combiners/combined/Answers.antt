@@ -1,6 +1,5 @@
 -- There is room for two scores that are each below half of what there is room for.
-use Rattle.std.proofs.Common.{◌≡◌, ℕ, [], ◌∷◌, arith, refl, sym, ap, subst, ◌∙◌}
-use Rattle.std.specs.List.{fold}
+use Rattle.std.proofs.Common.{◌≡◌, ℕ, [], ◌∷◌, arith, refl, sym, subst, ◌∙◌}
 use Rattle.qm_combine.proofs.tests.combiners.combined.Goals as goal
 
 same_room : {C : Type 0} (has_room : C → ℕ → Type 0) (a b : C) (x y : ℕ) → a ≡ b → x ≡ y → has_room b y → has_room a x

@@ -1,10 +1,10 @@
-use Rattle.std.proofs.Common.{◌≡◌, ◌<◌, ◌↔◌, ◌++◌, length, [], true, false, IfSome, Some, List, ℕ, Option, ap, sym, refl, ◌∙◌, arith, subst, if◌then◌else◌}
+use Rattle.std.proofs.Common.{◌≡◌, ◌<◌, ◌↔◌, ◌++◌, length, [], true, false, Some, List, ℕ, Option, ap, refl, ◌∙◌, arith, if◌then◌else◌}
 use Rattle.std.specs.Io.BufRead.{strip_last, first_line, drop_through}
 use Rattle.std.specs.Io.KnownBytes.{prepend_known}
 use Rattle.std.proofs.lemmas.Option.{IfSome_then}
 use Rattle.qm_search.specs.Lines.{pending, unread, TakesPiece}
 use Rattle.qm_search.specs.declared.lines.Lines.{Lines}
-use Rattle.qm_search.proofs.LineBytes.{has_break-append, IsCarried, carried-on, carried-end, carried-break, carried-none, slice_range-empty, IsLine, IsLastLine, pending_of}
+use Rattle.qm_search.proofs.LineBytes.{has_break-append, carried-on, carried-end, carried-break, carried-none, slice_range-empty, IsLine, IsLastLine, pending_of}
 use Rattle.qm_search.proofs.lines.Lines.next_line.Goals as goal
 
 -- after the end of the input nothing is unread

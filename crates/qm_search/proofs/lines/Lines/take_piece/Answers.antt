@@ -1,4 +1,4 @@
-use Rattle.std.proofs.Common.{◌≡◌, ◌+◌, ◌-◌, ◌≤◌, ◌∷◌, ◌++◌, [], take, drop, ap, sym, ◌∙◌, arith, slice_range}
+use Rattle.std.proofs.Common.{◌+◌, ◌-◌, ◌≤◌, ◌∷◌, ◌++◌, take, drop, ap, sym, ◌∙◌, arith}
 use Rattle.std.proofs.lemmas.List.{length-take}
 use Rattle.qm_search.specs.Lines.{unread}
 use Rattle.qm_search.proofs.LineBytes.{position-break, position-none, drop-slice_range, slice_range-empty}

@@ -1,0 +1,14 @@
+pub mod NormLemmas
+pub mod PostingsLeft
+pub mod TextWords
+pub mod Weights
+pub mod FoundTerms
+pub mod LengthsKept
+pub mod HeldTerms
+pub mod TermPlaces
+pub mod ColumnSteps
+pub mod TermChecks
+pub mod SameEntries
+pub mod SegmentGrowth
+pub mod GatherSteps
+pub mod SortedPostings

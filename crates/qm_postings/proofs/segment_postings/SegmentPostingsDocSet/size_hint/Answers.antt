@@ -1,0 +1,8 @@
+use Rattle.std.proofs.Common.{arith}
+use Rattle.qm_postings.proofs.PostingsLeft.{few}
+use Rattle.qm_postings.proofs.segment_postings.SegmentPostingsDocSet.size_hint.Goals as goal
+
+pub overflow_cast-result : goal.overflow_cast-result
+overflow_cast-result c =
+    let most = few c.args.self.now.cursor c.args.self.now.documents.now c.requires.documents in
+    omega arith

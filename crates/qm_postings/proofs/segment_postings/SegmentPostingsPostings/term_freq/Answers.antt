@@ -1,0 +1,26 @@
+-- The frequency at the cursor's place, which is within the arrays.
+use Rattle.std.proofs.Common.{◌≡◌, arith, ap, sym, ◌∙◌, get_or, inl, inr}
+use Rattle.qm_postings.specs.SegmentPostings.{frequency_read}
+use Rattle.qm_postings.proofs.PostingsLeft.{frequency_at, within}
+use Rattle.qm_postings.proofs.segment_postings.SegmentPostingsPostings.term_freq.Goals as goal
+
+pub bounds-self-self : goal.bounds-self-self
+bounds-self-self c =
+    let s = c.args.self.now in
+    omega (arith, within s.reading s.cursor s.documents.now s.frequencies.now c.requires.valid.paired c.requires.valid.place c.requires.here)
+
+pub returns-in-ReadFreq : goal.returns-in-ReadFreq
+returns-in-ReadFreq c =
+    let s = c.args.self.now in
+    let inside = within s.reading s.cursor s.documents.now s.frequencies.now c.requires.valid.paired c.requires.valid.place c.requires.here in
+    ap (λ r. frequency_read r (get_or s.frequencies.now s.cursor 0)) (sym c.in-ReadFreq.is) ∙ sym (frequency_at s.reading s.cursor s.documents.now s.frequencies.now 0 c.requires.valid.paired inside)
+
+pub returns-in-NoFreq : goal.returns-in-NoFreq
+returns-in-NoFreq c =
+    let s = c.args.self.now in
+    let inside = within s.reading s.cursor s.documents.now s.frequencies.now c.requires.valid.paired c.requires.valid.place c.requires.here in
+    let one : 1 ≡ frequency_read s.reading (get_or s.frequencies.now s.cursor 0) = elim c.in-NoFreq.is [
+      | inl none ↦ ap (λ r. frequency_read r (get_or s.frequencies.now s.cursor 0)) (sym none)
+      | inr skipped ↦ ap (λ r. frequency_read r (get_or s.frequencies.now s.cursor 0)) (sym skipped)
+    ] in
+    one ∙ sym (frequency_at s.reading s.cursor s.documents.now s.frequencies.now 0 c.requires.valid.paired inside)

@@ -1,0 +1,12 @@
+pub mod Document
+pub mod Segment
+pub mod Index
+pub mod LengthIds
+pub mod FieldNorms
+pub mod Reading
+pub mod FieldIndex
+pub mod SegmentPostings
+pub mod Statistics
+pub mod SegmentPostingsFacts
+pub mod Building
+pub mod Gathering

@@ -1,0 +1,28 @@
+//! A document's place among the segments of a searcher.
+
+/// A document's place: its segment's number among those of a searcher, and its own number within
+/// that segment. Ordered by segment, then by document.
+#[derive(Clone, Copy, Debug, PartialEq, Eq, PartialOrd, Ord, Hash)]
+pub struct DocAddress {
+    /// The segment's number among those of the searcher, from 0 up.
+    pub segment_ord: u32,
+    /// The document's number within its segment, from 0 up.
+    pub doc_id: DocId,
+}
+
+ghost use Rattle.std.specs.Prelude.{◌≡◌};
+
+use qm_docset::DocId;
+
+impl DocAddress {
+    /// The address of that document of that segment.
+    pub fn new(segment_ord: u32, doc_id: DocId) -> DocAddress
+        ensures segment { result.segment_ord ≡ segment_ord }
+        ensures document { result.doc_id ≡ doc_id }
+    {
+        DocAddress {
+            segment_ord,
+            doc_id,
+        }
+    }
+}

@@ -1,0 +1,66 @@
+//! The words of a text, each once, with all its places.
+
+ghost use Rattle.std.specs.Prelude.{◌≡◌, ◌<◌, ℕ, [], ◌∷◌, length, map, vec_len, slice_set, slice_index_or, IfOk, OnOk, IsOkUnless};
+ghost use Rattle.qm_postings.specs.Document.{Given, words_of, text_terms, with_place};
+
+use crate::document::GivenTerm;
+use qm_schema::{Field, QueryError, Term};
+use std::alloc::Global;
+use std::collections::BTreeMap;
+
+/// The terms of a text: its words, each once, in the order in which they first stand, with all their
+/// places; and how many words there are in all.
+#[derive(Drop)]
+pub(super) struct WordPlaces {
+    pub(super) terms: Vec<GivenTerm>,
+    pub(super) count: usize,
+}
+
+impl WordPlaces {
+    /// The words of a text of a field. Costs its length times the logarithm of the number of words.
+    pub(super) fn of_text(alloc: Global, field: Field, text: &str) -> Result<WordPlaces, QueryError>
+        ensures terms { IfOk result (λ places. places.terms.items ≡ text_terms field (words_of text.now)) }
+        ensures count { IfOk result (λ places. places.count ≡ length (words_of text.now)) }
+        ensures refused { IsOkUnless result QueryError.Memory }
+    {
+        let mut terms: Vec<GivenTerm> = Vec::new(alloc);
+        let mut numbers: BTreeMap<&str, usize> = BTreeMap::new(alloc);
+        let mut count: usize = 0;
+        for word in text.split(' ') {
+            if word.is_empty() {
+                continue;
+            }
+            let place = count.min(4294967295) as u32;
+            match numbers.get(word) {
+                Some(number) => add_place(&mut terms, *number, place)?,
+                None => {
+                    numbers.insert(word, terms.len())?;
+                    terms.push(first_place(alloc, field, word, place)?)?;
+                }
+            }
+            count += 1;
+        }
+        Ok(WordPlaces { terms, count })
+    }
+}
+
+/// A word with the place where it first stands.
+fn first_place(alloc: Global, field: Field, word: &str, place: u32) -> Result<GivenTerm, QueryError>
+    ensures given { IfOk result (λ given. given ≡ record { term = record { field = field; bytes = word.now }; positions = place ∷ [] }) }
+    ensures refused { IsOkUnless result QueryError.Memory }
+{
+    let term = Term::from_field_text(alloc, field, word)?;
+    let positions = vec![in alloc; place]?;
+    Ok(GivenTerm { term, positions })
+}
+
+/// Gives the word of that number one more place.
+fn add_place(terms: &mut Vec<GivenTerm>, number: usize, place: u32) -> Result<(), QueryError>
+    requires { number < vec_len terms.old }
+    ensures placed { OnOk result ((d : Given) → terms.new.items ≡ slice_set terms.old.items number (with_place (slice_index_or terms.old.items number d) place)) }
+    ensures refused { IsOkUnless result QueryError.Memory }
+{
+    let given = &mut terms[number];
+    given.positions.push(place)?;
+    Ok(())
+}

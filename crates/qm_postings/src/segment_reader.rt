@@ -1,0 +1,102 @@
+//! A segment, to be read.
+
+ghost use Rattle.std.specs.Prelude.{◌≡◌, ◌≤◌, false, IsTrue, IsSome, IfSome, ◌↔◌, length, map};
+ghost use Rattle.std.specs.List.{range_with_len};
+ghost use Rattle.qm_postings.specs.Segment.{keeps_lengths, length_id};
+
+use crate::fieldnorm::FieldNormReader;
+use crate::inverted_index::InvertedIndex;
+use qm_docset::{DocId, TERMINATED};
+use qm_schema::{Field, Schema, Term};
+use std::marker::Model;
+
+/// A term of an index, and the range of its postings in the arrays of all postings.
+#[derive(Debug, Drop)]
+pub(crate) struct TermEntry {
+    pub(crate) term: Term,
+    pub(crate) start: usize,
+    pub(crate) doc_freq: u32,
+    pub(crate) max_term_freq: u32,
+}
+
+impl Model for TermEntry {
+    ghost use Rattle.qm_postings.specs.Index.{TermRange, range_code};
+
+    ghost Value = { TermRange };
+
+    ghost coded = { range_code };
+
+    ghost view = { λ e. record { term = e.term; start = e.start; count = e.doc_freq } };
+}
+
+/// A segment, to be read: a list of documents, numbered from 0 up.
+///
+/// It keeps its terms in their order, and for each a range of two arrays of all postings, one of
+/// documents and one of frequencies: 8 bytes a posting.
+///
+/// Contracts see it as its documents, its schema, and the terms that it has postings for.
+#[derive(Debug, Drop)]
+pub struct SegmentReader {
+    pub(crate) schema: Schema,
+    pub(crate) terms: Vec<TermEntry>,
+    pub(crate) documents: Vec<DocId>,
+    pub(crate) frequencies: Vec<u32>,
+    pub(crate) lengths: Vec<Vec<u8>>,
+    pub(crate) max_doc: DocId,
+}
+
+impl Model for SegmentReader {
+    ghost use Rattle.std.specs.Prelude.{◌≤◌, map};
+    ghost use Rattle.qm_docset.specs.declared.doc_set.TheConstants.{TERMINATED};
+    ghost use Rattle.qm_postings.specs.Index.{AreColumns, IsIndex, posted_of, segment_from};
+    ghost use Rattle.qm_postings.specs.Reading.{Reader, reader_code};
+
+    ghost Value = { Reader };
+
+    ghost coded = { reader_code };
+
+    ghost view = { λ r. record {
+      segment = segment_from r.schema (posted_of r.terms.items r.documents.items r.frequencies.items) (map (λ c. c.items) r.lengths.items) r.max_doc;
+      terms = map (λ e. e.term) r.terms.items;
+    } };
+
+    ghost invariant = { λ r. (r.max_doc ≤ TERMINATED)
+        × IsIndex r.max_doc r.terms.items r.documents.items r.frequencies.items
+        × AreColumns r.schema r.max_doc (map (λ c. c.items) r.lengths.items) };
+}
+
+impl SegmentReader {
+    ghost use Rattle.qm_postings.specs.FieldIndex.{shown};
+    ghost use Rattle.qm_postings.specs.FieldNorms.{is_made_constant, norm_ids};
+
+    /// The number of documents, deleted ones too: one more than the last document's number.
+    pub fn max_doc(&self) -> DocId
+        ensures number { result ≡ length self.now.segment.documents }
+        ensures room { result ≤ TERMINATED }
+    {
+        self.max_doc
+    }
+
+    /// The inverted index of a field, which is empty where the schema doesn't know the field.
+    /// Constant time, and no memory.
+    pub fn inverted_index(&self, field: Field) -> InvertedIndex<'_>
+        ensures { shown result ≡ record { reader = self.now; field = field } }
+    {
+        InvertedIndex::new(self, field)
+    }
+
+    /// The length ids of a field, and `None` where the field keeps no lengths, or isn't in the
+    /// schema. Constant time, and no memory.
+    pub fn fieldnorms(&self, field: Field) -> Option<FieldNormReader<'_>>
+        ensures kept { IsSome result ↔ IsTrue (keeps_lengths self.now.segment.schema field) }
+        ensures ids { IfSome result (λ reader. norm_ids reader ≡ map (length_id self.now.segment field) (range_with_len 0 (length self.now.segment.documents))) }
+        ensures each { IfSome result (λ reader. is_made_constant reader ≡ false) }
+    {
+        let entry = self.schema.get_field_entry(field)?;
+        if !entry.has_fieldnorms() {
+            return None;
+        }
+        let ids = &self.lengths[field.field_id() as usize];
+        Some(FieldNormReader::new(ids.as_slice()))
+    }
+}

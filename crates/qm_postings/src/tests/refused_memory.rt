@@ -1,0 +1,247 @@
+//! Calls under an allocator that refuses what it is told to: tests/refuse_memory.c, where it is
+//! preloaded. Without it nothing is refused, and `rt ci` runs these tests so.
+
+use crate::tests::searchers::weights;
+use crate::tests::segments::{entries, length_id, listed, notes, schema, segment, title};
+use crate::{PlainDoc, Searcher, SegmentBuilder};
+use qm_schema::{IndexRecordOption, QueryError, Term};
+use std::alloc::Global;
+use std::env;
+use std::process::Abort;
+use std::rt::Env;
+use std::test::Fail;
+
+/// From now on the request of this number is refused, counted from 1; none is where it is 0.
+fn refuse(alloc: Global, number: u32) {
+    let _ = Vec::<u8>::with_capacity(alloc, (1 << 61) + number as usize);
+}
+
+/// From now on every request is refused.
+fn refuse_all(alloc: Global) {
+    let _ = Vec::<u8>::with_capacity(alloc, (3 << 60) + 1);
+}
+
+/// Whether a refusal is heard. It has to be where the script of these tests says so.
+fn can_refuse(rt: &(impl Abort + AllocGlobal + Env)) -> bool {
+    refuse(rt.alloc(), 1);
+    let is_refused = Vec::<u8>::with_capacity(rt.alloc(), 1).is_err();
+    refuse(rt.alloc(), 0);
+    assert!(rt; is_refused || env::var(rt, "MEMORY_IS_REFUSED").is_err());
+    is_refused
+}
+
+/// A document with a term and a length.
+fn document(alloc: Global) -> Result<PlainDoc, Fail> {
+    let mut document = PlainDoc::new(alloc);
+    document.add_text(alloc, title(), "a")?;
+    Ok(document)
+}
+
+#[test]
+fn a_document_is_refused_the_memory_of_a_term(rt: HostRuntime) -> Result<(), Fail> {
+    if !can_refuse(&rt) {
+        return Ok(());
+    }
+    let mut document = PlainDoc::new(rt.alloc());
+    for number in [1, 0] {
+        let term = Term::from_field_text(rt.alloc(), title(), "b")?;
+        let positions = vec![in rt.alloc(); 4]?;
+        refuse(rt.alloc(), number);
+        let added = document.add_term(term, positions);
+        refuse(rt.alloc(), 0);
+        assert_eq!(rt; added.is_ok(), number == 0);
+        assert_eq!(rt; document.terms.len(), if number == 0 { 1 } else { 0 });
+    }
+    Ok(())
+}
+
+#[test]
+fn a_document_is_refused_the_memory_of_a_length(rt: HostRuntime) -> Result<(), Fail> {
+    if !can_refuse(&rt) {
+        return Ok(());
+    }
+    let mut document = PlainDoc::new(rt.alloc());
+    for number in [1, 0] {
+        refuse(rt.alloc(), number);
+        let set = document.set_length(title(), 4);
+        refuse(rt.alloc(), 0);
+        assert_eq!(rt; set.is_ok(), number == 0);
+        assert_eq!(rt; document.lengths.len(), if number == 0 { 1 } else { 0 });
+    }
+    Ok(())
+}
+
+#[test]
+fn a_document_is_refused_the_memory_of_a_text(rt: HostRuntime) -> Result<(), Fail> {
+    if !can_refuse(&rt) {
+        return Ok(());
+    }
+    for number in 1..60 {
+        let mut document = document(rt.alloc())?;
+        refuse(rt.alloc(), number);
+        let added = document.add_text(rt.alloc(), title(), "b c b d e f g");
+        refuse(rt.alloc(), 0);
+        if added.is_ok() {
+            assert!(rt; number > 10);
+            assert_eq!(rt; (document.terms.len(), document.lengths.len()), (7, 2));
+            return Ok(());
+        }
+        assert_eq!(rt; added, Err(QueryError::Memory));
+        assert_eq!(rt; (document.terms.len(), document.lengths.len()), (1, 1));
+        document.add_text(rt.alloc(), title(), "b c b")?;
+        assert_eq!(rt; (document.terms.len(), document.lengths.len()), (3, 2));
+    }
+    assert!(rt; false, "a text asks for memory sixty times");
+    Ok(())
+}
+
+#[test]
+fn a_builder_is_refused_its_memory(rt: HostRuntime) -> Result<(), Fail> {
+    if !can_refuse(&rt) {
+        return Ok(());
+    }
+    let schema = schema(rt.alloc())?;
+    for number in 1..30 {
+        refuse(rt.alloc(), number);
+        let made = SegmentBuilder::new(rt.alloc(), &schema, 128);
+        refuse(rt.alloc(), 0);
+        match made {
+            Ok(_) => {
+                assert!(rt; number > 1);
+                return Ok(());
+            }
+            Err(error) => assert_eq!(rt; error, QueryError::Memory),
+        }
+    }
+    assert!(rt; false, "a builder asks for memory thirty times");
+    Ok(())
+}
+
+#[test]
+fn a_segment_is_refused_the_memory_of_a_document(rt: HostRuntime) -> Result<(), Fail> {
+    if !can_refuse(&rt) {
+        return Ok(());
+    }
+    let mut builder = SegmentBuilder::new(rt.alloc(), &schema(rt.alloc())?, 128)?;
+    for number in 1..30 {
+        let document = document(rt.alloc())?;
+        refuse(rt.alloc(), number);
+        let added = builder.add_document(document);
+        refuse(rt.alloc(), 0);
+        if added == Ok(0) {
+            assert!(rt; number > 2);
+            let reader = builder.build(rt.alloc())?;
+            assert_eq!(rt; reader.max_doc(), 1);
+            assert_eq!(rt; length_id(&reader, title(), 0), Some(1));
+            assert_eq!(rt; length_id(&reader, notes(), 0), Some(0));
+            return Ok(());
+        }
+        assert_eq!(rt; added, Err(QueryError::Memory));
+    }
+    assert!(rt; false, "a document asks for memory thirty times");
+    Ok(())
+}
+
+#[test]
+fn a_segment_is_refused_the_memory_of_its_reader(rt: HostRuntime) -> Result<(), Fail> {
+    if !can_refuse(&rt) {
+        return Ok(());
+    }
+    for number in 1..60 {
+        let mut builder = SegmentBuilder::new(rt.alloc(), &schema(rt.alloc())?, 128)?;
+        builder.add_document(document(rt.alloc())?)?;
+        builder.add_document(document(rt.alloc())?)?;
+        refuse(rt.alloc(), number);
+        let built = builder.build(rt.alloc());
+        refuse(rt.alloc(), 0);
+        match built {
+            Ok(reader) => {
+                assert!(rt; number > 1);
+                let option = IndexRecordOption::WithFreqs;
+                let found = entries(rt.alloc(), &reader, title(), "a", option)?.ok_or(
+                    "no postings",
+                )?;
+                assert_eq!(rt; found.as_slice(), [(0, 1), (1, 1)].as_slice());
+                return Ok(());
+            }
+            Err(error) => assert_eq!(rt; error, QueryError::Memory),
+        }
+    }
+    assert!(rt; false, "a reader asks for memory sixty times");
+    Ok(())
+}
+
+#[test]
+fn a_searcher_is_refused_its_memory_before_its_norms(rt: HostRuntime) -> Result<(), Fail> {
+    if !can_refuse(&rt) {
+        return Ok(());
+    }
+    let mut falling = [0; 256];
+    falling[0] = 1;
+    for number in 1..30 {
+        let segments = vec![in rt.alloc(); segment(rt.alloc(), &[])?]?;
+        let given = weights(rt.alloc(), &[("a", 1), ("b", 2)])?;
+        let schema = schema(rt.alloc())?;
+        refuse(rt.alloc(), number);
+        let made = Searcher::new(rt.alloc(), schema, segments, given, 0, falling);
+        refuse(rt.alloc(), 0);
+        match made {
+            Ok(_) => assert!(rt; false, "norms that fall are taken"),
+            Err(QueryError::Memory) => {}
+            Err(error) => {
+                assert!(rt; number > 1);
+                assert_eq!(rt; error, QueryError::BadNorms);
+                return Ok(());
+            }
+        }
+    }
+    assert!(rt; false, "a searcher asks for memory thirty times");
+    Ok(())
+}
+
+#[test]
+fn a_searcher_is_refused_its_memory(rt: HostRuntime) -> Result<(), Fail> {
+    if !can_refuse(&rt) {
+        return Ok(());
+    }
+    for number in 1..30 {
+        let segments = vec![in rt.alloc(); segment(rt.alloc(), &[])?]?;
+        let given = weights(rt.alloc(), &[("a", 1), ("b", 2)])?;
+        let schema = schema(rt.alloc())?;
+        refuse(rt.alloc(), number);
+        let made = Searcher::new(rt.alloc(), schema, segments, given, 0, [0; 256]);
+        refuse(rt.alloc(), 0);
+        match made {
+            Ok(searcher) => {
+                assert!(rt; number > 1);
+                assert_eq!(rt; searcher.segment_readers().len(), 1);
+                return Ok(());
+            }
+            Err(error) => assert_eq!(rt; error, QueryError::Memory),
+        }
+    }
+    assert!(rt; false, "a searcher asks for memory thirty times");
+    Ok(())
+}
+
+#[test]
+fn lookups_ask_for_no_memory(rt: HostRuntime) -> Result<(), Fail> {
+    if !can_refuse(&rt) {
+        return Ok(());
+    }
+    let reader = segment(rt.alloc(), &[("a b", "c"), ("b", ""), ("b a a", "c")])?;
+    let term = Term::from_field_text(rt.alloc(), title(), "a")?;
+    refuse_all(rt.alloc());
+    let index = reader.inverted_index(title());
+    let info = index.get_term_info(&term);
+    let postings = index.read_postings(&term, IndexRecordOption::WithFreqs);
+    let length = length_id(&reader, title(), 2);
+    let is_refused = Vec::<u8>::with_capacity(rt.alloc(), 1).is_err();
+    refuse(rt.alloc(), 0);
+    assert!(rt; is_refused);
+    assert_eq!(rt; info.map(|info| info.doc_freq), Some(2));
+    assert_eq!(rt; length, Some(3));
+    let found = listed(rt.alloc(), postings.ok_or("no postings")?)?;
+    assert_eq!(rt; found.as_slice(), [(0, 1), (2, 2)].as_slice());
+    Ok(())
+}

@@ -1,0 +1,38 @@
+-- The scorer over the postings of a term.
+use Rattle.std.specs.Prelude.{ℕ, ◌<◌, List, All, length, slice_index_or}
+use Rattle.qm_combine.specs.Rescored.{rescored, limited}
+use Rattle.qm_docset.specs.Entry.{Entry, Limits}
+use Rattle.qm_postings.specs.FieldNorms.{norm_ids}
+use Rattle.qm_postings.specs.SegmentPostings.{IsPostings, postings_left, postings_limits, reads}
+use Rattle.qm_postings.specs.declared.freq_reading_option.FreqReadingOption.{FreqReadingOption}
+use Rattle.qm_term.specs.Bm25.{Weighing, bm25, bm25_bound}
+use Rattle.qm_term.specs.Bm25Weight.{weighing}
+use Rattle.qm_term.specs.declared.term_scorer.TermScorer.{TermScorer}
+
+-- postings, each with the score that its frequency has at its document's length id
+abbrev pub weighed : Weighing → List ℕ → List Entry → List Entry
+weighed weighing ids es = rescored (λ e. bm25 weighing (slice_index_or ids e.document 0) e.frequency) es
+
+-- each of the documents has a length id
+abbrev pub AreCovered : List ℕ → List Entry → Type 0
+AreCovered ids es = All (λ e. e.document < length ids) es
+
+-- the documents that a scorer has left, with their scores
+abbrev pub scored_left : TermScorer → List Entry
+scored_left s = weighed (weighing s.similarity_weight) (norm_ids s.fieldnorm_reader) (postings_left s.postings)
+
+abbrev pub scored_limits : TermScorer → Limits
+scored_limits s = limited (bm25_bound (weighing s.similarity_weight)) (postings_limits s.postings)
+
+-- the length id of each document
+abbrev pub scored_ids : TermScorer → List ℕ
+scored_ids s = norm_ids s.fieldnorm_reader
+
+-- what its postings read of the frequencies
+abbrev pub scored_reads : TermScorer → FreqReadingOption
+scored_reads s = reads s.postings
+
+-- a scorer over postings whose documents all have a length id
+pub record IsTermScorer (s : TermScorer) : Type 0 where
+  pub postings : IsPostings s.postings
+  pub covered : AreCovered (norm_ids s.fieldnorm_reader) (postings_left s.postings)

@@ -1,0 +1,53 @@
+-- The list of a term scorer: scores are within its limits, and each document keeps its length id.
+use Rattle.std.specs.Prelude.{◌≡◌, ℕ, ◌<◌, List, [], ◌∷◌, length, drop, nat_le, slice_index_or}
+use Rattle.std.proofs.Common.{arith, refl, sym, subst}
+use Rattle.std.proofs.lemmas.List.Elements.{All-drop, All-filter}
+use Rattle.qm_combine.specs.Rescored.{rescored}
+use Rattle.qm_combine.specs.RescoredFacts.{AreEntries-rescored, head_document-rescored, head_score-rescored, rescoring}
+use Rattle.qm_docset.specs.Entry.{Entry, AreEntries, from, head_document, head_frequency}
+use Rattle.qm_docset.specs.declared.doc_set.TheConstants.{TERMINATED}
+use Rattle.qm_postings.specs.FieldNorms.{norm_ids}
+use Rattle.qm_postings.specs.SegmentPostings.{postings_left, postings_limits}
+use Rattle.qm_postings.specs.SegmentPostingsFacts.{AreEntries-postings}
+use Rattle.qm_term.specs.Bm25.{bm25_bound}
+use Rattle.qm_term.specs.Bm25Facts.{bm25-le}
+use Rattle.qm_term.specs.Bm25Weight.{weighing}
+use Rattle.qm_term.specs.TermScorer.{AreCovered, IsTermScorer, scored_left, scored_limits}
+use Rattle.qm_term.specs.declared.term_scorer.TermScorer.{TermScorer}
+
+pub AreEntries-scored : (s : TermScorer) → IsTermScorer s → AreEntries 0 (scored_limits s) (scored_left s)
+AreEntries-scored s h =
+    AreEntries-rescored _ (bm25_bound (weighing s.similarity_weight)) 0 (postings_limits s.postings) (postings_left s.postings) (λ e within. bm25-le (weighing s.similarity_weight) (slice_index_or (norm_ids s.fieldnorm_reader) e.document 0) e.frequency) (AreEntries-postings s.postings h.postings)
+
+-- an entry keeps its frequency
+pub head_frequency-rescored : (given : Entry → ℕ) (es : List Entry) → head_frequency (rescored given es) ≡ head_frequency es
+unfolding rescored
+head_frequency-rescored given [] = refl
+head_frequency-rescored given (e ∷ es) = refl
+
+pub AreCovered-drop : (ids : List ℕ) (n : ℕ) (es : List Entry) → AreCovered ids es → AreCovered ids (drop n es)
+AreCovered-drop ids n es h = All-drop (λ e. e.document < length ids) n es h
+
+pub AreCovered-from : (ids : List ℕ) (t : ℕ) (es : List Entry) → AreCovered ids es → AreCovered ids (from t es)
+unfolding from
+AreCovered-from ids t es h = All-filter (λ e. nat_le t e.document) (λ e. e.document < length ids) es h
+
+pub AreCovered-nil : (ids : List ℕ) → AreCovered ids []
+AreCovered-nil ids = λ k d l. absurd (omega arith)
+
+-- the document that a scorer stands on has a length id
+pub covered-head : (ids : List ℕ) (es : List Entry) → AreCovered ids es → head_document es < TERMINATED → head_document es < length ids
+covered-head ids [] h here = absurd (omega arith)
+covered-head ids (e ∷ es) h here = h 0 e (omega arith)
+
+pub scored-document : (s : TermScorer) → head_document (scored_left s) ≡ head_document (postings_left s.postings)
+scored-document s = head_document-rescored _ (postings_left s.postings)
+
+pub scored-within : (s : TermScorer) → IsTermScorer s → head_document (scored_left s) < TERMINATED → head_document (scored_left s) < length (norm_ids s.fieldnorm_reader)
+scored-within s h here =
+    let same = scored-document s in
+    let P : ℕ → Type 0 = λ d. d < length (norm_ids s.fieldnorm_reader) in
+    let Q : ℕ → Type 0 = λ d. d < TERMINATED in
+    subst P (sym same) (covered-head (norm_ids s.fieldnorm_reader) (postings_left s.postings) h.covered (subst Q same here))
+
+pub ruleset scoring = (rescoring, head_frequency-rescored, AreCovered-drop, AreCovered-from, AreCovered-nil, covered-head)

@@ -1,0 +1,16 @@
+//! What a term scores: its weight over the lengths of documents, and the scorer over its postings.
+//!
+//! Names and behaviour are those of tantivy's documentation; where they differ, `docs/DIFFERENCES.md`
+//! says so.
+#![tactic(auto)]
+
+mod bm25;
+mod explaining;
+mod term_scorer;
+
+pub use bm25::Bm25Weight;
+pub use explaining::Explanation;
+pub use term_scorer::TermScorer;
+
+#[cfg(test)]
+mod tests;

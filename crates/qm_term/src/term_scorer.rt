@@ -1,0 +1,186 @@
+//! The scorer over the postings of a term.
+
+ghost use Rattle.std.specs.Prelude.{◌≡◌, ◌<◌, pos, slice_index_or, IfOk, IsOkUnless};
+ghost use Rattle.qm_combine.specs.Rescored.{limited};
+ghost use Rattle.qm_docset.specs.Entry.{head_document, head_frequency, head_score};
+ghost use Rattle.qm_postings.specs.FieldNorms.{norm_ids};
+ghost use Rattle.qm_postings.specs.SegmentPostings.{IsPostings, postings_left, postings_limits, reads};
+
+use crate::bm25::Bm25Weight;
+use crate::explaining::Explanation;
+use qm_combine::Scorer;
+use qm_docset::{
+    AliveBitSet, COLLECT_BLOCK_BUFFER_LEN, DocId, DocSet, Score, SeekDangerResult, TERMINATED,
+};
+use qm_postings::{FieldNormReader, FreqReadingOption, Postings, SegmentPostings};
+use qm_schema::QueryError;
+use std::alloc::{AllocError, Global};
+
+/// The documents that hold a term, each with its score. It borrows from its segment.
+///
+/// Every call of a cursor costs what that of its postings does, and a score one division more. All
+/// calls but [`explain`](TermScorer::explain) take no memory.
+#[derive(Debug, Drop)]
+pub struct TermScorer<'a> {
+    postings: SegmentPostings<'a>,
+    fieldnorm_reader: FieldNormReader<'a>,
+    similarity_weight: Bm25Weight,
+}
+
+impl<'a> TermScorer<'a> {
+    ghost use Rattle.qm_term.specs.Bm25.{bm25_bound};
+    ghost use Rattle.qm_term.specs.Bm25Weight.{weighing};
+    ghost use Rattle.qm_term.specs.Explained.{value_of};
+    ghost use Rattle.qm_term.specs.TermScorer.{AreCovered, IsTermScorer, scored_ids, scored_left, scored_limits, scored_reads, weighed};
+
+    /// A scorer over what postings have left. It scores each document by its frequency there, and by
+    /// the length id that the reader gives it. Asks that the reader has a length id for each of
+    /// them.
+    pub fn new(
+        postings: SegmentPostings<'a>,
+        fieldnorm_reader: FieldNormReader<'a>,
+        similarity_weight: Bm25Weight,
+    ) -> TermScorer<'a>
+        requires postings { IsPostings postings }
+        requires covered { AreCovered (norm_ids fieldnorm_reader) (postings_left postings) }
+        ensures entries { scored_left result ≡ weighed (weighing similarity_weight) (norm_ids fieldnorm_reader.entry) (postings_left postings.entry) }
+        ensures limits { scored_limits result ≡ limited (bm25_bound (weighing similarity_weight)) (postings_limits postings.entry) }
+        ensures ids { scored_ids result ≡ norm_ids fieldnorm_reader.entry }
+        ensures reads { scored_reads result ≡ reads postings.entry }
+        ensures valid { IsTermScorer result }
+    {
+        TermScorer {
+            postings,
+            fieldnorm_reader,
+            similarity_weight,
+        }
+    }
+
+    /// How often the term stands in the scorer's document, as its postings read it. Asks that the
+    /// scorer stands on a document. Constant time.
+    #[tactic(auto, using(crate::specs::TermScorerFacts::scoring))]
+    pub fn term_freq(&self) -> u32
+        requires valid { IsTermScorer self.now }
+        requires here { head_document (scored_left self.now) < TERMINATED }
+        ensures { result ≡ head_frequency (scored_left self.now) }
+    {
+        self.postings.term_freq()
+    }
+
+    /// The length id of the scorer's document. Asks that the scorer stands on one. Constant time.
+    #[tactic(auto, using(crate::specs::TermScorerFacts::scoring))]
+    pub fn fieldnorm_id(&self) -> u8
+        requires valid { IsTermScorer self.now }
+        requires here { head_document (scored_left self.now) < TERMINATED }
+        ensures { result ≡ slice_index_or (scored_ids self.now) (head_document (scored_left self.now)) 0 }
+    {
+        self.fieldnorm_reader.fieldnorm_id(self.postings.doc())
+    }
+
+    /// Why the scorer's document scores what it does. Asks that the scorer stands on one.
+    ///
+    /// Refused with [`QueryError::Memory`] alone.
+    #[tactic(auto, using(crate::specs::TermScorerFacts::scoring))]
+    pub fn explain(&self, alloc: Global) -> Result<Explanation, QueryError>
+        requires valid { IsTermScorer self.now }
+        requires here { head_document (scored_left self.now) < TERMINATED }
+        ensures value { IfOk result (λ explanation. value_of explanation ≡ pos (head_score (scored_left self.now))) }
+        ensures refused { IsOkUnless result QueryError.Memory }
+    {
+        self.similarity_weight
+            .explain(alloc, self.fieldnorm_id(), self.term_freq())
+    }
+
+    /// At least the score of every document. No call changes it. Constant time.
+    pub fn max_score(&self) -> Score
+        ensures { result ≡ pos (scored_limits self.now).top }
+    {
+        self.similarity_weight.max_score()
+    }
+
+    /// What is read of the term's frequencies.
+    pub fn freq_reading_option(&self) -> FreqReadingOption
+        ensures { result ≡ scored_reads self.now }
+    {
+        self.postings.freq_reading_option()
+    }
+}
+
+/// A copy stands where the original does. It takes no memory, so it is never refused.
+impl<'a> Clone for TermScorer<'a> {
+    ghost is_clone = { λ scorer copy. copy ≡ scorer };
+
+    ghost is_infallible = { λ _. Unit {0} };
+
+    fn clone(&self) -> Result<TermScorer<'a>, AllocError> {
+        Ok(TermScorer {
+            postings: self.postings,
+            fieldnorm_reader: self.fieldnorm_reader,
+            similarity_weight: self.similarity_weight,
+        })
+    }
+}
+
+#[tactic(auto, using(crate::specs::TermScorerFacts::scoring))]
+impl<'a> DocSet for TermScorer<'a> {
+    ghost use Rattle.qm_term.specs.TermScorer.{IsTermScorer, scored_left, scored_limits};
+    ghost use Rattle.qm_term.specs.TermScorerFacts.{AreEntries-scored};
+
+    ghost entries = { scored_left };
+
+    ghost limits = { scored_limits };
+
+    ghost placed = { λ _. Unit {0} };
+
+    ghost valid = { IsTermScorer };
+
+    fn doc(&self) -> DocId {
+        self.postings.doc()
+    }
+
+    fn advance(&mut self) -> DocId {
+        self.postings.advance()
+    }
+
+    fn seek(&mut self, target: DocId) -> DocId {
+        self.postings.seek(target)
+    }
+
+    fn seek_danger(&mut self, target: DocId) -> SeekDangerResult {
+        self.postings.seek_danger(target)
+    }
+
+    fn fill_buffer(&mut self, buffer: &mut [DocId; COLLECT_BLOCK_BUFFER_LEN]) -> usize {
+        self.postings.fill_buffer(buffer)
+    }
+
+    fn size_hint(&self) -> u32 {
+        self.postings.size_hint()
+    }
+
+    fn cost(&self) -> u64 {
+        self.postings.cost()
+    }
+
+    fn count(&mut self, alive: &AliveBitSet) -> u32 {
+        self.postings.count(alive)
+    }
+
+    fn count_including_deleted(&mut self) -> u32 {
+        self.postings.count_including_deleted()
+    }
+
+    ghost ascending = { AreEntries-scored };
+}
+
+#[tactic(auto, using(crate::specs::TermScorerFacts::scoring))]
+impl<'a> Scorer for TermScorer<'a> {
+    fn score(&mut self) -> Score {
+        self.similarity_weight
+            .score(self.fieldnorm_id(), self.term_freq())
+    }
+
+    fn max_score(&self) -> Score {
+        TermScorer::max_score(self)
+    }
+}
