@@ -1,6 +1,7 @@
 #!/usr/bin/env bash
 # Runs the tests of each crate once more, as `rt ci` built them, under an allocator that refuses the
-# requests for memory that a test names. Called by .ci/run after `rt ci`.
+# requests for memory that a test names. A crate with tests whose binary is missing fails. Called by
+# .ci/run after `rt ci`.
 set -u
 cd "$(dirname "$0")/.." || exit 2
 runner=$(dirname "$(rt doc)")/bin/rattle-test
@@ -9,9 +10,13 @@ trap 'rm -rf "$room"' EXIT
 cc -O2 -Wall -Werror -shared -fPIC -o "$room/refuse_memory.so" tests/refuse_memory.c || exit 2
 passed=0
 failed=0
-for binary in crates/*/out/*_tests; do
-    [ -x "$binary" ] || continue
-    if LD_PRELOAD="$room/refuse_memory.so" MEMORY_IS_REFUSED=yes "$runner" --seconds 60 "$binary" > "$room/log" 2>&1; then
+for crate in $(sed -e 's/#.*//' -e 's/:.*//' crates.txt | awk 'NF { print $1 }'); do
+    grep -rq '#\[test\]' "crates/$crate/src" || continue
+    binary=crates/$crate/out/${crate}_tests
+    if [ ! -x "$binary" ]; then
+        failed=$((failed + 1))
+        echo "refused memory: $binary is missing"
+    elif LD_PRELOAD="$room/refuse_memory.so" MEMORY_IS_REFUSED=yes "$runner" --seconds 60 "$binary" > "$room/log" 2>&1; then
         passed=$((passed + 1))
     else
         failed=$((failed + 1))

@@ -14,11 +14,9 @@ use Rattle.qm_docset.specs.Entry.{Entry, Limits, AreEntries, from, greatest_scor
 use Rattle.qm_docset.specs.EntryFacts.{from-drop, from-nil, from-skip, from-keep, from-reached, head_document-bounds}
 use Rattle.qm_docset.specs.Gather.{scored, entries_of, scores_at, gather, IsBare, AreMembers}
 use Rattle.qm_docset.specs.GatherFacts.{scores_at-cons, entries_of-before, entries_of-nil, length-scores_at, AreMembers-map}
-use Rattle.qm_docset.specs.declared.doc_set.TheConstants.{TERMINATED}
+use Rattle.qm_docset.specs.declared.numbers.TheConstants.{TERMINATED}
 use Rattle.qm_docset.proofs.Gathering.{gather-bare, gather-first, gather-from, gather-none, gather-permutation, scores_at-permutation}
 use Rattle.qm_combine.proofs.Uniting.{score_of-here, scores_at-ahead}
-use Rattle.qm_combine.specs.CombineFacts.{combine-permutation}
-use Rattle.qm_combine.specs.Combine.{combine}
 use Rattle.qm_combine.specs.Disjunction.{least_first, led_by, led_by-here, led_by-ended, tops_at}
 use Rattle.qm_combine.specs.Union.{least_head, total_top, united_limits}
 use Rattle.qm_combine.specs.declared.disjunction.scorer_wrapper.ScorerWrapper.{ScorerWrapper}
@@ -116,7 +114,7 @@ gather-few least combined bounds ess members few = gather-none least combined es
 -- The first of some lists steps past its document.
 scores_at-stepped : (d : ℕ) (limits : Limits) (es : List Entry) → AreEntries 0 limits es → head_document es ≡ d → entries_of d (drop 1 es) ≡ []
 scores_at-stepped d limits [] a here = entries_of-nil d
-scores_at-stepped d limits (e ∷ es) a here = entries_of-before d (e.document + 1) limits es (omega arith) a.4
+scores_at-stepped d limits (e ∷ es) a here = entries_of-before d (e.document + 1) limits es (omega arith) a.others
 
 pub scores_at-taken : (d : ℕ) (limits : Limits) (es : List Entry) (old new rest : List (List Entry)) → IsPermutation old (es ∷ rest) → IsPermutation (drop 1 es ∷ rest) new → AreEntries 0 limits es → head_document es ≡ d → d < TERMINATED → IsPermutation (scores_at d old) (head_score es ∷ scores_at d new)
 scores_at-taken d limits es old new rest was is a here below =
@@ -174,12 +172,12 @@ at_most false n = omega arith
 
 stepped-past : (limits : Limits) (es : List Entry) → AreEntries 0 limits es → head_document es < TERMINATED → head_document es < head_document (drop 1 es)
 stepped-past limits [] a h = absurd (omega arith)
-stepped-past limits (e ∷ es) a h = omega (arith, head_document-bounds (e.document + 1) limits es (omega arith) a.4)
+stepped-past limits (e ∷ es) a h = omega (arith, head_document-bounds (e.document + 1) limits es (omega arith) a.others)
 
 -- a list that steps begins no earlier
 stepped-later : (limits : Limits) (es : List Entry) → AreEntries 0 limits es → head_document es ≤ head_document (drop 1 es)
 stepped-later limits [] a = omega arith
-stepped-later limits (e ∷ es) a = omega (arith, head_document-bounds (e.document + 1) limits es (omega arith) a.4)
+stepped-later limits (e ∷ es) a = omega (arith, head_document-bounds (e.document + 1) limits es (omega arith) a.others)
 
 -- The members of a disjunction, each beside the document that it stands on.
 module _ {S : Type 0} (valid placed : S → Type 0) (bound : S → Limits) (list : S → List Entry) (law : (s : S) → valid s → AreEntries 0 (bound s) (list s)) where
@@ -309,7 +307,3 @@ led_by-sought t d score es h below = ap (from t) (led_by-here d score es (omega 
 
 pub led_by-reached : (t d score : ℕ) (limits : Limits) (es : List Entry) → t ≤ d → d ≤ TERMINATED → AreEntries 0 limits (led_by d score es) → from t (led_by d score es) ≡ led_by d score es
 led_by-reached t d score limits es h most a = from-reached t 0 limits (led_by d score es) (omega (arith, head_document-led_by d score es most)) a
-
--- What a combiner makes of some scores depends on no order of theirs.
-pub any_order : {C : Type 0} (step : C → ℕ → C) (value : C → ℕ) → ((c : C) (x y : ℕ) → step (step c x) y ≡ step (step c y) x) → (start : C) (xs ys : List ℕ) → IsPermutation xs ys → combine step value start xs ≡ combine step value start ys
-any_order step value commutes start xs ys moved = sym (combine-permutation step commutes value start xs ys moved)

@@ -9,9 +9,9 @@ use Rattle.qm_docset.specs.Cursor.{IsSeekAnswer}
 use Rattle.qm_docset.specs.EntryFacts.{head_document-bounds, entries-at_end, from-next, AreEntries-from_low}
 use Rattle.qm_docset.specs.Gather.{common_entries, AreMembers}
 use Rattle.qm_docset.specs.GatherFacts.{AreMembers-map}
-use Rattle.qm_docset.specs.declared.doc_set.TheConstants.{TERMINATED}
-use Rattle.qm_docset.specs.declared.doc_set.SeekDangerResult.{SeekDangerResult}
-use Rattle.qm_docset.specs.declared.doc_set.SeekDangerResult.TheVariants.{Found, SeekLowerBound}
+use Rattle.qm_docset.specs.declared.numbers.TheConstants.{TERMINATED}
+use Rattle.qm_docset.specs.declared.docset.SeekDangerResult.{SeekDangerResult}
+use Rattle.qm_docset.specs.declared.docset.SeekDangerResult.TheVariants.{Found, SeekLowerBound}
 use Rattle.qm_combine.specs.HeldSum.{held_sum, held_limits}
 use Rattle.qm_combine.specs.SharedSeek.{IsSharedAnswer}
 use Rattle.qm_docset.proofs.Gathering.{head_document-from}
@@ -121,11 +121,11 @@ module _ {X : Type 0} (valid : X → Type 0) (bound : X → Limits) (list : X �
   pub IsSeekAnswer-shared : (Placed : X → Type 0) (t : ℕ) (limits : Limits) (es : List Entry) (xs : List X) (answer : SeekDangerResult) → t < TERMINATED → AreEntries 0 limits es → head_document es ≡ t → All valid xs → IsSharedAnswer Placed list t xs answer → IsSeekAnswer t (common_entries combined (es ∷ map list xs)) answer
   IsSeekAnswer-shared Placed t limits es xs Found h a here all shared =
       let together : head_document es < TERMINATED → All (λ x. Placed x × (head_document (list x) ≡ head_document es)) xs = λ b. rw here shared in
-      (h, sym (head_document-together Placed limits es xs a all together) ∙ here)
+      record { below_end = h; here = sym (head_document-together Placed limits es xs a all together) ∙ here }
   IsSeekAnswer-shared Placed t limits es xs (SeekLowerBound bound) h a here all shared =
-      (bound-common_entries bound limits es xs shared.1 a all shared.2, (λ below. shared.0), (λ ended. absurd (omega arith)))
+      record { before_all = bound-common_entries bound limits es xs shared.1 a all shared.2; past = λ below. shared.0; at_end = λ ended. absurd (omega arith) }
 
   -- .. and what the leader answers is one where it lacks the target.
   pub IsSeekAnswer-led : (t : ℕ) (limits : Limits) (es : List Entry) (xs : List X) (answer : SeekDangerResult) → AreEntries 0 limits es → All valid xs → (answer ≡ Found → ⊥) → IsSeekAnswer t es answer → IsSeekAnswer t (common_entries combined (es ∷ map list xs)) answer
   IsSeekAnswer-led t limits es xs Found a all other led = absurd (other refl)
-  IsSeekAnswer-led t limits es xs (SeekLowerBound bound) a all other led = (leader_bound-common_entries bound limits es xs led.0 a all, led.1, led.2)
+  IsSeekAnswer-led t limits es xs (SeekLowerBound bound) a all other led = record { before_all = leader_bound-common_entries bound limits es xs led.before_all a all; past = led.past; at_end = led.at_end }

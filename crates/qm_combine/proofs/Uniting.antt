@@ -5,11 +5,11 @@ use Rattle.std.proofs.lemmas.List.{append-nil, get_or-map, length-map, take-map}
 use Rattle.std.proofs.lemmas.List.Elements.{All-head, All-tail, All-take}
 use Rattle.std.proofs.lemmas.List.Sums.{sum_by_more, sum_by_more_le}
 use Rattle.qm_docset.specs.Entry.{Entry, Limits, AreEntries, from, greatest_score, head_document, head_score}
-use Rattle.qm_docset.specs.EntryFacts.{from-nil, from-next, from-reached}
+use Rattle.qm_docset.specs.EntryFacts.{from-nil, from-next, from-reached, AreEntries-low}
 use Rattle.qm_docset.specs.Gather.{gather, scores_at, entries_of, AreMembers, IsBare}
 use Rattle.qm_docset.specs.GatherFacts.{entries_of-before, entries_of-first, scores_at-nil, scores_at-cons, AreMembers-map, sum-scores_at}
 use Rattle.qm_docset.proofs.Gathering.{gather-first, gather-from, gather-none}
-use Rattle.qm_docset.specs.declared.doc_set.TheConstants.{TERMINATED}
+use Rattle.qm_docset.specs.declared.numbers.TheConstants.{TERMINATED}
 use Rattle.qm_combine.specs.Union.{least_head, total_top}
 use Rattle.qm_combine.proofs.EachMember.{take-map_more}
 
@@ -24,7 +24,7 @@ scores_at-push d (x ∷ ess) es = scores_at-cons d x (ess ++ es ∷ []) ∙ ap (
 -- a cursor's entries begin where it stands
 AreEntries-head : (limits : Limits) (es : List Entry) → AreEntries 0 limits es → AreEntries (head_document es) limits es
 AreEntries-head limits [] a = tt
-AreEntries-head limits (e ∷ es) a = (omega arith, a.1, a.2, a.3, a.4)
+AreEntries-head limits (e ∷ es) a = AreEntries-low 0 e.document limits e es (omega arith) a
 
 -- a cursor says nothing of the documents before it
 pub entries_of-ahead : (d : ℕ) (limits : Limits) (es : List Entry) → AreEntries 0 limits es → d < head_document es → entries_of d es ≡ []

@@ -2,7 +2,6 @@ pub mod AllDocuments
 pub mod AllDocumentsFacts
 pub mod Combine
 pub mod CombineFacts
-pub mod Combiners
 pub mod HeldSum
 pub mod HeldSumFacts
 pub mod Union

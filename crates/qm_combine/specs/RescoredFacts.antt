@@ -4,13 +4,13 @@ use Rattle.std.proofs.Common.{zero, suc, arith, refl, sym, ap, ◌∙◌, inl, i
 use Rattle.std.proofs.lemmas.Bool.{cases_Bool, cases_lt}
 use Rattle.qm_docset.specs.AliveBitSet.{alive_docs, alive_entries}
 use Rattle.qm_docset.specs.BitSet.{set_has}
-use Rattle.qm_docset.specs.declared.alive_bit_set.AliveBitSet.{AliveBitSet}
+use Rattle.qm_docset.specs.declared.alive_bitset.AliveBitSet.{AliveBitSet}
 use Rattle.qm_docset.specs.Cursor.{IsSeekAnswer}
 use Rattle.qm_docset.specs.Entry.{Entry, Limits, AreEntries, documents, from, head_document, head_score}
 use Rattle.qm_docset.specs.EntryFacts.{from-nil, from-keep, from-skip}
-use Rattle.qm_docset.specs.declared.doc_set.SeekDangerResult.{SeekDangerResult}
-use Rattle.qm_docset.specs.declared.doc_set.SeekDangerResult.TheVariants.{Found, SeekLowerBound}
-use Rattle.qm_docset.specs.declared.doc_set.TheConstants.{TERMINATED}
+use Rattle.qm_docset.specs.declared.docset.SeekDangerResult.{SeekDangerResult}
+use Rattle.qm_docset.specs.declared.docset.SeekDangerResult.TheVariants.{Found, SeekLowerBound}
+use Rattle.qm_docset.specs.declared.numbers.TheConstants.{TERMINATED}
 use Rattle.qm_combine.specs.Rescored.{rescored, head_entry, limited}
 
 module _ (given : Entry → ℕ) where
@@ -79,16 +79,19 @@ module _ (given : Entry → ℕ) where
   pub AreEntries-rescored : (top low : ℕ) (limits : Limits) (es : List Entry) → ((e : Entry) → e.score ≤ limits.top → given e ≤ top) → AreEntries low limits es → AreEntries low (limited top limits) (rescored given es)
   unfolding rescored
   AreEntries-rescored top low limits [] within a = tt
-  AreEntries-rescored top low limits (e ∷ es) within a = (a.0, a.1, within e a.2, a.3, AreEntries-rescored top (e.document + 1) limits es within a.4)
+  AreEntries-rescored top low limits (e ∷ es) within a = record {
+    here = record { from_low = a.here.from_low; below_end = a.here.below_end; score = within e a.here.score; positions = a.here.positions };
+    others = AreEntries-rescored top (e.document + 1) limits es within a.others;
+  }
 
   pub IsSeekAnswer-rescored : (t : ℕ) (es : List Entry) (r : SeekDangerResult) → IsSeekAnswer t es r → IsSeekAnswer t (rescored given es) r
-  IsSeekAnswer-rescored t es Found h = (h.0, head_document-rescored es ∙ h.1)
-  IsSeekAnswer-rescored t es (SeekLowerBound bound) h = (omega (arith, head_document-rescored es), h.1, h.2)
+  IsSeekAnswer-rescored t es Found h = record { below_end = h.below_end; here = head_document-rescored es ∙ h.here }
+  IsSeekAnswer-rescored t es (SeekLowerBound bound) h = record { before_all = omega (arith, head_document-rescored es); past = h.past; at_end = h.at_end }
 
 -- a head's score is within the limits
 pub head_score-le : (low : ℕ) (limits : Limits) (es : List Entry) → AreEntries low limits es → head_score es ≤ limits.top
 head_score-le low limits [] a = omega arith
-head_score-le low limits (e ∷ es) a = a.2
+head_score-le low limits (e ∷ es) a = a.here.score
 
 pub product-le : (score top boost : ℕ) → score ≤ top → score * boost ≤ top * boost
 product-le score top boost h = grind arith

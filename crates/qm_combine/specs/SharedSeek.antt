@@ -2,9 +2,9 @@
 -- lacked it.
 use Rattle.std.specs.Prelude.{◌≡◌, ℕ, ◌<◌, ◌≤◌, List, All, Any}
 use Rattle.qm_docset.specs.Entry.{Entry, head_document}
-use Rattle.qm_docset.specs.declared.doc_set.TheConstants.{TERMINATED}
-use Rattle.qm_docset.specs.declared.doc_set.SeekDangerResult.{SeekDangerResult}
-use Rattle.qm_docset.specs.declared.doc_set.SeekDangerResult.TheVariants.{Found, SeekLowerBound}
+use Rattle.qm_docset.specs.declared.numbers.TheConstants.{TERMINATED}
+use Rattle.qm_docset.specs.declared.docset.SeekDangerResult.{SeekDangerResult}
+use Rattle.qm_docset.specs.declared.docset.SeekDangerResult.TheVariants.{Found, SeekLowerBound}
 
 -- Found, where all stand on the target; else a bound past it, before which one of them has no document
 -- left.

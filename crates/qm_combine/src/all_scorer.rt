@@ -2,15 +2,16 @@
 
 ghost use Rattle.std.specs.Prelude.{◌≡◌, ◌≤◌, length};
 ghost use Rattle.qm_docset.specs.Entry.{head_document};
-ghost use Rattle.qm_docset.specs.declared.doc_set.TheConstants.{TERMINATED};
+ghost use Rattle.qm_docset.specs.Lists.{Lists};
+ghost use Rattle.qm_docset.specs.declared.numbers.TheConstants.{TERMINATED};
 ghost use Rattle.qm_combine.specs.AllDocuments.{all_from, all_limits};
 ghost use Rattle.qm_combine.specs.AllDocumentsFacts.{AreEntries-all_from};
 
-use crate::scoring::Scorer;
-use qm_docset::{COLLECT_BLOCK_BUFFER_LEN, DocId, DocSet, Score, TERMINATED};
+use crate::scorer::Scorer;
+use qm_docset::{AliveBitSet, COLLECT_BLOCK_BUFFER_LEN, DocId, DocSet, Score, TERMINATED};
 
-/// Every document of a segment, each with the score 1. Always placed, and no call costs more than
-/// the documents that it hands over.
+/// Every document of a segment, each with the score 1. Always placed. No call costs more than the
+/// documents that it hands over; `count` asks the set of the alive ones once for each.
 #[derive(Clone, Copy, Debug)]
 pub struct AllScorer {
     doc: DocId,
@@ -23,18 +24,15 @@ impl AllScorer {
     /// none it stands at its end.
     pub fn new(max_doc: DocId) -> AllScorer
         requires { max_doc ≤ TERMINATED }
-        ensures entries { ⟦<AllScorer as DocSet>⟧.entries result ≡ all_from 0 max_doc }
-        ensures limits { ⟦<AllScorer as DocSet>⟧.limits result ≡ all_limits }
-        ensures valid { ⟦<AllScorer as DocSet>⟧.valid result }
-        ensures placed { ⟦<AllScorer as DocSet>⟧.placed result }
+        ensures lists { Lists ⟦<AllScorer as DocSet>⟧ result (all_from 0 max_doc) all_limits }
     {
         let mut scorer = AllScorer { doc: 0, max_doc };
-        scorer.stand(0);
+        scorer.move_to(0);
         scorer
     }
 
     // goes to this document, or to the end where there is no such document
-    fn stand(&mut self, doc: DocId) -> DocId
+    fn move_to(&mut self, doc: DocId) -> DocId
         requires { self.old.max_doc ≤ TERMINATED }
         ensures head { result ≡ head_document (all_from doc self.old.max_doc) }
         ensures entries { all_from self.new.doc self.new.max_doc ≡ all_from doc self.old.max_doc }
@@ -69,11 +67,11 @@ impl DocSet for AllScorer {
     }
 
     fn advance(&mut self) -> DocId {
-        self.stand(self.doc + 1)
+        self.move_to(self.doc + 1)
     }
 
     fn seek(&mut self, target: DocId) -> DocId {
-        self.stand(self.doc.max(target))
+        self.move_to(self.doc.max(target))
     }
 
     fn fill_buffer(&mut self, buffer: &mut [DocId; COLLECT_BLOCK_BUFFER_LEN]) -> usize {
@@ -83,12 +81,24 @@ impl DocSet for AllScorer {
         for (place, doc) in buffer.iter_mut().enumerate() {
             *doc = first + place as DocId;
         }
-        self.stand(first + COLLECT_BLOCK_BUFFER_LEN as DocId);
+        self.move_to(first + COLLECT_BLOCK_BUFFER_LEN as DocId);
         taken
     }
 
     fn size_hint(&self) -> u32 {
         self.remaining()
+    }
+
+    fn count(&mut self, alive: &AliveBitSet) -> u32 {
+        let (first, end) = (self.doc, self.max_doc);
+        let mut count = 0;
+        for doc in first..end {
+            if alive.is_alive(doc) {
+                count += 1;
+            }
+        }
+        self.doc = TERMINATED;
+        count
     }
 
     fn count_including_deleted(&mut self) -> u32 {

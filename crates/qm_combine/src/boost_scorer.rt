@@ -3,10 +3,11 @@
 ghost use Rattle.std.specs.Prelude.{◌≡◌, ℕ, ◌*◌, ◌≤◌, ◌<◌, ◌↔◌, pos, nat_abs, ◌≤ℤ◌, IfOk, IsErrOf, IsOkUnless};
 ghost use Rattle.std.proofs.Common.{arith};
 ghost use Rattle.qm_docset.specs.Entry.{Entry, Limits, greatest_score};
+ghost use Rattle.qm_docset.specs.Lists.{IsCursorOf};
 ghost use Rattle.qm_combine.specs.Rescored.{rescored, limited};
 ghost use Rattle.qm_combine.specs.RescoredFacts.{AreEntries-rescored, product-le};
 
-use crate::scoring::Scorer;
+use crate::scorer::Scorer;
 use qm_docset::{AliveBitSet, COLLECT_BLOCK_BUFFER_LEN, DocId, DocSet, Score, SeekDangerResult};
 use qm_schema::QueryError;
 
@@ -29,9 +30,9 @@ impl<S: Scorer> BoostScorer<S> {
         requires boost { pos 0 ≤ℤ boost }
         ensures refused { IsErrOf result QueryError.ScoreBound ↔ (greatest_score < (S.limits underlying).top * nat_abs boost) }
         ensures only { IsOkUnless result QueryError.ScoreBound }
-        ensures entries { IfOk result (λ s. ⟦<BoostScorer<S> as DocSet>⟧.entries s ≡ rescored (λ e. e.score * nat_abs boost) (S.entries underlying)) }
-        ensures limits { IfOk result (λ s. ⟦<BoostScorer<S> as DocSet>⟧.limits s ≡ limited ((S.limits underlying).top * nat_abs boost) (S.limits underlying)) }
-        ensures valid { IfOk result (λ s. ⟦<BoostScorer<S> as DocSet>⟧.valid s) }
+        ensures cursor { IfOk result (λ s. IsCursorOf ⟦<BoostScorer<S> as DocSet>⟧ s
+            (rescored (λ e. e.score * nat_abs boost) (S.entries underlying))
+            (limited ((S.limits underlying).top * nat_abs boost) (S.limits underlying))) }
         ensures placed { S.placed underlying → IfOk result (λ s. ⟦<BoostScorer<S> as DocSet>⟧.placed s) }
     {
         if underlying.max_score().checked_mul(boost).is_none() {

@@ -1,18 +1,18 @@
 //! The documents that any of several scorers has.
 
-ghost use Rattle.std.specs.Prelude.{◌≡◌, ◌+◌, ◌<◌, ◌≤◌, ◌↔◌, All, IfErr, IfOk, IsErrOf, map, max, pos};
+ghost use Rattle.std.specs.Prelude.{◌≡◌, ◌+◌, ◌<◌, ◌≤◌, ◌↔◌, ⊤, IfErr, IfOk, IsErrOf, IsPermutation, List, map, max, pos};
 ghost use Rattle.qm_docset.specs.Entry.{Entry, Limits, AreEntries, greatest_score, head_document};
 ghost use Rattle.qm_docset.specs.Gather.{gather};
-ghost use Rattle.qm_combine.specs.Combine.{combine};
-ghost use Rattle.qm_combine.specs.Union.{IsBoundOrMemory, total_top, united_limits, AreEntries-union};
+ghost use Rattle.qm_docset.specs.Lists.{ArePlaced, Lists, bounds, lists};
+ghost use Rattle.qm_combine.specs.Union.{IsBoundOrMemory, IsUnion, total_top, united_limits, AreEntries-union};
 
 mod members;
 
-use crate::bounds::sum_of_bounds;
 use crate::do_nothing_combiner::DoNothingCombiner;
+use crate::members::{least_document, seek_below, sum_of_bounds};
 use crate::score_combiner::ScoreCombiner;
-use crate::scoring::Scorer;
-use members::{combine_at, least_document, seek_all};
+use crate::scorer::Scorer;
+use members::combine_at;
 use qm_docset::{DocId, DocSet, Score, TERMINATED};
 use qm_schema::QueryError;
 use std::alloc::Global;
@@ -20,8 +20,9 @@ use std::alloc::Global;
 /// The documents that any of its members has, each with what a combiner makes of the members'
 /// scores there.
 ///
-/// For now it is a plain scan: a step, a seek, a score and a hint each look at every member, and
-/// nothing is kept between calls but the document. A buffered window can take the place of the body
+/// For now it is a plain scan: a step, a seek, a score and a hint each look at every member, a step
+/// or a seek moves those that stand below its target, and nothing is kept between calls but the
+/// document. A seek at or below the document does nothing. A buffered window can take the place of the body
 /// under the same contract.
 #[derive(Drop)]
 pub struct BufferedUnionScorer<S, C = DoNothingCombiner> {
@@ -46,14 +47,13 @@ impl<S: Scorer, C: ScoreCombiner> BufferedUnionScorer<S, C> {
         combiner: C,
         num_docs: u32,
     ) -> Result<BufferedUnionScorer<S, C>, QueryError>
-        requires valid { All S.valid docsets.items }
-        requires placed { All S.placed docsets.items }
-        ensures refused { IsErrOf result QueryError.ScoreBound ↔ (greatest_score < total_top (map S.limits docsets.items)) }
+        requires placed { ArePlaced S.DocSet docsets.items }
+        ensures refused { IsErrOf result QueryError.ScoreBound ↔ (greatest_score < total_top (bounds S.DocSet docsets.items)) }
         ensures only { IfErr result IsBoundOrMemory }
-        ensures valid { IfOk result (λ s. ⟦<BufferedUnionScorer<S, C> as DocSet>⟧.valid s) }
-        ensures entries { IfOk result (λ s. ⟦<BufferedUnionScorer<S, C> as DocSet>⟧.entries s ≡ gather 1 (combine C.step C.value (C.cleared combiner)) (map S.entries docsets.items)) }
-        ensures limits { IfOk result (λ s. ⟦<BufferedUnionScorer<S, C> as DocSet>⟧.limits s ≡ united_limits (map S.limits docsets.items)) }
-        ensures placed { IfOk result (λ s. ⟦<BufferedUnionScorer<S, C> as DocSet>⟧.placed s) }
+        ensures lists { IfOk result (λ s. Lists ⟦<BufferedUnionScorer<S, C> as DocSet>⟧ s
+            (gather 1 (C.combined combiner) (lists S.DocSet docsets.items)) (united_limits (bounds S.DocSet docsets.items))) }
+        ensures any_order { IfOk result (λ s. (members : List S) → IsPermutation docsets.items members
+            → ⟦<BufferedUnionScorer<S, C> as DocSet>⟧.entries s ≡ gather 1 (C.combined combiner) (lists S.DocSet members)) }
     {
         let Some(sum) = sum_of_bounds(&docsets) else {
             return Err(QueryError::ScoreBound);
@@ -72,15 +72,14 @@ impl<S: Scorer, C: ScoreCombiner> BufferedUnionScorer<S, C> {
 }
 
 impl<S: Scorer, C: ScoreCombiner> DocSet for BufferedUnionScorer<S, C> {
-    ghost entries = { λ s. gather 1 (combine C.step C.value s.combiner) (map S.entries s.members.items) };
+    ghost entries = { λ s. gather 1 (C.combined s.combiner) (map S.entries s.members.items) };
 
     ghost limits = { λ s. united_limits (map S.limits s.members.items) };
 
-    // its document is the first, and each member stands there or past it
-    ghost placed = { λ s. (s.doc ≡ head_document (gather 1 (combine C.step C.value s.combiner) (map S.entries s.members.items))) × All (λ m. S.placed m × (s.doc ≤ head_document (S.entries m))) s.members.items };
+    // it is always placed: no call leaves it elsewhere
+    ghost placed = { λ _. ⊤ };
 
-    // the combiner is one that was cleared, and has room for the scores of all members
-    ghost valid = { λ s. All S.valid s.members.items × (total_top (map S.limits s.members.items) ≤ greatest_score) × (s.max_score ≡ pos (max 1 (total_top (map S.limits s.members.items)))) × ((start : C) × (s.combiner ≡ C.cleared start)) };
+    ghost valid = { λ s. IsUnion S.DocSet C.cleared s.members.items s.combiner s.max_score s.doc };
 
     fn doc(&self) -> DocId {
         self.doc
@@ -91,7 +90,10 @@ impl<S: Scorer, C: ScoreCombiner> DocSet for BufferedUnionScorer<S, C> {
     }
 
     fn seek(&mut self, target: DocId) -> DocId {
-        self.doc = seek_all(&mut self.members, target);
+        if target <= self.doc {
+            return self.doc;
+        }
+        self.doc = seek_below(&mut self.members, target);
         self.doc
     }
 
@@ -111,7 +113,7 @@ impl<S: Scorer, C: ScoreCombiner> DocSet for BufferedUnionScorer<S, C> {
         cost
     }
 
-    ghost ascending = { λ s h. AreEntries-union C.step C.cleared C.value C.bounded s.combiner h.3.0 h.3.1 1 S.limits S.entries s.members.items (λ k d below. S.ascending _ (h.0 k d below)) h.1 };
+    ghost ascending = { λ s h. AreEntries-union (C.combined s.combiner) (C.bounded s.combiner) 1 S.limits S.entries s.members.items (λ k d below. S.ascending _ (h.valid k d below)) h.fits };
 }
 
 impl<S: Scorer, C: ScoreCombiner> Scorer for BufferedUnionScorer<S, C> {

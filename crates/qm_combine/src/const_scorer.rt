@@ -2,11 +2,12 @@
 
 ghost use Rattle.std.specs.Prelude.{◌≡◌, ℕ, ◌≤◌, ◌<◌, pos, nat_abs, ◌≤ℤ◌};
 ghost use Rattle.qm_docset.specs.Entry.{Entry, Limits};
+ghost use Rattle.qm_docset.specs.Lists.{IsCursorOf};
 ghost use Rattle.qm_combine.specs.Rescored.{rescored, limited};
 ghost use Rattle.qm_combine.specs.RescoredFacts.{AreEntries-rescored, rescored-nil};
 ghost use Rattle.std.proofs.Common.{arith};
 
-use crate::scoring::Scorer;
+use crate::scorer::Scorer;
 use qm_docset::{AliveBitSet, COLLECT_BLOCK_BUFFER_LEN, DocId, DocSet, Score, SeekDangerResult};
 
 /// The documents of a cursor, each with the same score. Every call costs what that of the cursor
@@ -23,9 +24,7 @@ impl<D: DocSet> ConstScorer<D> {
     pub fn new(docset: D, score: Score) -> ConstScorer<D>
         requires valid { D.valid docset }
         requires score { pos 0 ≤ℤ score }
-        ensures entries { ⟦<ConstScorer<D> as DocSet>⟧.entries result ≡ rescored (λ _. nat_abs score) (D.entries docset) }
-        ensures limits { ⟦<ConstScorer<D> as DocSet>⟧.limits result ≡ limited (nat_abs score) (D.limits docset) }
-        ensures valid { ⟦<ConstScorer<D> as DocSet>⟧.valid result }
+        ensures cursor { IsCursorOf ⟦<ConstScorer<D> as DocSet>⟧ result (rescored (λ _. nat_abs score) (D.entries docset)) (limited (nat_abs score) (D.limits docset)) }
         ensures placed { D.placed docset → ⟦<ConstScorer<D> as DocSet>⟧.placed result }
     {
         ConstScorer { docset, score }
@@ -34,9 +33,7 @@ impl<D: DocSet> ConstScorer<D> {
 
 impl<D: DocSet> From<D> for ConstScorer<D> {
     ghost from_gives = { λ docset scorer.
-        (⟦<ConstScorer<D> as DocSet>⟧.entries scorer ≡ rescored (λ _. 1) (D.entries docset))
-        × (⟦<ConstScorer<D> as DocSet>⟧.limits scorer ≡ limited 1 (D.limits docset))
-        × (D.valid docset → ⟦<ConstScorer<D> as DocSet>⟧.valid scorer)
+        (D.valid docset → IsCursorOf ⟦<ConstScorer<D> as DocSet>⟧ scorer (rescored (λ _. 1) (D.entries docset)) (limited 1 (D.limits docset)))
         × (D.placed docset → ⟦<ConstScorer<D> as DocSet>⟧.placed scorer) };
 
     /// A scorer over the cursor's remaining documents that gives each the score 1. It is placed

@@ -1,29 +1,28 @@
 //! The documents that enough of several scorers have.
 
-ghost use Rattle.std.specs.Prelude.{◌≡◌, ℕ, ◌+◌, ◌<◌, ◌≤◌, ◌↔◌, ⊤, All, List, IfErr, IfOk, IsErrOf, map, max, nat_abs, pos};
+ghost use Rattle.std.specs.Prelude.{◌≡◌, ℕ, ◌+◌, ◌<◌, ◌≤◌, ◌↔◌, ⊤, All, List, IfErr, IfOk, IsErrOf, IsOkUnless, map, max, nat_abs, pos};
 ghost use Rattle.std.specs.BinaryHeap.{IsHeap, heap_items};
 ghost use Rattle.std.specs.Iterator.{IsFiniteIterable};
 ghost use Rattle.qm_docset.specs.Entry.{Entry, Limits, AreEntries, greatest_score, head_document};
 ghost use Rattle.qm_docset.specs.Gather.{gather};
-ghost use Rattle.qm_combine.specs.Combine.{combine};
+ghost use Rattle.qm_docset.specs.Lists.{ArePlaced, IsPlaced, Lists, bounds, lists};
 ghost use Rattle.qm_combine.specs.Disjunction.{AreStanding, least_first, led_by};
-ghost use Rattle.qm_combine.specs.Given.{Gives, GivesOnly};
+ghost use Rattle.qm_combine.specs.Given.{GivesOnly, GivesSome};
 ghost use Rattle.qm_combine.specs.Union.{IsBoundOrMemory, total_top, united_limits};
 
 mod chain;
+mod collect;
 mod next_match;
-mod row;
 mod scorer_wrapper;
 
-use crate::bounds::sum_of_bounds;
 use crate::do_nothing_combiner::DoNothingCombiner;
 use crate::score_combiner::ScoreCombiner;
-use crate::scoring::Scorer;
+use crate::scorer::Scorer;
 use chain::{chained, seek_behind};
+use collect::collect_members;
 use next_match::next_match;
 use qm_docset::{DocId, DocSet, Score, TERMINATED};
 use qm_schema::QueryError;
-use row::row_of;
 use scorer_wrapper::ScorerWrapper;
 use std::alloc::Global;
 use std::collections::BinaryHeap;
@@ -50,9 +49,10 @@ impl<S: Scorer, C: ScoreCombiner> Disjunction<S, C> {
     /// where they are fewer. Takes whatever can be gone through and ends. The combiner is cleared
     /// first. Asks for a minimum of 2 or more, which may be `usize::MAX`.
     ///
-    /// Refuses with [`QueryError::ScoreBound`] where the members' `max_score` add up to more than
-    /// 9223372036854775807, and with [`QueryError::Memory`] where there is no room for a row of the
-    /// members or for their heap; where both hold, with either. No later call takes memory. The
+    /// Refuses with [`QueryError::ScoreBound`] exactly where the members' `max_score` add up to more
+    /// than 9223372036854775807, whether or not memory was refused too, and otherwise with
+    /// [`QueryError::Memory`] alone, where there is no room for a row of the members or for their
+    /// heap. No later call takes memory. The
     /// members go on up to the first document that enough of them have, and those that have it one
     /// document further.
     pub fn new<I: IntoIterator<Item = S>>(
@@ -63,41 +63,33 @@ impl<S: Scorer, C: ScoreCombiner> Disjunction<S, C> {
     ) -> Result<Disjunction<S, C>, QueryError>
         requires minimum { 2 ≤ minimum }
         requires ends { IsFiniteIterable I.into_iter_gives I.IntoIter.can_next I.IntoIter.remaining docsets }
-        requires valid { GivesOnly I.into_iter_gives I.IntoIter.next_gives S.valid docsets }
-        requires placed { GivesOnly I.into_iter_gives I.IntoIter.next_gives S.placed docsets }
-        ensures refused { IsErrOf result QueryError.ScoreBound → (members : List S) × Gives I.into_iter_gives I.IntoIter.next_gives docsets members × (greatest_score < total_top (map S.limits members)) }
+        requires placed { GivesOnly I.into_iter_gives I.IntoIter.next_gives (IsPlaced S.DocSet) docsets }
+        ensures made { GivesSome I.into_iter_gives I.IntoIter.next_gives docsets (λ members.
+            (IsErrOf result QueryError.ScoreBound ↔ (greatest_score < total_top (bounds S.DocSet members)))
+            × IfOk result (λ s. Lists ⟦<Disjunction<S, C> as DocSet>⟧ s
+            (gather minimum (C.combined combiner) (lists S.DocSet members)) (united_limits (bounds S.DocSet members)))) }
         ensures only { IfErr result IsBoundOrMemory }
-        ensures made { IfOk result (λ s. (members : List S) × Gives I.into_iter_gives I.IntoIter.next_gives docsets members × (total_top (map S.limits members) ≤ greatest_score)
-            × (⟦<Disjunction<S, C> as DocSet>⟧.entries s ≡ gather minimum (combine C.step C.value (C.cleared combiner)) (map S.entries members))
-            × (⟦<Disjunction<S, C> as DocSet>⟧.limits s ≡ united_limits (map S.limits members))) }
-        ensures valid { IfOk result (λ s. ⟦<Disjunction<S, C> as DocSet>⟧.valid s) }
-        ensures placed { IfOk result (λ s. ⟦<Disjunction<S, C> as DocSet>⟧.placed s) }
     {
-        let members = row_of(alloc, docsets)?;
-        Disjunction::of(alloc, members, combiner, minimum)
+        let (members, sum) = collect_members(alloc, docsets)?;
+        Disjunction::with_members(alloc, members, sum, combiner, minimum)
     }
 
-    /// The same of members that stand in a row.
-    fn of(
+    /// The same of members that stand in a row, with the sum of their bounds.
+    fn with_members(
         alloc: Global,
         members: Vec<S>,
+        sum: Score,
         combiner: C,
         minimum: usize,
     ) -> Result<Disjunction<S, C>, QueryError>
         requires minimum { 2 ≤ minimum }
-        requires valid { All S.valid members.items }
-        requires placed { All S.placed members.items }
-        ensures refused { IsErrOf result QueryError.ScoreBound ↔ (greatest_score < total_top (map S.limits members.items)) }
-        ensures only { IfErr result IsBoundOrMemory }
-        ensures fits { IfOk result (λ _. total_top (map S.limits members.items) ≤ greatest_score) }
-        ensures entries { IfOk result (λ s. ⟦<Disjunction<S, C> as DocSet>⟧.entries s ≡ gather minimum (combine C.step C.value (C.cleared combiner)) (map S.entries members.items)) }
-        ensures limits { IfOk result (λ s. ⟦<Disjunction<S, C> as DocSet>⟧.limits s ≡ united_limits (map S.limits members.items)) }
-        ensures valid { IfOk result (λ s. ⟦<Disjunction<S, C> as DocSet>⟧.valid s) }
-        ensures placed { IfOk result (λ s. ⟦<Disjunction<S, C> as DocSet>⟧.placed s) }
+        requires placed { ArePlaced S.DocSet members.items }
+        requires fits { total_top (bounds S.DocSet members.items) ≤ greatest_score }
+        requires sum { sum ≡ pos (total_top (bounds S.DocSet members.items)) }
+        ensures lists { IfOk result (λ s. Lists ⟦<Disjunction<S, C> as DocSet>⟧ s
+            (gather minimum (C.combined combiner) (lists S.DocSet members.items)) (united_limits (bounds S.DocSet members.items))) }
+        ensures only { IsOkUnless result QueryError.Memory }
     {
-        let Some(sum) = sum_of_bounds(&members) else {
-            return Err(QueryError::ScoreBound);
-        };
         let mut combiner = combiner;
         combiner.clear();
         let chain = chained(alloc, members)?;
@@ -124,7 +116,7 @@ impl<S: Scorer, C: ScoreCombiner> Disjunction<S, C> {
         requires cleared { (start : C) × (self.old.combiner ≡ C.cleared start) }
         requires minimum { 1 ≤ self.old.minimum }
         ensures head { result ≡ head_document (⟦<Disjunction<S, C> as DocSet>⟧.entries self.new) }
-        ensures entries { ⟦<Disjunction<S, C> as DocSet>⟧.entries self.new ≡ gather self.old.minimum (combine C.step C.value self.old.combiner) (map (λ w. S.entries w.scorer) (heap_items self.old.chain)) }
+        ensures entries { ⟦<Disjunction<S, C> as DocSet>⟧.entries self.new ≡ gather self.old.minimum (C.combined self.old.combiner) (map (λ w. S.entries w.scorer) (heap_items self.old.chain)) }
         ensures limits { ⟦<Disjunction<S, C> as DocSet>⟧.limits self.new ≡ ⟦<Disjunction<S, C> as DocSet>⟧.limits self.old }
         ensures valid { ⟦<Disjunction<S, C> as DocSet>⟧.valid self.new }
     {
@@ -136,9 +128,9 @@ impl<S: Scorer, C: ScoreCombiner> Disjunction<S, C> {
 }
 
 impl<S: Scorer, C: ScoreCombiner> DocSet for Disjunction<S, C> {
-    ghost use Rattle.qm_docset.specs.declared.doc_set.TheConstants.{TERMINATED};
+    ghost use Rattle.qm_docset.specs.declared.numbers.TheConstants.{TERMINATED};
 
-    ghost entries = { λ s. led_by s.current_doc (nat_abs s.current_score) (gather s.minimum (combine C.step C.value s.combiner) (map (λ w. S.entries w.scorer) (heap_items s.chain))) };
+    ghost entries = { λ s. led_by s.current_doc (nat_abs s.current_score) (gather s.minimum (C.combined s.combiner) (map (λ w. S.entries w.scorer) (heap_items s.chain))) };
 
     ghost limits = { λ s. united_limits (map (λ w. S.limits w.scorer) (heap_items s.chain)) };
 
@@ -154,7 +146,7 @@ impl<S: Scorer, C: ScoreCombiner> DocSet for Disjunction<S, C> {
         × (1 ≤ s.minimum)
         × (s.current_doc ≤ TERMINATED)
         × (s.current_score ≡ pos (nat_abs s.current_score))
-        × AreEntries 0 (united_limits (map (λ w. S.limits w.scorer) (heap_items s.chain))) (led_by s.current_doc (nat_abs s.current_score) (gather s.minimum (combine C.step C.value s.combiner) (map (λ w. S.entries w.scorer) (heap_items s.chain)))) };
+        × AreEntries 0 (united_limits (map (λ w. S.limits w.scorer) (heap_items s.chain))) (led_by s.current_doc (nat_abs s.current_score) (gather s.minimum (C.combined s.combiner) (map (λ w. S.entries w.scorer) (heap_items s.chain)))) };
 
     fn doc(&self) -> DocId {
         self.current_doc

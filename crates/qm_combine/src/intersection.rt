@@ -4,13 +4,15 @@ ghost use Rattle.std.specs.Prelude.{◌≡◌, ◌<◌, ◌≤◌, ◌∷◌, Al
 ghost use Rattle.qm_docset.specs.Entry.{Entry, Limits, AreEntries, head_document};
 ghost use Rattle.qm_docset.specs.Gather.{common_entries};
 ghost use Rattle.qm_docset.specs.GatherFacts.{AreMembers-map};
+ghost use Rattle.qm_docset.specs.Lists.{ArePlaced, Lists, bounds, lists};
 ghost use Rattle.qm_combine.specs.HeldSum.{held_sum, held_limits};
 ghost use Rattle.qm_combine.specs.HeldSumFacts.{AreEntries-common_entries};
 
 mod members;
 
-use crate::scoring::Scorer;
-use members::{GREATEST_SCORE, by_cost, seek_each, sum_scores};
+use crate::members::{by_cost, seek_each};
+use crate::scorer::Scorer;
+use members::{GREATEST_SCORE, cheapest, sum_scores};
 use qm_docset::{DocId, DocSet, Score, SeekDangerResult, TERMINATED};
 use qm_schema::QueryError;
 use std::alloc::Global;
@@ -34,8 +36,8 @@ impl<D: DocSet> Intersection<D, D> {
     /// which only the size hint depends on. They may stand anywhere; what is listed begins at the
     /// first document at or past all of theirs.
     ///
-    /// Fails with [`QueryError::Memory`] alone, where there is no room for the members in the order
-    /// of their costs. No later call takes memory. No member is moved further than the first common
+    /// Fails with [`QueryError::Memory`] alone, where there is no room to put more than two members
+    /// in the order of their costs; two take no memory. No later call takes memory. No member is moved further than the first common
     /// document needs.
     pub fn new(
         alloc: Global,
@@ -43,39 +45,41 @@ impl<D: DocSet> Intersection<D, D> {
         num_docs: u32,
     ) -> Result<Intersection<D, D>, QueryError>
         requires two { 2 ≤ vec_len docsets }
-        requires valid { All D.valid docsets.items }
-        requires placed { All D.placed docsets.items }
-        ensures entries { IfOk result (λ it. ⟦<Intersection<D, D> as DocSet>⟧.entries it ≡ common_entries held_sum (map D.entries docsets.items)) }
-        ensures limits { IfOk result (λ it. ⟦<Intersection<D, D> as DocSet>⟧.limits it ≡ held_limits (map D.limits docsets.items)) }
-        ensures valid { IfOk result ⟦<Intersection<D, D> as DocSet>⟧.valid }
-        ensures placed { IfOk result ⟦<Intersection<D, D> as DocSet>⟧.placed }
+        requires placed { ArePlaced D.DocSet docsets.items }
+        ensures lists { IfOk result (λ it. Lists ⟦<Intersection<D, D> as DocSet>⟧ it
+            (common_entries held_sum (lists D.DocSet docsets.items)) (held_limits (bounds D.DocSet docsets.items))) }
         ensures memory { IsOkUnless result QueryError.Memory }
     {
-        let mut others = by_cost(alloc, docsets)?;
-        let left = others.remove(0);
+        let mut docsets = docsets;
+        let cheapest = cheapest(&docsets);
+        let left = docsets.swap_remove(cheapest);
+        let others = by_cost(alloc, docsets)?;
+        let candidate = left.doc();
         let mut intersection = Intersection {
             left,
             others,
             num_docs,
         };
-        intersection.align();
+        intersection.align(candidate);
         Ok(intersection)
     }
 }
 
 impl<L: DocSet, D: DocSet> Intersection<L, D> {
-    /// Goes on, from where the leader stands, to the first document that all have, and answers it.
-    /// The others need not be placed.
-    fn align(&mut self) -> DocId
+    /// Moves the members, from the leader's document on, to the first document that all have, and
+    /// answers it. The others need not be placed.
+    fn align(&mut self, first: DocId) -> DocId
         requires valid { ⟦<Intersection<L, D> as DocSet>⟧.valid self.old }
         requires leader { L.placed self.old.left }
+        requires first { first ≡ head_document (L.entries self.old.left) }
         ensures head { result ≡ head_document (⟦<Intersection<L, D> as DocSet>⟧.entries self.new) }
         ensures entries { ⟦<Intersection<L, D> as DocSet>⟧.entries self.new ≡ ⟦<Intersection<L, D> as DocSet>⟧.entries self.old }
         ensures limits { ⟦<Intersection<L, D> as DocSet>⟧.limits self.new ≡ ⟦<Intersection<L, D> as DocSet>⟧.limits self.old }
         ensures valid { ⟦<Intersection<L, D> as DocSet>⟧.valid self.new }
         ensures placed { ⟦<Intersection<L, D> as DocSet>⟧.placed self.new }
     {
-        let mut candidate = self.left.doc();
+        let mut candidate = first;
+        // the leader stands on the candidate, and no document before it is in all
         while candidate < TERMINATED {
             match seek_each(&mut self.others, candidate) {
                 SeekDangerResult::Found => return candidate,
@@ -87,7 +91,7 @@ impl<L: DocSet, D: DocSet> Intersection<L, D> {
 }
 
 impl<L: DocSet, D: DocSet> DocSet for Intersection<L, D> {
-    ghost use Rattle.qm_docset.specs.declared.doc_set.TheConstants.{TERMINATED};
+    ghost use Rattle.qm_docset.specs.declared.numbers.TheConstants.{TERMINATED};
 
     ghost entries = { λ s. common_entries held_sum (L.entries s.left ∷ map D.entries s.others.items) };
 
@@ -103,13 +107,13 @@ impl<L: DocSet, D: DocSet> DocSet for Intersection<L, D> {
     }
 
     fn advance(&mut self) -> DocId {
-        self.left.advance();
-        self.align()
+        let candidate = self.left.advance();
+        self.align(candidate)
     }
 
     fn seek(&mut self, target: DocId) -> DocId {
-        self.left.seek(target);
-        self.align()
+        let candidate = self.left.seek(target);
+        self.align(candidate)
     }
 
     fn seek_danger(&mut self, target: DocId) -> SeekDangerResult {

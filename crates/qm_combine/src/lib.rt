@@ -4,7 +4,6 @@
 
 mod all_scorer;
 mod boost_scorer;
-mod bounds;
 mod buffered_union;
 mod const_scorer;
 mod disjunction;
@@ -13,9 +12,11 @@ mod do_nothing_combiner;
 mod empty_scorer;
 mod exclude;
 mod intersection;
+mod left;
+mod members;
 mod reqopt_scorer;
 mod score_combiner;
-mod scoring;
+mod scorer;
 mod sum_combiner;
 
 pub use all_scorer::AllScorer;
@@ -28,9 +29,13 @@ pub use do_nothing_combiner::DoNothingCombiner;
 pub use empty_scorer::EmptyScorer;
 pub use exclude::Exclude;
 pub use intersection::Intersection;
+pub use left::scores_left;
+pub use members::{
+    by_cost, least_document, seek_all, seek_below, seek_each, seek_if_below, sum_of_bounds,
+};
 pub use reqopt_scorer::RequiredOptionalScorer;
 pub use score_combiner::ScoreCombiner;
-pub use scoring::Scorer;
+pub use scorer::Scorer;
 pub use sum_combiner::SumCombiner;
 
 #[cfg(test)]

@@ -1,15 +1,16 @@
 //! A cursor over required documents whose scores an optional cursor adds to.
 
 ghost use Rattle.std.specs.Prelude.{◌≡◌, ℕ, ◌+◌, ◌≤◌, ◌<◌, ◌↔◌, ◌∷◌, [], fold, max, IfOk, IsErrOf, IsOkUnless};
-ghost use Rattle.qm_docset.specs.Entry.{from, greatest_score, head_document};
+ghost use Rattle.qm_docset.specs.Entry.{from, greatest_score};
 ghost use Rattle.qm_docset.specs.Gather.{scores_at};
-ghost use Rattle.qm_combine.specs.Combine.{combine};
-ghost use Rattle.qm_combine.specs.CombineFacts.{combine-bounded};
+ghost use Rattle.qm_docset.specs.Lists.{IsCursorOf, IsPlaced, Lists};
+ghost use Rattle.qm_combine.specs.CombineFacts.{combined-bounded};
 ghost use Rattle.qm_combine.specs.Rescored.{limited, with_optional};
 ghost use Rattle.qm_combine.specs.OptionalFacts.{AreEntries-with_optional};
 
+use crate::members::seek_if_below;
 use crate::score_combiner::ScoreCombiner;
-use crate::scoring::Scorer;
+use crate::scorer::Scorer;
 use qm_docset::{
     AliveBitSet, COLLECT_BLOCK_BUFFER_LEN, DocId, DocSet, Score, SeekDangerResult, TERMINATED,
 };
@@ -18,8 +19,9 @@ use qm_schema::QueryError;
 /// The documents of a required scorer, each with its score combined with that of an optional scorer
 /// where that one has the document too.
 ///
-/// Every call costs what that of the required scorer does. The optional scorer moves only when a
-/// score is asked for: at most one seek for each, and no step.
+/// Every call costs what that of the required scorer does. A step, a seek, a buffer or a count moves
+/// the required scorer alone; the optional one moves when a score is asked for, by one seek at most
+/// and by no step.
 #[derive(Drop)]
 pub struct RequiredOptionalScorer<R, O, C> {
     required: R,
@@ -36,16 +38,12 @@ impl<R: Scorer, O: Scorer, C: ScoreCombiner> RequiredOptionalScorer<R, O, C> {
     /// the two add up to more than 9223372036854775807. Takes no memory.
     pub fn new(required: R, optional: O) -> Result<RequiredOptionalScorer<R, O, C>, QueryError>
         requires required { R.valid required }
-        requires optional { O.valid optional }
-        requires placed { O.placed optional }
+        requires optional { IsPlaced O.DocSet optional }
         ensures refused { IsErrOf result QueryError.ScoreBound ↔ (greatest_score < (R.limits required).top + (O.limits optional).top) }
         ensures only { IsOkUnless result QueryError.ScoreBound }
-        ensures entries { IfOk result (λ s. (start : C) × C.is_default start
-            × (⟦<RequiredOptionalScorer<R, O, C> as DocSet>⟧.entries s
-            ≡ with_optional (combine C.step C.value (C.cleared start)) (R.entries required) (O.entries optional))) }
-        ensures limits { IfOk result (λ s. ⟦<RequiredOptionalScorer<R, O, C> as DocSet>⟧.limits s
-            ≡ limited (max 1 ((R.limits required).top + (O.limits optional).top)) (R.limits required)) }
-        ensures valid { IfOk result (λ s. ⟦<RequiredOptionalScorer<R, O, C> as DocSet>⟧.valid s) }
+        ensures cursor { IfOk result (λ s. (start : C) × C.is_default start × IsCursorOf ⟦<RequiredOptionalScorer<R, O, C> as DocSet>⟧ s
+            (with_optional (C.combined start) (R.entries required) (O.entries optional))
+            (limited (max 1 ((R.limits required).top + (O.limits optional).top)) (R.limits required))) }
         ensures positioned { R.placed required → IfOk result (λ s. ⟦<RequiredOptionalScorer<R, O, C> as DocSet>⟧.placed s) }
     {
         if required
@@ -65,46 +63,23 @@ impl<R: Scorer, O: Scorer, C: ScoreCombiner> RequiredOptionalScorer<R, O, C> {
     }
 }
 
-// what `seek` does, without the call where the cursor is there already
-fn reach<D: DocSet>(docset: &mut D, target: DocId) -> DocId
-    requires valid { D.valid docset.old }
-    requires placed { D.placed docset.old }
-    requires target { target ≤ TERMINATED }
-    ensures head { result ≡ head_document (D.entries docset.new) }
-    ensures entries { D.entries docset.new ≡ from target (D.entries docset.old) }
-    ensures limits { D.limits docset.new ≡ D.limits docset.old }
-    ensures valid { D.valid docset.new }
-    ensures placed { D.placed docset.new }
-{
-    let doc = docset.doc();
-    if doc < target {
-        docset.seek(target)
-    } else {
-        doc
-    }
-}
-
 // Moves the optional scorer to a document, unless it is there or past it, and takes its score where
 // it has the document.
 fn add_optional<O: Scorer, C: ScoreCombiner>(combiner: &mut C, optional: &mut O, doc: DocId)
-    requires valid { O.valid optional.old }
-    requires placed { O.placed optional.old }
+    requires placed { IsPlaced O.DocSet optional.old }
     requires document { doc < TERMINATED }
     requires room { C.has_room combiner.old (O.limits optional.old).top }
     ensures state { combiner.new ≡ fold C.step combiner.old (scores_at doc (O.entries optional.old ∷ [])) }
-    ensures entries { O.entries optional.new ≡ from doc (O.entries optional.old) }
-    ensures limits { O.limits optional.new ≡ O.limits optional.old }
-    ensures valid { O.valid optional.new }
-    ensures placed { O.placed optional.new }
+    ensures left { Lists O.DocSet optional.new (from doc (O.entries optional.old)) (O.limits optional.old) }
 {
-    if reach(optional, doc) == doc {
+    if seek_if_below(optional, doc) == doc {
         combiner.update(optional);
     }
 }
 
 #[tactic(auto, using(crate::specs::RescoredFacts::rescoring))]
 impl<R: Scorer, O: Scorer, C: ScoreCombiner> DocSet for RequiredOptionalScorer<R, O, C> {
-    ghost entries = { λ s. with_optional (combine C.step C.value s.combiner) (R.entries s.required) (O.entries s.optional) };
+    ghost entries = { λ s. with_optional (C.combined s.combiner) (R.entries s.required) (O.entries s.optional) };
 
     ghost limits = { λ s. limited (max 1 ((R.limits s.required).top + (O.limits s.optional).top)) (R.limits s.required) };
 
@@ -151,9 +126,9 @@ impl<R: Scorer, O: Scorer, C: ScoreCombiner> DocSet for RequiredOptionalScorer<R
         self.required.count_including_deleted()
     }
 
-    ghost ascending = { λ s h. AreEntries-with_optional (combine C.step C.value s.combiner) (max 1 ((R.limits s.required).top + (O.limits s.optional).top))
+    ghost ascending = { λ s h. AreEntries-with_optional (C.combined s.combiner) (max 1 ((R.limits s.required).top + (O.limits s.optional).top))
         (R.limits s.required) (O.limits s.optional) (R.entries s.required) (O.entries s.optional)
-        (λ scores within. combine-bounded C.step C.cleared C.value C.bounded s.combiner h.4.0 h.4.1 scores ((R.limits s.required).top + (O.limits s.optional).top) within h.3)
+        (λ scores within. combined-bounded (C.combined s.combiner) (C.bounded s.combiner) scores ((R.limits s.required).top + (O.limits s.optional).top) within h.3)
         (R.ascending s.required h.0) (O.ascending s.optional h.1) };
 }
 

@@ -1,15 +1,10 @@
-//! Worked examples, over cursors that keep no more than the law of their trait.
+//! What no clause says: worked rows, how far members are moved, and that memory suffices.
 
 mod combiners;
-mod disjunction;
 mod excluded;
-mod intersection;
 mod laziness;
 mod least_cursor;
 mod many_members;
-mod nested;
 mod optional;
 mod refused_memory;
-mod union;
-mod visits;
-mod wrappers;
+mod worked_rows;

@@ -6,7 +6,7 @@ use Rattle.qm_docset.specs.declared.tiny_set.TinySet.{TinySet}
 use Rattle.qm_docset.specs.Members.{members_between}
 use Rattle.qm_docset.specs.TinySet.{tiny_has, tiny_members}
 use Rattle.qm_docset.specs.Words.{words_have}
-use Rattle.qm_docset.proofs.MembersLemmas.{and_true, members_between-none, members_between-split, members_between-skip, members_between-bound, members_between-same, members_between-shift, members_between-first_of, cases_first, IsFirst, HasNone, HasNone-from_members}
+use Rattle.qm_docset.proofs.MembersLemmas.{and_true, members_between-none, members_between-split, members_between-skip, members_between-same, members_between-shift, members_between-first_of, cases_first, IsFirst, HasNone, HasNone-from_members}
 use Rattle.qm_docset.proofs.TinySetLemmas.{tiny_has-zero, tiny_has-past}
 
 -- ---- one word
@@ -95,20 +95,9 @@ length-word_more has word low bucket above is =
     let whole = ap length (word_members_whole has word bucket is) ∙ length-map (tiny_members word) (λ x. 64 * bucket + x) in
     omega arith
 
--- one more of the words is counted
-pub length-words_more : (words : List TinySet) (i : ℕ) → length (members_between (words_have words) 0 (64 * i)) + length (tiny_members (get_or words i (record { bits = 0 }))) ≡ length (members_between (words_have words) 0 (64 * (i + 1)))
-length-words_more words i = length-word_more (words_have words) (get_or words i (record { bits = 0 })) 0 i (omega arith) (tiny_has-word words i)
-
 -- no member stands at or past the bound
 pub lacks_past : (words : List TinySet) (bound : ℕ) → ((x : ℕ) → IsTrue (words_have words x) → x < bound) → (x : ℕ) → bound ≤ x → words_have words x ≡ false
 lacks_past words bound within x past = false_from_ne_true (words_have words x) (λ member. absurd (let less = within x member in omega arith))
-
-pub members_up_to_bound : (words : List TinySet) (bound : ℕ) → bound ≤ 64 * length words → ((x : ℕ) → IsTrue (words_have words x) → x < bound)
-    → members_between (words_have words) 0 (64 * length words) ≡ members_between (words_have words) 0 bound
-members_up_to_bound words bound long within = members_between-bound (words_have words) 0 bound (64 * length words) long (lacks_past words bound within)
-
-pub words_have-none : (words : List TinySet) → 0 ≡ length (members_between (words_have words) 0 (64 * 0))
-words_have-none words = rw (members_between-none (words_have words) 0 0 (λ x above below. absurd (omega arith)))
 
 -- a word with a member after words with none
 pub first_in_word : (words : List TinySet) (bucket low bound : ℕ) → low ≤ 64 * bucket → HasNone (words_have words) low (64 * bucket)

@@ -1,10 +1,10 @@
 -- A buffer that takes a cursor's documents one by one.
-use Rattle.std.proofs.Common.{◌≡◌, ◌≢◌, inl, inr, ℕ, zero, suc, ◌<◌, ◌≤◌, List, [], ◌∷◌, length, take, drop, set, ap, arith, length-drop}
+use Rattle.std.proofs.Common.{◌≡◌, ◌≢◌, inl, inr, ℕ, zero, suc, ◌<◌, ◌≤◌, List, [], ◌∷◌, ◌++◌, length, take, drop, set, refl, ap, arith, length-drop}
 use Rattle.std.proofs.lemmas.Bool.{cases_lt}
 use Rattle.std.proofs.lemmas.List.{drop_all}
 use Rattle.qm_docset.specs.Entry.{Entry, Limits, AreEntries, documents, head_document}
 use Rattle.qm_docset.specs.EntryFacts.{AreEntries-drop, entries-at_end}
-use Rattle.qm_docset.specs.declared.doc_set.TheConstants.{TERMINATED}
+use Rattle.qm_docset.specs.declared.numbers.TheConstants.{TERMINATED}
 
 -- one more document at the place behind those taken
 pub documents-taken_more : (n v : ℕ) (es : List Entry) (b : List ℕ) → n < length es → n < length b → take n b ≡ documents (take n es) → v ≡ head_document (drop n es) → take (suc n) (set b n v) ≡ documents (take (suc n) es)
@@ -16,6 +16,12 @@ documents-taken_more (suc n) v (x ∷ es) (y ∷ b) h k e f =
     let rest : take n b ≡ documents (take n es) = cc in
     let more : take (suc n) (set b n v) ≡ documents (take (suc n) es) = documents-taken_more n v es b (omega arith) (omega arith) rest f in
     cc
+
+-- what a buffer took, and what is left behind it
+pub documents-split : (n : ℕ) (es : List Entry) → documents (take n es) ++ documents (drop n es) ≡ documents es
+documents-split zero es = refl
+documents-split (suc n) [] = refl
+documents-split (suc n) (e ∷ es) = ap (λ ds. e.document ∷ ds) (documents-split n es)
 
 -- where a cursor ends after n documents, n is its length
 pub length-ended : (n low : ℕ) (limits : Limits) (es : List Entry) → AreEntries low limits es → TERMINATED ≤ head_document (drop n es) → length es ≤ n

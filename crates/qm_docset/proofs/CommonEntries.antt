@@ -1,33 +1,25 @@
 -- What several cursors have in common: a cursor that leads may be cut alone, the others may drop what
 -- lies behind the leader, and where all stand on one document it is the first that they share.
-use Rattle.std.proofs.Common.{◌≡◌, ℕ, zero, suc, ◌+◌, ◌<◌, ◌≤◌, List, [], ◌∷◌, ◌++◌, length, map, get_or, refl, ap, sym, ◌∙◌, arith, length-append}
+use Rattle.std.proofs.Common.{◌≡◌, ℕ, zero, suc, ◌+◌, ◌<◌, ◌≤◌, List, [], ◌∷◌, length, map, get_or, refl, ap, sym, ◌∙◌, arith, length-append}
 use Rattle.std.specs.List.{All, Any}
 use Rattle.std.specs.List.Sorted.{IsPermutation}
 use Rattle.std.proofs.lemmas.List.{length-map}
-use Rattle.std.proofs.lemmas.List.Elements.{All-head, All-tail}
+use Rattle.std.proofs.lemmas.List.Elements.{All-head}
 use Rattle.std.proofs.lemmas.List.Sorted.{length_permutation}
-use Rattle.qm_docset.specs.Entry.{Entry, Limits, AreEntries, from, head_document, head_score}
+use Rattle.qm_docset.specs.Entry.{Entry, Limits, from, head_document, head_score}
 use Rattle.qm_docset.specs.EntryFacts.{from-from, AreEntries-from_low}
 use Rattle.qm_docset.specs.Gather.{scored, entries_of, scores_at, gather, common_entries, IsBare, AreMembers}
-use Rattle.qm_docset.specs.GatherFacts.{entries_of-nil, entries_of-before, entries_of-first, scores_at-nil, scores_at-cons, length-scores_at, entries_of-most}
-use Rattle.qm_docset.specs.declared.doc_set.TheConstants.{TERMINATED}
+use Rattle.qm_docset.specs.GatherFacts.{entries_of-ahead, scores_at-cons, length-scores_at, entries_of-most}
+use Rattle.qm_docset.specs.RowFacts.{scores_at-together}
+use Rattle.qm_docset.specs.declared.numbers.TheConstants.{TERMINATED}
 use Rattle.qm_docset.proofs.Gathering.{gather-bare, gather-pass, gather-first, gather-none, head_document-from, head_document-gather, gather-permutation}
-
--- a list says nothing of the documents before its first
-pub entries_of-past : (d : ℕ) (limits : Limits) (es : List Entry) → AreEntries 0 limits es → d < head_document es → entries_of d es ≡ []
-entries_of-past d limits [] a h = entries_of-nil d
-entries_of-past d limits (e ∷ es) a h = entries_of-before d e.document limits (e ∷ es) h (omega arith, a.1, a.2, a.3, a.4)
-
-pub scores_of-head : (d : ℕ) (limits : Limits) (es : List Entry) → AreEntries 0 limits es → d < TERMINATED → head_document es ≡ d → map (λ e. e.score) (entries_of d es) ≡ head_score es ∷ []
-scores_of-head d limits [] a h here = absurd (omega arith)
-scores_of-head d limits (e ∷ es) a h here = ap (λ x. map (λ y. y.score) (entries_of x (e ∷ es))) (sym here) ∙ ap (map (λ y. y.score)) (entries_of-first 0 limits e es a)
 
 -- a document that one of the cursors has passed is not in all of them
 missing : (d i : ℕ) (bounds : List Limits) (ess : List (List Entry)) (es : List Entry) → AreMembers bounds ess → i < length ess → get_or ess i es ≡ es → d < head_document es → length (scores_at d ess) < length ess
 missing d i bounds [] es members h is past = absurd (omega arith)
 missing d i [] (xs ∷ ess) es members h is past = absurd members
 missing d zero (limits ∷ bounds) (xs ∷ ess) es members h is past =
-    let none : entries_of d xs ≡ [] = entries_of-past d limits xs members.0 (rw is past) in
+    let none : entries_of d xs ≡ [] = entries_of-ahead d 0 limits xs members.0 (rw is past) in
     let others = length-scores_at d bounds ess members.1 in
     rw (scores_at-cons d xs ess, none) (omega arith)
 missing d (suc i) (limits ∷ bounds) (xs ∷ ess) es members h is past =
@@ -71,16 +63,7 @@ head_document-common_entries t combined bounds es ess h members one = head_docum
 pub common_entries-ended : (combined : List ℕ → ℕ) (bounds : List Limits) (es : List Entry) (ess : List (List Entry)) → AreMembers bounds (es ∷ ess) → Any (λ xs. TERMINATED ≤ head_document xs) (es ∷ ess) → common_entries combined (es ∷ ess) ≡ []
 common_entries-ended combined bounds es ess members one = gather-none (suc (length ess)) combined (es ∷ ess) (IsBare-passed TERMINATED bounds (es ∷ ess) members one)
 
--- Where all stand on one document, its scores are those of the cursors' first entries ..
-scores_at-together : (d : ℕ) (bounds : List Limits) (ess : List (List Entry)) → d < TERMINATED → AreMembers bounds ess → All (λ es. head_document es ≡ d) ess → scores_at d ess ≡ map head_score ess
-scores_at-together d bounds [] h members all = scores_at-nil d
-scores_at-together d [] (es ∷ ess) h members all = absurd members
-scores_at-together d (limits ∷ bounds) (es ∷ ess) h members all =
-    let here = scores_of-head d limits es members.0 h (All-head (λ xs. head_document xs ≡ d) es ess all) in
-    let rest = scores_at-together d bounds ess h members.1 (All-tail (λ xs. head_document xs ≡ d) es ess all) in
-    scores_at-cons d es ess ∙ ap (λ r. r ++ scores_at d ess) here ∙ ap (λ r. head_score es ∷ r) rest
-
--- .. and it is the first that they have in common.
+-- Where all stand on one document, it is the first that they have in common.
 pub common_entries-first : (d : ℕ) (combined : List ℕ → ℕ) (bounds : List Limits) (es : List Entry) (ess : List (List Entry)) → d < TERMINATED → AreMembers bounds (es ∷ ess) → All (λ xs. head_document xs ≡ d) (es ∷ ess) → common_entries combined (es ∷ ess) ≡ scored d (combined (map head_score (es ∷ ess))) ∷ from (d + 1) (common_entries combined (es ∷ ess))
 common_entries-first d combined bounds es ess h members all =
     let scores = scores_at-together d bounds (es ∷ ess) h members all in

@@ -2,9 +2,9 @@
 use Rattle.std.proofs.Common.{◌≡◌, ℕ, ◌+◌, ◌*◌, ◌/◌, ◌%◌, ◌≤◌, Bool, true, false, ◌&&◌, nat_lt, nat_le, List, [], ◌∷◌, length, map, filter, refl, sym, ap, ◌∙◌, inl, inr, arith}
 use Rattle.std.proofs.lemmas.Bool.{cases_Bool}
 use Rattle.std.proofs.lemmas.List.{length-map}
-use Rattle.qm_docset.specs.declared.bit_set.BitSet.{BitSet}
+use Rattle.qm_docset.specs.declared.bitset.BitSet.{BitSet}
 use Rattle.qm_docset.specs.declared.tiny_set.TinySet.{TinySet}
-use Rattle.qm_docset.specs.declared.alive_bit_set.AliveBitSet.{AliveBitSet}
+use Rattle.qm_docset.specs.declared.alive_bitset.AliveBitSet.{AliveBitSet}
 use Rattle.qm_docset.specs.AliveBitSet.{alive_docs, alive_entries}
 use Rattle.qm_docset.specs.BitSet.{set_has, set_max_value, set_members_from}
 use Rattle.qm_docset.specs.Entry.{plain}

@@ -1,28 +1,21 @@
 -- Documents among entries.
-use Rattle.std.proofs.Common.{◌≡◌, ℕ, zero, suc, ◌+◌, ◌<◌, ◌≤◌, ◌==◌, ◌||◌, Bool, true, false, List, [], ◌∷◌, length, get_or, set, map, take, drop, ◌++◌, refl, sym, ap, ◌∙◌, inl, inr, arith, eq-eqb, ne_eqb}
+use Rattle.std.proofs.Common.{◌≡◌, ℕ, zero, suc, ◌+◌, ◌<◌, ◌≤◌, ◌==◌, ◌||◌, Bool, true, false, List, [], ◌∷◌, length, get_or, set, map, take, drop, refl, sym, ap, ◌∙◌, inl, inr, arith, eq-eqb, ne_eqb}
 use Rattle.std.proofs.lemmas.Bool.{cases_lt, or_cases, or_right}
-use Rattle.std.proofs.lemmas.List.{get_or-drop, take_at}
+use Rattle.std.proofs.lemmas.List.{get_or-drop}
 use Rattle.std.proofs.lemmas.List.Folds.{list_any_more}
 use Rattle.std.specs.List.{list_any}
 use Rattle.qm_docset.specs.Entry.{Entry, Limits, AreEntries, from, head_document}
 use Rattle.qm_docset.specs.EntryFacts.{from-nil, from-keep, from-skip}
 use Rattle.qm_docset.specs.Exclusion.{has_document, some_has_document}
-use Rattle.qm_docset.specs.declared.doc_set.TheConstants.{TERMINATED}
+use Rattle.qm_docset.specs.HasFacts.{has_document-nil, has_document-cons}
+use Rattle.qm_docset.specs.declared.numbers.TheConstants.{TERMINATED}
 
 -- ---- one cursor
-
-pub has_document-cons : (e : Entry) (es : List Entry) (d : ℕ) → has_document (e ∷ es) d ≡ (e.document == d || has_document es d)
-unfolding has_document
-has_document-cons e es d = refl
-
-has_document-nil : (d : ℕ) → has_document [] d ≡ false
-unfolding has_document
-has_document-nil d = refl
 
 past : (low d : ℕ) (limits : Limits) (es : List Entry) → AreEntries low limits es → d < low → has_document es d ≡ false
 past low d limits [] ascends before = has_document-nil d
 past low d limits (e ∷ es) ascends before =
-    has_document-cons e es d ∙ rw (ne_eqb e.document d (λ same. omega arith)) (past (e.document + 1) d limits es ascends.4 (omega arith))
+    has_document-cons e es d ∙ rw (ne_eqb e.document d (λ same. omega arith)) (past (e.document + 1) d limits es ascends.others (omega arith))
 
 -- what lies at or past a target stays
 pub has_document-from : (t d : ℕ) (es : List Entry) → t ≤ d → has_document (from t es) d ≡ has_document es d
@@ -60,7 +53,7 @@ has_document-head d (e ∷ es) here below = has_document-cons e es d ∙ rw (eq-
 pub has_document-before : (low d : ℕ) (limits : Limits) (es : List Entry) → AreEntries low limits es → d < head_document es → has_document es d ≡ false
 has_document-before low d limits [] ascends before = has_document-nil d
 has_document-before low d limits (e ∷ es) ascends before =
-    has_document-cons e es d ∙ rw (ne_eqb e.document d (λ same. omega arith)) (past (e.document + 1) d limits es ascends.4 (omega arith))
+    has_document-cons e es d ∙ rw (ne_eqb e.document d (λ same. omega arith)) (past (e.document + 1) d limits es ascends.others (omega arith))
 
 -- ---- several cursors
 
@@ -108,7 +101,3 @@ pub same_at : {X : Type 0} (xs ys : List X) (i : ℕ) (d : X) → drop i xs ≡ 
 same_at xs ys i d same =
     let here : i + 0 ≡ i = omega arith in
     rw here at (sym (get_or-drop i xs 0 d) ∙ ap (λ zs. get_or zs 0 d) same ∙ get_or-drop i ys 0 d)
-
--- a vector that was lent as a slice
-pub whole : {X : Type 0} (n : ℕ) (new old : List X) → length new ≡ n → take n (new ++ drop (length new) old) ≡ new
-whole n new old long = take_at new (drop (length new) old) n long

@@ -1,15 +1,18 @@
 -- What is left of a set, word by word.
-use Rattle.std.proofs.Common.{◌≡◌, ℕ, ◌+◌, ◌*◌, ◌/◌, ◌%◌, ◌<◌, ◌≤◌, ◌&&◌, nat_lt, true, false, List, [], ◌∷◌, ◌++◌, drop, map, option_map, slice_get, Option, Some, None, IsSome, refl, sym, ap, ◌∙◌, inl, inr, arith, append-nil, true≢false, lt-ltb}
+use Rattle.std.proofs.Common.{◌≡◌, ℕ, ◌+◌, ◌*◌, ◌/◌, ◌%◌, ◌<◌, ◌≤◌, ◌&&◌, nat_lt, true, false, List, [], ◌∷◌, ◌++◌, drop, map, option_map, slice_get, Option, Some, None, IsSome, unwrap_or, refl, sym, ap, ◌∙◌, inl, inr, arith, append-nil, true≢false, lt-ltb}
 use Rattle.std.proofs.lemmas.Bool.{cases_lt}
-use Rattle.qm_docset.specs.declared.bit_set.BitSet.{BitSet}
+use Rattle.std.proofs.lemmas.List.{drop-map}
+use Rattle.qm_docset.specs.declared.bitset.BitSet.{BitSet}
 use Rattle.qm_docset.specs.declared.tiny_set.TinySet.{TinySet}
 use Rattle.qm_docset.specs.BitSet.{set_has, set_max_value, set_members_from, members_left}
+use Rattle.qm_docset.specs.Entry.{plain}
 use Rattle.qm_docset.specs.Members.{members_between}
 use Rattle.qm_docset.specs.TinySet.{tiny_has, tiny_members}
+use Rattle.qm_docset.specs.declared.numbers.TheConstants.{TERMINATED}
 use Rattle.qm_docset.proofs.MembersLemmas.{members_between-none, members_between-split, members_between-skip, members_between-bound, HasNone, IsFirst}
 use Rattle.qm_docset.proofs.MemberEntries.{first-from_Some, none-from_None}
 use Rattle.qm_docset.proofs.BitSetLemmas.{word_members_whole}
-use Rattle.qm_docset.proofs.BitSetMembers.{set_has-below, set_has-past, None-from_map, Some-from_map}
+use Rattle.qm_docset.proofs.BitSetMembers.{Lands, lands, head-of_entries, set_has-below, set_has-past, None-from_map, Some-from_map}
 
 pub IsSome-from_not_None : (o : Option ℕ) → ((None ≡ o) → ⊥) → IsSome o
 IsSome-from_not_None None there = absurd (there refl)
@@ -107,3 +110,13 @@ module _ (s : BitSet) (bucket : ℕ) (word left : TinySet) (rest : tiny_members 
         λ none. true≢false (sym member ∙ no_member there none (x % 64) (omega arith)),
         left-whole s next there is ∙ skipped s (64 * (bucket + 1)) (64 * next) (omega (arith, first.above, found.2)) (λ y after before. first.none_before y after (omega (arith, found.2))) ∙ sym later,
       )
+
+-- ---- a cursor goes to the first of the members from a number on
+
+module _ (s : BitSet) (fits : set_max_value s ≤ TERMINATED) (low bucket : ℕ) (word : TinySet) (left : members_left s bucket word ≡ set_members_from s low) where
+  pub lands_on_first : (first : Option ℕ) → first ≡ slice_get (members_left s bucket word) 0 → Lands s low (unwrap_or first 2147483647)
+  lands_on_first first read = lands s low (unwrap_or first 2147483647) fits (head-of_entries (members_left s bucket word) (map plain (set_members_from s low)) first (ap (map plain) left) read)
+
+  -- and the others are left behind it
+  pub behind_first : (doc other : ℕ) (rest : TinySet) → Lands s low doc → members_left s other rest ≡ drop 1 (members_left s bucket word) → map plain (members_left s other rest) ≡ drop 1 (map plain (set_members_from s doc))
+  behind_first doc other rest there taken = ap (map plain) (taken ∙ ap (drop 1) left) ∙ sym (drop-map plain 1 (set_members_from s low)) ∙ ap (drop 1) (sym there.entries)

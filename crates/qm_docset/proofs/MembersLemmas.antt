@@ -1,8 +1,9 @@
 -- The members of a set of numbers between two bounds.
-use Rattle.std.proofs.Common.{◌≡◌, ℕ, zero, suc, ◌+◌, ◌-◌, ◌<◌, ◌≤◌, Bool, true, false, ◌&&◌, List, [], ◌∷◌, ◌++◌, length, map, filter, refl, sym, ap, ◌∙◌, ◌⊎◌, inl, inr, arith, append-nil}
-use Rattle.std.proofs.lemmas.Bool.{cases_lt, cases_Bool, cases_eq}
+use Rattle.std.proofs.Common.{◌≡◌, ℕ, zero, suc, ◌+◌, ◌-◌, ◌<◌, ◌≤◌, ◌==◌, ◌||◌, Bool, true, false, ◌&&◌, List, [], ◌∷◌, ◌++◌, length, map, filter, refl, sym, ap, ◌∙◌, ◌⊎◌, inl, inr, arith, append-nil, length-append}
+use Rattle.std.proofs.lemmas.Bool.{cases_lt, cases_Bool, cases_eq, eq-eqb, ne_eqb}
 use Rattle.std.proofs.lemmas.List.Elements.{filter-append}
 use Rattle.std.specs.List.{range_with_len}
+use Rattle.qm_docset.specs.ListFacts.{filter-range_none, filter-range_same}
 use Rattle.qm_docset.specs.Members.{members_between}
 
 pub and_true : (b : Bool) → (b && true) ≡ b
@@ -20,19 +21,6 @@ range-add low (suc m) n =
     let a : suc m + n ≡ suc (m + n) = omega arith in
     let b : low + suc m ≡ low + 1 + m = omega arith in
     rw (a, b) (ap (λ xs. low ∷ xs) (range-add (low + 1) m n))
-
-filter-none : (has : ℕ → Bool) (low n : ℕ) → ((x : ℕ) → low ≤ x → x < low + n → has x ≡ false) → filter has (range_with_len low n) ≡ []
-filter-none has low zero none = refl
-filter-none has low (suc n) none =
-    let here : has low ≡ false = none low (omega arith) (omega arith) in
-    rw here (filter-none has (low + 1) n (λ x above below. none x (omega arith) (omega arith)))
-
-filter-same : (p q : ℕ → Bool) (low n : ℕ) → ((x : ℕ) → low ≤ x → x < low + n → p x ≡ q x) → filter p (range_with_len low n) ≡ filter q (range_with_len low n)
-filter-same p q low zero same = refl
-filter-same p q low (suc n) same =
-    let here : p low ≡ q low = same low (omega arith) (omega arith) in
-    let rest = filter-same p q (low + 1) n (λ x above below. same x (omega arith) (omega arith)) in
-    rw (here, rest)
 
 filter-shift : (has : ℕ → Bool) (k low n : ℕ) → filter has (range_with_len (k + low) n) ≡ map (λ x. k + x) (filter (λ x. has (k + x)) (range_with_len low n))
 filter-shift has k low zero = refl
@@ -64,7 +52,7 @@ filter-short has low (suc n) =
 module _ (has : ℕ → Bool) where
   pub members_between-none : (low high : ℕ) → ((x : ℕ) → low ≤ x → x < high → has x ≡ false) → members_between has low high ≡ []
   unfolding members_between
-  members_between-none low high none = filter-none has low (high - low) (λ x above below. none x above (omega arith))
+  members_between-none low high none = filter-range_none has low (high - low) (λ x above below. none x above (omega arith))
 
   pub members_between-split : (low mid high : ℕ) → low ≤ mid → mid ≤ high → members_between has low high ≡ members_between has low mid ++ members_between has mid high
   unfolding members_between
@@ -114,7 +102,7 @@ members_between-bound has low bound high past none =
 
 pub members_between-same : (p q : ℕ → Bool) (low high : ℕ) → ((x : ℕ) → low ≤ x → x < high → p x ≡ q x) → members_between p low high ≡ members_between q low high
 unfolding members_between
-members_between-same p q low high same = filter-same p q low (high - low) (λ x above below. same x above (omega arith))
+members_between-same p q low high same = filter-range_same p q low (high - low) (λ x above below. same x above (omega arith))
 
 pub members_between-shift : (has : ℕ → Bool) (k low high : ℕ) → members_between has (k + low) (k + high) ≡ map (λ x. k + x) (members_between (λ x. has (k + x)) low high)
 unfolding members_between
@@ -181,3 +169,16 @@ HasNone-from_members has low high empty =
       | inl none ↦ none
       | inr first ↦ absurd (let some = members_between-first_of has low high first.0 first.1 in cc)
     ]
+
+-- one more member is counted
+pub length-members_between_insert : (has more : ℕ → Bool) (el low high : ℕ) → low ≤ el → el < high → has el ≡ false → ((x : ℕ) → more x ≡ (x == el || has x))
+    → length (members_between more low high) ≡ length (members_between has low high) + 1
+length-members_between_insert has more el low high above below lacks is =
+    let here : more el ≡ true = is el ∙ rw (eq-eqb el el refl) in
+    let before : members_between more low el ≡ members_between has low el = members_between-same more has low el (λ x _ under. is x ∙ rw (ne_eqb x el (λ same. omega arith))) in
+    let behind : members_between more (el + 1) high ≡ members_between has (el + 1) high = members_between-same more has (el + 1) high (λ x over _. is x ∙ rw (ne_eqb x el (λ same. omega arith))) in
+    let with : members_between more el high ≡ el ∷ members_between has (el + 1) high = members_between-first more el high below here ∙ ap (λ r. el ∷ r) behind in
+    let without : members_between has el high ≡ members_between has (el + 1) high = members_between-skip has el (el + 1) high (omega arith) (λ x over under. let same : x ≡ el = omega arith in rw same lacks) in
+    let both = ap length (members_between-split more low el high above (omega arith)) ∙ length-append (members_between more low el) (members_between more el high) in
+    let once = ap length (members_between-split has low el high above (omega arith)) ∙ length-append (members_between has low el) (members_between has el high) in
+    omega (arith, ap length before, ap length with, ap length without)

@@ -2,10 +2,11 @@
 use Rattle.std.proofs.Common.{◌≡◌, inl, inr, ℕ, ◌+◌, ◌-◌, ◌<◌, ◌≤◌, List, [], ◌∷◌, length, get_or, map, take, drop, min, ap, refl, sym, subst, arith, ◌∙◌, length-drop}
 use Rattle.std.proofs.lemmas.Bool.{cases_lt}
 use Rattle.std.proofs.lemmas.List.{length-map, take_all, drop_all, drop-map, drop-drop, take-map, get_or-drop}
-use Rattle.qm_docset.specs.Documents.{AreDocuments, AreEntries-documents}
+use Rattle.qm_docset.specs.Documents.{AreDocuments}
+use Rattle.qm_docset.specs.DocumentsFacts.{AreEntries-documents}
 use Rattle.qm_docset.specs.Entry.{documents, from, no_limits, plain}
 use Rattle.qm_docset.specs.EntryFacts.{from-cut, length-entries}
-use Rattle.qm_docset.specs.declared.doc_set.TheConstants.{TERMINATED}
+use Rattle.qm_docset.specs.declared.numbers.TheConstants.{TERMINATED}
 
 pub documents-plain : (ds : List ℕ) → documents (map plain ds) ≡ ds
 documents-plain [] = refl

@@ -2,8 +2,8 @@
 use Rattle.std.specs.Prelude.{List, filter}
 use Rattle.qm_docset.specs.BitSet.{set_has}
 use Rattle.qm_docset.specs.Entry.{Entry}
-use Rattle.qm_docset.specs.declared.bit_set.BitSet.{BitSet}
-use Rattle.qm_docset.specs.declared.alive_bit_set.AliveBitSet.{AliveBitSet}
+use Rattle.qm_docset.specs.declared.bitset.BitSet.{BitSet}
+use Rattle.qm_docset.specs.declared.alive_bitset.AliveBitSet.{AliveBitSet}
 
 -- the set of the alive documents
 abbrev pub alive_docs : AliveBitSet → BitSet

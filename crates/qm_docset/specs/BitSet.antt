@@ -1,6 +1,6 @@
 -- What a BitSet holds.
 use Rattle.std.specs.Prelude.{ℕ, ◌+◌, ◌*◌, Bool, List, ◌++◌, map}
-use Rattle.qm_docset.specs.declared.bit_set.BitSet.{BitSet}
+use Rattle.qm_docset.specs.declared.bitset.BitSet.{BitSet}
 use Rattle.qm_docset.specs.declared.tiny_set.TinySet.{TinySet}
 use Rattle.qm_docset.specs.Members.{members_between}
 use Rattle.qm_docset.specs.TinySet.{tiny_members}

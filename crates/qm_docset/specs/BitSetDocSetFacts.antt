@@ -7,4 +7,4 @@ use Rattle.qm_docset.specs.declared.bitset_docset.BitSetDocSet.{BitSetDocSet}
 
 pub AreEntries-remaining : (s : BitSetDocSet) → IsBitSetCursor s → AreEntries 0 no_limits (remaining_members s)
 unfolding set_members_from
-AreEntries-remaining s valid = AreEntries-members_between (set_has s.docs) s.doc (set_max_value s.docs) valid.0
+AreEntries-remaining s valid = AreEntries-members_between (set_has s.docs) s.doc (set_max_value s.docs) valid.documents

@@ -1,6 +1,6 @@
 -- The documents that a cursor has left, and what is known of each of them.
 use Rattle.std.specs.Prelude.{ℕ, ◌+◌, ◌<◌, ◌≤◌, nat_le, List, [], ◌∷◌, length, filter, map}
-use Rattle.qm_docset.specs.declared.doc_set.TheConstants.{TERMINATED}
+use Rattle.qm_docset.specs.declared.numbers.TheConstants.{TERMINATED}
 
 -- A document of a cursor, with its score, its frequency and its positions. What a cursor does not
 -- know of its documents is 0, or none.
@@ -51,7 +51,19 @@ head_positions (e ∷ es) = e.positions
 unfoldable pub from : ℕ → List Entry → List Entry
 from target es = filter (λ e. nat_le target e.document) es
 
--- Entries of a cursor: strictly ascending from `low` on, all below TERMINATED, and within the limits.
+-- an entry of a cursor: from `low` on, below TERMINATED, and within the limits
+pub record IsEntry (low : ℕ) (limits : Limits) (e : Entry) : Type 0 where
+  pub from_low : low ≤ e.document
+  pub below_end : e.document < TERMINATED
+  pub score : e.score ≤ limits.top
+  pub positions : length e.positions ≤ limits.room
+
+-- what is said of the first of a list, and of the others
+pub record FirstAndOthers (First Others : Type 0) : Type 0 where
+  pub here : First
+  pub others : Others
+
+-- entries of a cursor: the documents ascend strictly from `low` on
 abbrev pub AreEntries : ℕ → Limits → List Entry → Type 0
 AreEntries low limits [] = Unit {0}
-AreEntries low limits (e ∷ es) = (low ≤ e.document) × (e.document < TERMINATED) × (e.score ≤ limits.top) × (length e.positions ≤ limits.room) × AreEntries (e.document + 1) limits es
+AreEntries low limits (e ∷ es) = FirstAndOthers (IsEntry low limits e) (AreEntries (e.document + 1) limits es)

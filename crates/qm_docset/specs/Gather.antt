@@ -4,7 +4,7 @@
 use Rattle.std.specs.Prelude.{ℕ, ◌<◌, ◌≤◌, nat_eq, nat_le, List, [], ◌∷◌, length, filter, map}
 use Rattle.std.specs.List.{flat_map, range_with_len}
 use Rattle.qm_docset.specs.Entry.{Entry, Limits, AreEntries}
-use Rattle.qm_docset.specs.declared.doc_set.TheConstants.{TERMINATED}
+use Rattle.qm_docset.specs.declared.numbers.TheConstants.{TERMINATED}
 
 -- a document and its score; nothing else is known of it
 abbrev pub scored : ℕ → ℕ → Entry

@@ -6,10 +6,10 @@ use Rattle.std.proofs.Common.{zero, suc, arith, sym, ap, refl, ◌∙◌, inl, i
 use Rattle.std.proofs.lemmas.Bool.{le-leb, lt-leb, eq-eqb, ne_eqb, cases_lt, cases_eq, cases_order}
 use Rattle.std.proofs.lemmas.List.Elements.{All-head, All-tail}
 use Rattle.std.proofs.lemmas.List.Sums.{sum_by-cons, sum_by-append}
-use Rattle.qm_docset.specs.Entry.{Entry, Limits, AreEntries}
-use Rattle.qm_docset.specs.EntryFacts.{AreEntries-below}
+use Rattle.qm_docset.specs.Entry.{Entry, Limits, AreEntries, head_document, head_score}
+use Rattle.qm_docset.specs.EntryFacts.{AreEntries-below, AreEntries-head, AreEntries-low}
 use Rattle.qm_docset.specs.Gather.{scored, entries_of, scores_at, documents_below, gathered, gather, IsWithin, AreMembers}
-use Rattle.qm_docset.specs.declared.doc_set.TheConstants.{TERMINATED}
+use Rattle.qm_docset.specs.declared.numbers.TheConstants.{TERMINATED}
 
 -- What one list says of a document.
 
@@ -28,37 +28,46 @@ entries_of-other d e es h = rw (ne_eqb e.document d h)
 -- a list says nothing of the documents before it
 pub entries_of-before : (d low : ℕ) (limits : Limits) (es : List Entry) → d < low → AreEntries low limits es → entries_of d es ≡ []
 entries_of-before d low limits [] h a = entries_of-nil d
-entries_of-before d low limits (e ∷ es) h a = entries_of-other d e es (omega arith) ∙ entries_of-before d (e.document + 1) limits es (omega arith) a.4
+entries_of-before d low limits (e ∷ es) h a = entries_of-other d e es (omega arith) ∙ entries_of-before d (e.document + 1) limits es (omega arith) a.others
 
 -- and one entry of the document that it begins with
 pub entries_of-first : (low : ℕ) (limits : Limits) (e : Entry) (es : List Entry) → AreEntries low limits (e ∷ es) → entries_of e.document (e ∷ es) ≡ e ∷ []
-entries_of-first low limits e es a = entries_of-here e.document e es refl ∙ ap (λ r. e ∷ r) (entries_of-before e.document (e.document + 1) limits es (omega arith) a.4)
+entries_of-first low limits e es a = entries_of-here e.document e es refl ∙ ap (λ r. e ∷ r) (entries_of-before e.document (e.document + 1) limits es (omega arith) a.others)
+
+-- none of the documents before its first
+pub entries_of-ahead : (d low : ℕ) (limits : Limits) (es : List Entry) → AreEntries low limits es → d < head_document es → entries_of d es ≡ []
+entries_of-ahead d low limits es a h = entries_of-before d (head_document es) limits es h (AreEntries-head low limits es a)
+
+-- and one score of its first
+pub score_of-here : (d low : ℕ) (limits : Limits) (es : List Entry) → AreEntries low limits es → head_document es ≡ d → d < TERMINATED → map (λ e. e.score) (entries_of d es) ≡ head_score es ∷ []
+score_of-here d low limits [] a here h = absurd (omega arith)
+score_of-here d low limits (e ∷ es) a here h = ap (λ n. map (λ x. x.score) (entries_of n (e ∷ es))) (sym here) ∙ ap (map (λ x. x.score)) (entries_of-first low limits e es a)
 
 -- Two ascending lists that say the same of each document are equal.
 pub same_list : (low : ℕ) (limits others : Limits) (xs ys : List Entry) → AreEntries low limits xs → AreEntries low others ys → ((d : ℕ) → d < TERMINATED → entries_of d xs ≡ entries_of d ys) → xs ≡ ys
 same_list low limits others [] [] a b same = refl
 same_list low limits others [] (y ∷ ys) a b same =
-    let none : [] ≡ y ∷ [] = sym (entries_of-nil y.document) ∙ same y.document b.1 ∙ entries_of-first low others y ys b in
+    let none : [] ≡ y ∷ [] = sym (entries_of-nil y.document) ∙ same y.document b.here.below_end ∙ entries_of-first low others y ys b in
     cc
 same_list low limits others (x ∷ xs) [] a b same =
-    let none : x ∷ [] ≡ [] = sym (entries_of-first low limits x xs a) ∙ same x.document a.1 ∙ entries_of-nil x.document in
+    let none : x ∷ [] ≡ [] = sym (entries_of-first low limits x xs a) ∙ same x.document a.here.below_end ∙ entries_of-nil x.document in
     cc
 same_list low limits others (x ∷ xs) (y ∷ ys) a b same =
     elim (cases_order x.document y.document) [
       | inl level ↦
-          let first : x ∷ [] ≡ y ∷ [] = sym (entries_of-first low limits x xs a) ∙ same x.document a.1 ∙ ap (λ d. entries_of d (y ∷ ys)) level ∙ entries_of-first low others y ys b in
-          let rest : xs ≡ ys = same_list (x.document + 1) limits others xs ys a.4 (rw level b.4) (λ d below.
+          let first : x ∷ [] ≡ y ∷ [] = sym (entries_of-first low limits x xs a) ∙ same x.document a.here.below_end ∙ ap (λ d. entries_of d (y ∷ ys)) level ∙ entries_of-first low others y ys b in
+          let rest : xs ≡ ys = same_list (x.document + 1) limits others xs ys a.others (rw level b.others) (λ d below.
           elim (cases_lt d (x.document + 1)) [
-            | inl before ↦ entries_of-before d (x.document + 1) limits xs before a.4 ∙ sym (entries_of-before d (y.document + 1) others ys (omega arith) b.4)
+            | inl before ↦ entries_of-before d (x.document + 1) limits xs before a.others ∙ sym (entries_of-before d (y.document + 1) others ys (omega arith) b.others)
             | inr past ↦ sym (entries_of-other d x xs (omega arith)) ∙ same d below ∙ entries_of-other d y ys (omega arith)
           ]) in
           cc
       | inr apart ↦ elim apart [
         | inl less ↦
-            let none : x ∷ [] ≡ [] = sym (entries_of-first low limits x xs a) ∙ same x.document a.1 ∙ entries_of-before x.document y.document others (y ∷ ys) less (omega arith, b.1, b.2, b.3, b.4) in
+            let none : x ∷ [] ≡ [] = sym (entries_of-first low limits x xs a) ∙ same x.document a.here.below_end ∙ entries_of-before x.document y.document others (y ∷ ys) less (AreEntries-low low y.document others y ys (omega arith) b) in
             cc
         | inr more ↦
-            let none : [] ≡ y ∷ [] = sym (entries_of-before y.document x.document limits (x ∷ xs) more (omega arith, a.1, a.2, a.3, a.4)) ∙ same y.document b.1 ∙ entries_of-first low others y ys b in
+            let none : [] ≡ y ∷ [] = sym (entries_of-before y.document x.document limits (x ∷ xs) more (AreEntries-low low x.document limits x xs (omega arith) a)) ∙ same y.document b.here.below_end ∙ entries_of-first low others y ys b in
             cc
       ]
     ]
@@ -93,7 +102,7 @@ AreEntries-gathered least combined top a (suc n) ess h within =
     let rest = AreEntries-gathered least combined top (a + 1) n ess (omega arith) within in
     elim (cases_lt (length (scores_at a ess)) least) [
       | inl few ↦ rw (gathered-skip least combined a (range_with_len (a + 1) n) ess few) (AreEntries-below (a + 1) a (record { top = top; room = 0 }) _ (omega arith) rest)
-      | inr enough ↦ rw (gathered-keep least combined a (range_with_len (a + 1) n) ess enough) (omega arith, omega arith, within a enough, omega arith, rest)
+      | inr enough ↦ rw (gathered-keep least combined a (range_with_len (a + 1) n) ess enough) (record { here = record { from_low = omega arith; below_end = omega arith; score = within a enough; positions = omega arith }; others = rest })
     ]
 
 AreEntries-gathered_below : (least : ℕ) (combined : List ℕ → ℕ) (top n : ℕ) (ess : List (List Entry)) → n ≤ TERMINATED → IsWithin least combined top ess → AreEntries 0 (record { top = top; room = 0 }) (gathered least combined (documents_below n) ess)
@@ -176,8 +185,8 @@ pub entries_of-most : (d low : ℕ) (limits : Limits) (es : List Entry) → AreE
 entries_of-most d low limits [] a = rw (entries_of-nil d) (omega arith, omega arith)
 entries_of-most d low limits (e ∷ es) a =
     elim (cases_eq e.document d) [
-      | inl here ↦ rw (entries_of-here d e es here, entries_of-before d (e.document + 1) limits es (omega arith) a.4) (omega arith, omega (arith, sum_by-cons (λ x. x) e.score []))
-      | inr other ↦ rw (entries_of-other d e es other) (entries_of-most d (e.document + 1) limits es a.4)
+      | inl here ↦ rw (entries_of-here d e es here, entries_of-before d (e.document + 1) limits es (omega arith) a.others) (omega arith, omega (arith, sum_by-cons (λ x. x) e.score []))
+      | inr other ↦ rw (entries_of-other d e es other) (entries_of-most d (e.document + 1) limits es a.others)
     ]
 
 pub length-scores_at : (d : ℕ) (bounds : List Limits) (ess : List (List Entry)) → AreMembers bounds ess → length (scores_at d ess) ≤ length ess

@@ -3,7 +3,10 @@ pub mod EntryFacts
 pub mod Gather
 pub mod GatherFacts
 pub mod Cursor
+pub mod CursorFacts
+pub mod Lists
 pub mod Documents
+pub mod DocumentsFacts
 pub mod VecDocSet
 pub mod Members
 pub mod TinySet
@@ -14,3 +17,9 @@ pub mod MembersFacts
 pub mod BitSetDocSet
 pub mod BitSetDocSetFacts
 pub mod Exclusion
+pub mod ListFacts
+pub mod HasFacts
+pub mod SeekFacts
+pub mod RowFacts
+pub mod Listed
+pub mod ListedFacts

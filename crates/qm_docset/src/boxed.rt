@@ -2,8 +2,9 @@
 
 ghost use Rattle.std.specs.Prelude.{◌≡◌};
 
-use crate::alive_bit_set::AliveBitSet;
-use crate::doc_set::{COLLECT_BLOCK_BUFFER_LEN, DocId, DocSet, SeekDangerResult};
+use crate::alive_bitset::AliveBitSet;
+use crate::docset::{DocSet, SeekDangerResult};
+use crate::numbers::{COLLECT_BLOCK_BUFFER_LEN, DocId};
 
 impl<T: DocSet> DocSet for Box<T> {
     ghost entries = { λ b. T.entries b.value };

@@ -3,7 +3,7 @@
 ghost use Rattle.std.specs.Prelude.{◌↔◌, IsTrue};
 ghost use Rattle.qm_docset.specs.Documents.{AreDocuments};
 
-use crate::doc_set::{DocId, TERMINATED};
+use crate::numbers::{DocId, TERMINATED};
 
 /// Whether these documents ascend strictly and are below [`TERMINATED`], as
 /// [`VecDocSet::new`](crate::VecDocSet::new) asks. Costs a pass over the list.

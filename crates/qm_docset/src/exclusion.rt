@@ -3,7 +3,8 @@
 ghost use Rattle.std.specs.Prelude.{◌≡◌, ℕ, ◌<◌, ◌≤◌, Bool, All, IsTrue, map};
 ghost use Rattle.qm_docset.specs.Exclusion.{has_document, some_has_document};
 
-use crate::doc_set::{DocId, DocSet, SeekDangerResult, TERMINATED};
+use crate::docset::{DocSet, SeekDangerResult};
+use crate::numbers::{DocId, TERMINATED};
 
 /// A set of documents that are left out, which may be asked for documents in any order.
 ///
@@ -46,6 +47,7 @@ impl<T: DocSet> ExclusionSet for Vec<T> {
     ghost usable = { λ sets. All T.valid sets.items };
 
     fn contains(&mut self, doc: DocId) -> bool {
+        // none of the cursors that were asked has the document; each keeps what stands from it on
         for set in self.iter_mut() {
             if set.contains(doc) {
                 return true;

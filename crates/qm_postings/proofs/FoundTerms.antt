@@ -11,7 +11,7 @@ use Rattle.std.proofs.lemmas.List.Elements.{filter-append}
 use Rattle.std.proofs.lemmas.List.FromFn.{get_or-map-range_with_len}
 use Rattle.qm_schema.specs.Schema.{FieldFacts}
 use Rattle.qm_schema.specs.Term.{TermKey, term_cmp, term_cmp_total, term_eq_laws}
-use Rattle.qm_postings.specs.Index.{Posted, TermRange, document_from, held, in_range, posted_of, posted_together, segment_from}
+use Rattle.qm_postings.specs.Index.{Posted, PostingsRange, document_from, held, in_range, posted_of, posted_together, segment_from}
 use Rattle.qm_postings.specs.Segment.{Occurrences, no_document, occurrences}
 
 -- what postings say of a term in document d
@@ -66,16 +66,16 @@ posted_of-nil : (ds fs : List ℕ) → posted_of [] ds fs ≡ []
 unfolding posted_of
 posted_of-nil ds fs = refl
 
-posted_of-cons : (r : TermRange) (rs : List TermRange) (ds fs : List ℕ) → posted_of (r ∷ rs) ds fs ≡ posted_together r.term (in_range r ds) (in_range r fs) ++ posted_of rs ds fs
+posted_of-cons : (r : PostingsRange) (rs : List PostingsRange) (ds fs : List ℕ) → posted_of (r ∷ rs) ds fs ≡ posted_together r.term (in_range r ds) (in_range r fs) ++ posted_of rs ds fs
 unfolding posted_of
 posted_of-cons r rs ds fs = refl
 
-found_in-cons : (d : ℕ) (t : TermKey) (r : TermRange) (rs : List TermRange) (ds fs : List ℕ) → found_in d t (posted_of (r ∷ rs) ds fs) ≡ option_or (found_in d t (posted_together r.term (in_range r ds) (in_range r fs))) (found_in d t (posted_of rs ds fs))
+found_in-cons : (d : ℕ) (t : TermKey) (r : PostingsRange) (rs : List PostingsRange) (ds fs : List ℕ) → found_in d t (posted_of (r ∷ rs) ds fs) ≡ option_or (found_in d t (posted_together r.term (in_range r ds) (in_range r fs))) (found_in d t (posted_of rs ds fs))
 found_in-cons d t r rs ds fs =
     ap (found_in d t) (posted_of-cons r rs ds fs) ∙ found_in-both d t (posted_together r.term (in_range r ds) (in_range r fs)) (posted_of rs ds fs)
 
 -- a term that no range is of is in no document
-pub found_in-none : (d : ℕ) (t : TermKey) (rs : List TermRange) (ds fs : List ℕ) → AllByRecursion (λ u. eq_by_cmp term_cmp t u ≡ false) (map (λ r. r.term) rs) → found_in d t (posted_of rs ds fs) ≡ None
+pub found_in-none : (d : ℕ) (t : TermKey) (rs : List PostingsRange) (ds fs : List ℕ) → AllByRecursion (λ u. eq_by_cmp term_cmp t u ≡ false) (map (λ r. r.term) rs) → found_in d t (posted_of rs ds fs) ≡ None
 found_in-none d t [] ds fs others = ap (found_in d t) (posted_of-nil ds fs)
 found_in-none d t (r ∷ rs) ds fs others =
     found_in-cons d t r rs ds fs
@@ -90,7 +90,7 @@ others_after t (u ∷ us) h = (ap is_eq h.0, others_after t us h.1)
 other_before : (t u : TermKey) → term_cmp u t ≡ Less → eq_by_cmp term_cmp t u ≡ false
 other_before t u h = term_eq_laws.symm t u ∙ ap is_eq h
 
-less_at : (t : TermKey) (rs : List TermRange) (i : ℕ) (x : TermRange) → AllByRecursion (λ u. term_cmp t u ≡ Less) (map (λ r. r.term) rs) → i < length rs → term_cmp t (get_or rs i x).term ≡ Less
+less_at : (t : TermKey) (rs : List PostingsRange) (i : ℕ) (x : PostingsRange) → AllByRecursion (λ u. term_cmp t u ≡ Less) (map (λ r. r.term) rs) → i < length rs → term_cmp t (get_or rs i x).term ≡ Less
 less_at t [] i x h l = absurd (omega arith)
 less_at t (r ∷ rs) zero x h l = h.0
 less_at t (r ∷ rs) (suc i) x h l = less_at t rs i x h.1 (omega arith)
@@ -100,7 +100,7 @@ option_or-none None = refl
 option_or-none (Some o) = refl
 
 -- of the term of a range the range alone says anything
-pub found_in-at : (d : ℕ) (rs : List TermRange) (i : ℕ) (x : TermRange) (ds fs : List ℕ) → IsStrictlySortedBy term_cmp (map (λ r. r.term) rs) → i < length rs → found_in d (get_or rs i x).term (posted_of rs ds fs) ≡ occurrences_at d (in_range (get_or rs i x) ds) (in_range (get_or rs i x) fs)
+pub found_in-at : (d : ℕ) (rs : List PostingsRange) (i : ℕ) (x : PostingsRange) (ds fs : List ℕ) → IsStrictlySortedBy term_cmp (map (λ r. r.term) rs) → i < length rs → found_in d (get_or rs i x).term (posted_of rs ds fs) ≡ occurrences_at d (in_range (get_or rs i x) ds) (in_range (get_or rs i x) fs)
 unfolding IsStrictlySortedBy
 found_in-at d [] i x ds fs sorted l = absurd (omega arith)
 found_in-at d (r ∷ rs) zero x ds fs sorted l =
@@ -115,7 +115,7 @@ found_in-at d (r ∷ rs) (suc i) x ds fs sorted l =
     ∙ found_in-at d rs i x ds fs sorted.1 (omega arith)
 
 -- what a segment says of a term in a document is what its postings say
-pub occurrences-from : (schema : List FieldFacts) (ps : List Posted) (columns : List (List ℕ)) (count : ℕ) (t : TermKey) (d : ℕ) → d < count → occurrences (segment_from schema ps columns count) t d ≡ found_in d t ps
-occurrences-from schema ps columns count t d l =
+pub occurrences-from : (schema : List FieldFacts) (block_len : ℕ) (ps : List Posted) (columns : List (List ℕ)) (count : ℕ) (t : TermKey) (d : ℕ) → d < count → occurrences (segment_from schema block_len ps columns count) t d ≡ found_in d t ps
+occurrences-from schema block_len ps columns count t d l =
     ap (λ document. get document.terms t) (get_or-map-range_with_len (document_from ps columns) 0 count d d no_document l (omega arith))
     ∙ get-from_entries term_cmp_total (map held (filter (λ p. p.document == d) ps)) t

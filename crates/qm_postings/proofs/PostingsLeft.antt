@@ -1,48 +1,45 @@
--- What a cursor over postings has left at a place of its arrays.
+-- What a cursor has left at a place of its entries, whose documents it knows.
 use Rattle.std.proofs.Common.{◌≡◌, inl, inr, ℕ, ◌+◌, ◌-◌, ◌<◌, ◌≤◌, List, [], ◌∷◌, length, get_or, map, take, drop, min, ap, refl, sym, subst, arith, ◌∙◌, length-drop, zero, suc}
 use Rattle.std.proofs.lemmas.Bool.{cases_lt}
 use Rattle.std.proofs.lemmas.List.{length-map, take_all, drop_all, drop-map, drop-drop, take-map, get_or-drop}
-use Rattle.qm_docset.specs.Documents.{AreDocuments, AreEntries-documents}
-use Rattle.qm_docset.specs.Entry.{AreEntries, Entry, Limits, documents, from, head_document, head_frequency, no_limits, plain}
+use Rattle.qm_docset.specs.Documents.{AreDocuments}
+use Rattle.qm_docset.specs.DocumentsFacts.{AreEntries-documents}
+use Rattle.qm_docset.specs.Entry.{AreEntries, Entry, Limits, documents, from, head_document, no_limits, plain}
 use Rattle.qm_docset.specs.EntryFacts.{AreEntries-drop, from-cut, length-entries}
-use Rattle.qm_docset.specs.declared.doc_set.TheConstants.{TERMINATED}
-use Rattle.qm_postings.specs.SegmentPostings.{entries_together, frequency_read}
-use Rattle.qm_postings.specs.declared.freq_reading_option.FreqReadingOption.{FreqReadingOption}
+use Rattle.qm_docset.specs.declared.numbers.TheConstants.{TERMINATED}
+use Rattle.qm_postings.specs.StoredFacts.{documents-stored}
+use Rattle.qm_postings.specs.TermArrays.{stored}
+use Rattle.qm_postings.specs.declared.segment_postings.SegmentPostings.{SegmentPostings}
 
-pub documents-together : (reading : FreqReadingOption) (ds fs : List ℕ) → length fs ≡ length ds → documents (entries_together reading ds fs) ≡ ds
-documents-together reading [] fs h = refl
-documents-together reading (d ∷ ds) [] h = absurd (omega arith)
-documents-together reading (d ∷ ds) (f ∷ fs) h = ap (λ r. d ∷ r) (documents-together reading ds fs (omega arith))
+-- the documents of a cursor's postings
+pub named : (s : SegmentPostings) → documents (stored s.reading s.arrays) ≡ s.arrays.documents.now
+named s = documents-stored s.reading s.arrays.documents.now s.arrays.frequencies.now s.arrays.positions.now
 
-pub length-together : (reading : FreqReadingOption) (ds fs : List ℕ) → length fs ≡ length ds → length (entries_together reading ds fs) ≡ length ds
-length-together reading ds fs h = sym (length-map (entries_together reading ds fs) (λ e. e.document)) ∙ ap length (documents-together reading ds fs h)
+pub length-named : (es : List Entry) (ds : List ℕ) → documents es ≡ ds → length es ≡ length ds
+length-named es ds names = sym (length-map es (λ e. e.document)) ∙ ap length names
 
--- the document at a place, and its frequency as it is read
-pub document_at : (reading : FreqReadingOption) (n : ℕ) (ds fs : List ℕ) (x : ℕ) → length fs ≡ length ds → n < length ds → head_document (drop n (entries_together reading ds fs)) ≡ get_or ds n x
-document_at reading n [] fs x h l = absurd (omega arith)
-document_at reading n (d ∷ ds) [] x h l = absurd (omega arith)
-document_at reading zero (d ∷ ds) (f ∷ fs) x h l = refl
-document_at reading (suc n) (d ∷ ds) (f ∷ fs) x h l = document_at reading n ds fs x (omega arith) (omega arith)
+head_at : (n : ℕ) (es : List Entry) (x : ℕ) → n < length es → head_document (drop n es) ≡ get_or (documents es) n x
+head_at n [] x l = absurd (omega arith)
+head_at zero (e ∷ es) x l = refl
+head_at (suc n) (e ∷ es) x l = head_at n es x (omega arith)
 
-pub frequency_at : (reading : FreqReadingOption) (n : ℕ) (ds fs : List ℕ) (x : ℕ) → length fs ≡ length ds → n < length ds → head_frequency (drop n (entries_together reading ds fs)) ≡ frequency_read reading (get_or fs n x)
-frequency_at reading n [] fs x h l = absurd (omega arith)
-frequency_at reading n (d ∷ ds) [] x h l = absurd (omega arith)
-frequency_at reading zero (d ∷ ds) (f ∷ fs) x h l = refl
-frequency_at reading (suc n) (d ∷ ds) (f ∷ fs) x h l = frequency_at reading n ds fs x (omega arith) (omega arith)
+-- the document at a place
+pub document_at : (n : ℕ) (es : List Entry) (ds : List ℕ) (x : ℕ) → documents es ≡ ds → n < length ds → head_document (drop n es) ≡ get_or ds n x
+document_at n es ds x names l = head_at n es x (omega (arith, length-named es ds names)) ∙ ap (λ xs. get_or xs n x) names
 
 -- nothing is left behind the last
-pub none_left : (reading : FreqReadingOption) (n : ℕ) (ds fs : List ℕ) → length fs ≡ length ds → length ds ≤ n → drop n (entries_together reading ds fs) ≡ []
-none_left reading n ds fs h l = drop_all n (entries_together reading ds fs) (omega (arith, length-together reading ds fs h))
+pub none_left : (n : ℕ) (es : List Entry) (ds : List ℕ) → documents es ≡ ds → length ds ≤ n → drop n es ≡ []
+none_left n es ds names l = drop_all n es (omega (arith, length-named es ds names))
 
-pub count_left : (reading : FreqReadingOption) (n : ℕ) (ds fs : List ℕ) → length fs ≡ length ds → length (drop n (entries_together reading ds fs)) ≡ length ds - n
-count_left reading n ds fs h = omega (arith, length-drop n (entries_together reading ds fs), length-together reading ds fs h)
+pub count_left : (n : ℕ) (es : List Entry) (ds : List ℕ) → documents es ≡ ds → length (drop n es) ≡ length ds - n
+count_left n es ds names = omega (arith, length-drop n es, length-named es ds names)
 
 -- a place that stands on a document is within the arrays
-pub within : (reading : FreqReadingOption) (n : ℕ) (ds fs : List ℕ) → length fs ≡ length ds → n ≤ length ds → head_document (drop n (entries_together reading ds fs)) < TERMINATED → n < length ds
-within reading n ds fs h place here =
+pub within : (n : ℕ) (es : List Entry) (ds : List ℕ) → documents es ≡ ds → n ≤ length ds → head_document (drop n es) < TERMINATED → n < length ds
+within n es ds names place here =
     elim (cases_lt n (length ds)) [
       | inl less ↦ less
-      | inr past ↦ absurd (omega (arith, ap head_document (none_left reading n ds fs h past)))
+      | inr past ↦ absurd (omega (arith, ap head_document (none_left n es ds names past)))
     ]
 
 -- dropping the first n of what is left at a place leaves what is left n places on

@@ -13,7 +13,7 @@ use Rattle.std.proofs.lemmas.List.Elements.{All-nil, All-weaker, All-append, All
 use Rattle.std.proofs.lemmas.List.FromFn.{map-range_with_len_more, length-map-range_with_len, get_or-map-range_with_len, fill_by_all}
 use Rattle.std.proofs.lemmas.List.Sorted.{Contains-permutation, IsPermutation-sym}
 use Rattle.std.proofs.lemmas.Map.Made.{IsDistinct-keys_filter}
-use Rattle.std.specs.Prelude.{Result, IsErrOf}
+use Rattle.std.specs.Prelude.{Result, Ok, Err, IsErrOf, OnErr}
 use Rattle.std.specs.Result.{IsErrAnd}
 use Rattle.qm_schema.specs.declared.error.QueryError.{QueryError}
 use Rattle.qm_schema.specs.declared.error.QueryError.TheVariants.{Memory, TooManyDocuments}
@@ -26,8 +26,8 @@ use Rattle.qm_postings.specs.Segment.{AscendFrom, IsGood, Segment, document_of, 
 use Rattle.qm_postings.proofs.SameEntries.{map-map, filter-map, filter_all, filter_none, members_kept, same_entries_map}
 use Rattle.qm_postings.proofs.TermChecks.{terms_of, distinct_in_any_order}
 
-pub counted : (schema : List FieldFacts) (ps : List Posted) (columns : List (List ℕ)) (n : ℕ) (s : Segment) → segment_from schema ps columns n ≡ s → length s.documents ≡ n
-counted schema ps columns n s is = ap (λ t. length t.documents) (sym is) ∙ length-map-range_with_len (λ d. document_from ps columns d) 0 n
+pub counted : (schema : List FieldFacts) (block_len : ℕ) (ps : List Posted) (columns : List (List ℕ)) (n : ℕ) (s : Segment) → segment_from schema block_len ps columns n ≡ s → length s.documents ≡ n
+counted schema block_len ps columns n s is = ap (λ t. length t.documents) (sym is) ∙ length-map-range_with_len (λ d. document_from ps columns d) 0 n
 
 -- a term has fewer than 4294967296 positions
 pub ascend_count : (low : ℕ) (ps : List ℕ) → low ≤ 4294967295 → AscendFrom low ps → low + length ps ≤ 4294967295
@@ -148,15 +148,20 @@ module _ (schema : List FieldFacts) (n : ℕ) (ps : List Posted) (columns grown 
       (λ k h. get_or-map-range_with_len f 0 n k k no_document h (zero-add k) ∙ earlier_document k h) in
       map-range_with_len_more f 0 n n (zero-add n) ∙ (λ i. earlier i ++ new_document i ∷ [])
 
-  pub segment_more : (s : Segment) → segment_from schema ps columns n ≡ s → segment_from schema (ps ++ postings_of_document schema n sorted) grown (n + 1) ≡ with_document s (document_of s.schema draft)
-  segment_more s is =
-      let now : segment_from schema (ps ++ postings_of_document schema n sorted) grown (n + 1) ≡ with_document (segment_from schema ps columns n) (document_of schema draft) =
-      λ i. record { schema = schema; documents = documents_more i; deleted = [] } in
+  pub segment_more : (block_len : ℕ) (s : Segment) → segment_from schema block_len ps columns n ≡ s → segment_from schema block_len (ps ++ postings_of_document schema n sorted) grown (n + 1) ≡ with_document s (document_of s.schema draft)
+  segment_more block_len s is =
+      let now : segment_from schema block_len (ps ++ postings_of_document schema n sorted) grown (n + 1) ≡ with_document (segment_from schema block_len ps columns n) (document_of schema draft) =
+      λ i. record { schema = schema; block_len = block_len; documents = documents_more i; deleted = [] } in
       now ∙ ap (λ t. with_document t (document_of t.schema draft)) is
 
 -- a refusal for want of memory is none for too many documents
 pub not_too_many : {T : Type 0} (r : Result T QueryError) → IsErrAnd r (λ e. e ≡ Memory) → IsErrOf r TooManyDocuments → ⊥
 not_too_many r h e = let k : TooManyDocuments ≡ Memory = subst (λ s. IsErrAnd s (λ m. m ≡ Memory)) e h in cc
+
+-- what holds at all holds of a refusal
+pub on_err : {T E : Type 0} (r : Result T E) (P : Type 0) → P → OnErr r P
+on_err (Ok x) P h = tt
+on_err (Err e) P h = h
 
 none_equal : IsDistinct (eq_by_cmp term_cmp) []
 unfolding IsDistinct

@@ -1,5 +1,5 @@
 -- How a segment is kept: its postings, and for each field its column of length ids.
-use Rattle.std.specs.Prelude.{◌≡◌, ℕ, ◌+◌, ◌<◌, ◌≤◌, ◌==◌, List, [], ◌∷◌, ◌++◌, All, length, filter, map, take, drop, if◌then◌else◌, slice_index_or}
+use Rattle.std.specs.Prelude.{◌≡◌, ℕ, ◌+◌, ◌<◌, ◌≤◌, ◌==◌, List, [], ◌∷◌, ◌++◌, All, length, filter, map, max, fold, take, drop, if◌then◌else◌, slice_index_or}
 use Rattle.std.specs.List.{IsDistinct, range_with_len}
 use Rattle.std.specs.List.Sorted.{IsStrictlySortedBy}
 use Rattle.std.proofs.Common.{refl}
@@ -31,17 +31,12 @@ abbrev pub documents_from : List Posted → List (List ℕ) → ℕ → List Doc
 documents_from ps columns count = map (λ d. document_from ps columns d) (range_with_len 0 count)
 
 -- a segment of so many documents, none of them deleted
-abbrev pub segment_from : List FieldFacts → List Posted → List (List ℕ) → ℕ → Segment
-segment_from schema ps columns count = record { schema = schema; documents = documents_from ps columns count; deleted = [] }
+abbrev pub segment_from : List FieldFacts → ℕ → List Posted → List (List ℕ) → ℕ → Segment
+segment_from schema block_len ps columns count = record { schema = schema; block_len = block_len; documents = documents_from ps columns count; deleted = [] }
 
 -- the terms of a document's postings
 abbrev pub terms_in : List Posted → ℕ → List TermKey
 terms_in ps d = map (λ p. p.term) (filter (λ p. p.document == d) ps)
-
-abbrev pub posted_code : Coded Posted
-posted_code =
-    code_by (TermKey × (ℕ × ℕ)) (coded× term_code (coded× coded_ℕ coded_ℕ))
-    (λ p. (p.term, (p.document, p.frequency))) (λ p. record { term = p.0; document = p.1.0; frequency = p.1.1 }) (λ _. refl)
 
 -- all postings are of documents below a number, and no document has a term twice
 pub record ArePosted (count : ℕ) (ps : List Posted) : Type 0 where
@@ -53,20 +48,25 @@ pub record AreColumns (schema : List FieldFacts) (count : ℕ) (columns : List (
   pub each : length columns ≡ length schema
   pub whole : (f : ℕ) → f < length schema → length (slice_index_or columns f []) ≡ (if keeps_lengths schema f then count else 0)
 
--- a term of an index, and the range of its postings in the arrays of all postings
-pub record TermRange : Type 0 where
+-- a term of an index, the range of its postings in the arrays of all postings, and the greatest of its frequencies
+pub record PostingsRange : Type 0 where
   pub term : TermKey
   pub start : ℕ
   pub count : ℕ
+  pub most : ℕ
 
-abbrev pub range_code : Coded TermRange
+abbrev pub range_code : Coded PostingsRange
 range_code =
-    code_by (TermKey × (ℕ × ℕ)) (coded× term_code (coded× coded_ℕ coded_ℕ))
-    (λ r. (r.term, (r.start, r.count))) (λ p. record { term = p.0; start = p.1.0; count = p.1.1 }) (λ _. refl)
+    code_by (TermKey × (ℕ × (ℕ × ℕ))) (coded× term_code (coded× coded_ℕ (coded× coded_ℕ coded_ℕ)))
+    (λ r. (r.term, (r.start, (r.count, r.most)))) (λ p. record { term = p.0; start = p.1.0; count = p.1.1.0; most = p.1.1.1 }) (λ _. refl)
 
 -- that range of an array
-abbrev pub in_range : TermRange → List ℕ → List ℕ
+abbrev pub in_range : PostingsRange → List ℕ → List ℕ
 in_range range xs = take range.count (drop range.start xs)
+
+-- the greatest of some numbers, and 0 where there are none
+abbrev pub greatest : List ℕ → ℕ
+greatest xs = fold max 0 xs
 
 abbrev pub posted_together : TermKey → List ℕ → List ℕ → List Posted
 posted_together term [] fs = []
@@ -74,16 +74,17 @@ posted_together term (d ∷ ds) [] = []
 posted_together term (d ∷ ds) (f ∷ fs) = record { term = term; document = d; frequency = f } ∷ posted_together term ds fs
 
 -- all postings, term by term
-unfoldable pub posted_of : List TermRange → List ℕ → List ℕ → List Posted
+unfoldable pub posted_of : List PostingsRange → List ℕ → List ℕ → List Posted
 posted_of [] ds fs = []
 posted_of (range ∷ ranges) ds fs = posted_together range.term (in_range range ds) (in_range range fs) ++ posted_of ranges ds fs
 
--- The arrays of an index: terms ascend, the range of each lies in both arrays, and its documents
--- ascend and are below a number.
-pub record IsIndex (count : ℕ) (ranges : List TermRange) (ds fs : List ℕ) : Type 0 where
+-- The arrays of an index: terms ascend, the range of each lies in both arrays and holds a posting, its
+-- documents ascend and are below a number, and the greatest of its frequencies is known.
+pub record IsIndex (count : ℕ) (ranges : List PostingsRange) (ds fs : List ℕ) : Type 0 where
   pub terms : IsStrictlySortedBy term_cmp (map (λ r. r.term) ranges)
   pub paired : length fs ≡ length ds
   pub within : All (λ r. r.start + r.count ≤ length ds) ranges
   pub used : All (λ r. 0 < r.count) ranges
+  pub most : All (λ r. r.most ≡ greatest (in_range r fs)) ranges
   pub documents : All (λ r. AreDocuments (in_range r ds)) ranges
   pub below : All (λ r. All (λ d. d < count) (in_range r ds)) ranges

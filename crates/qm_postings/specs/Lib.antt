@@ -5,8 +5,16 @@ pub mod LengthIds
 pub mod FieldNorms
 pub mod Reading
 pub mod FieldIndex
+pub mod Stored
+pub mod StoredFacts
+pub mod TermArrays
 pub mod SegmentPostings
 pub mod Statistics
 pub mod SegmentPostingsFacts
 pub mod Building
-pub mod Gathering
+pub mod Numbering
+pub mod Grouping
+pub mod Positions
+pub mod PositionsFacts
+pub mod TermRange
+pub mod Address

@@ -24,8 +24,10 @@ pub record Document : Type 0 where
   pub terms : FinMap term_cmp Occurrences
   pub lengths : List ℕ
 
+-- The documents of a segment, of which the postings are cut into blocks of `block_len`.
 pub record Segment : Type 0 where
   pub schema : List FieldFacts
+  pub block_len : ℕ
   pub documents : List Document
   pub deleted : List ℕ
 
@@ -39,8 +41,8 @@ document_code =
 
 abbrev pub segment_code : Coded Segment
 segment_code =
-    code_by (List FieldFacts × (List Document × List ℕ)) (coded× (coded_list facts_code) (coded× (coded_list document_code) (coded_list coded_ℕ)))
-    (λ s. (s.schema, (s.documents, s.deleted))) (λ p. record { schema = p.0; documents = p.1.0; deleted = p.1.1 }) (λ _. refl)
+    code_by (List FieldFacts × (ℕ × (List Document × List ℕ))) (coded× (coded_list facts_code) (coded× coded_ℕ (coded× (coded_list document_code) (coded_list coded_ℕ))))
+    (λ s. (s.schema, (s.block_len, (s.documents, s.deleted)))) (λ p. record { schema = p.0; block_len = p.1.0; documents = p.1.1.0; deleted = p.1.1.1 }) (λ _. refl)
 
 -- what the postings of a field keep: None where the field isn't indexed, or isn't in the schema
 abbrev pub field_option : List FieldFacts → ℕ → Option IndexRecordOption
@@ -115,7 +117,11 @@ document_of schema draft = record {
 
 -- the same segment with one more document, past all others
 abbrev pub with_document : Segment → Document → Segment
-with_document segment document = record { schema = segment.schema; documents = segment.documents ++ document ∷ []; deleted = segment.deleted }
+with_document segment document = record { schema = segment.schema; block_len = segment.block_len; documents = segment.documents ++ document ∷ []; deleted = segment.deleted }
+
+-- the segment that has no document yet
+abbrev pub empty_segment : List FieldFacts → ℕ → Segment
+empty_segment schema block_len = record { schema = schema; block_len = block_len; documents = []; deleted = [] }
 
 -- positions ascend strictly, and are below 4294967295
 abbrev pub AscendFrom : ℕ → List ℕ → Type 0

@@ -1,6 +1,6 @@
 //! The length ids of a field.
 
-ghost use Rattle.std.specs.Prelude.{◌≡◌, ◌<◌, ◌^◌, length, replicate, slice_index_or, false, true};
+ghost use Rattle.std.specs.Prelude.{◌≡◌, ◌<◌, ◌^◌, length, replicate, slice_get, false, true};
 ghost use Rattle.qm_postings.specs.LengthIds.{ids_in};
 
 use qm_docset::DocId;
@@ -45,7 +45,7 @@ impl<'a> FieldNormReader<'a> {
     /// The length id of a document, in constant time. Asks that the document is below `num_docs`.
     pub fn fieldnorm_id(&self, doc: DocId) -> u8
         requires { doc < length (norm_ids self.now) }
-        ensures { result ≡ slice_index_or (norm_ids self.now) doc result }
+        ensures { slice_get (norm_ids self.now) doc ≡ Some result }
     {
         match self.ids {
             Ids::Constant { id, .. } => id,

@@ -2,14 +2,22 @@
 
 ghost use Rattle.std.specs.Prelude.{◌≡◌, IsSome, IfSome, ◌↔◌};
 ghost use Rattle.qm_schema.specs.Term.{TermKey, term_cmp};
-ghost use Rattle.qm_postings.specs.FieldIndex.{IsHeld, IsInfoOf, reading, shown};
+ghost use Rattle.qm_postings.specs.FieldIndex.{IsHeld, IsInfoOf, greatest_frequency, reading, shown};
 ghost use Rattle.qm_postings.specs.Segment.{postings_of};
-ghost use Rattle.qm_postings.specs.SegmentPostings.{IsPostings, postings_left, reads};
+ghost use Rattle.std.specs.Option.{option_copied};
+ghost use Rattle.qm_postings.specs.TermRange.{AreTermsBetween, terms_left};
+ghost use Rattle.qm_postings.specs.SegmentPostings.{IsPostings, postings_left, postings_limits, reads};
+
+mod term_order;
+mod term_range;
 
 use crate::freq_reading_option::FreqReadingOption;
 use crate::segment_postings::SegmentPostings;
 use crate::segment_reader::SegmentReader;
+use crate::term_arrays::TermArrays;
 use qm_schema::{Field, IndexRecordOption, Term};
+use term_order::terms_before;
+pub use term_range::TermRange;
 
 /// What an index knows of a term that some document holds.
 #[derive(Clone, Copy, Debug, PartialEq, Eq, Hash)]
@@ -58,7 +66,8 @@ impl<'a> InvertedIndex<'a> {
     }
 
     /// The postings of a term: exactly the documents that hold it, each with its frequency, where
-    /// the field keeps frequencies and they are asked for, and else with 1. `None` exactly where no
+    /// the field keeps frequencies and they are asked for, and else with 1. Their `max_term_freq` is
+    /// the greatest frequency of the term in the segment, whatever was asked for. `None` exactly where no
     /// document holds the term, or it is of another field. Costs the logarithm of the number of the
     /// segment's terms; copies nothing and takes no memory.
     pub fn read_postings(
@@ -68,6 +77,7 @@ impl<'a> InvertedIndex<'a> {
     ) -> Option<SegmentPostings<'a>>
         ensures held { IsSome result ↔ IsHeld (shown self.now) term.now }
         ensures entries { IfSome result (λ p. postings_left p ≡ postings_of (shown self.now).reader.segment option term.now) }
+        ensures limits { IfSome result (λ p. postings_limits p ≡ record { top = 0; room = greatest_frequency (shown self.now).reader.segment term.now }) }
         ensures valid { IfSome result IsPostings }
         ensures reading { IfSome result (λ p. reads p ≡ reading (shown self.now).reader.segment.schema option (shown self.now).field) }
     {
@@ -85,18 +95,39 @@ impl<'a> InvertedIndex<'a> {
     ) -> SegmentPostings<'a>
         requires { (term : TermKey) × IsInfoOf (shown self.now) term info.now }
         ensures entries { (term : TermKey) → IsInfoOf (shown self.now) term info.now → postings_left result ≡ postings_of (shown self.now).reader.segment option term }
+        ensures limits { (term : TermKey) → IsInfoOf (shown self.now) term info.now → postings_limits result ≡ record { top = 0; room = greatest_frequency (shown self.now).reader.segment term } }
         ensures valid { IsPostings result }
         ensures reading { reads result ≡ reading (shown self.now).reader.segment.schema option (shown self.now).field }
     {
         let reader = self.reader;
         let entry = &reader.terms[info.ordinal];
         let end = entry.start + entry.doc_freq as usize;
-        SegmentPostings::new(
-            &reader.documents[entry.start..end],
-            &reader.frequencies[entry.start..end],
-            self.freq_reading(option),
-            entry.max_term_freq,
-        )
+        let arrays = TermArrays {
+            documents: &reader.documents[entry.start..end],
+            frequencies: &reader.frequencies[entry.start..end],
+            positions: &[],
+            blocks: &[],
+            block_len: 1,
+            max_term_freq: entry.max_term_freq,
+        };
+        SegmentPostings::new(arrays, self.freq_reading(option))
+    }
+
+    /// The terms of the field whose texts lie in a range, in byte order, each with what the index
+    /// knows of it: those that are not before `ge`, and before `lt` where there is one. Costs the
+    /// logarithm of the number of the segment's terms, and no memory.
+    pub fn term_range(&self, ge: &[u8], lt: Option<&[u8]>) -> TermRange<'a>
+        ensures { AreTermsBetween (shown self.now) ge.now (option_copied lt.entry) (terms_left result) }
+    {
+        let reader = self.reader;
+        let terms = reader.terms.as_slice();
+        let field = u64::from(self.field.field_id());
+        let next = terms_before(terms, field, ge);
+        let end = match lt {
+            Some(lt) => terms_before(terms, field, lt),
+            None => terms_before(terms, field + 1, &[]),
+        };
+        TermRange { reader, next, end }
     }
 
     fn freq_reading(&self, option: IndexRecordOption) -> FreqReadingOption

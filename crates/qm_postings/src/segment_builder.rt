@@ -1,12 +1,14 @@
 //! The making of a segment.
 
 ghost use Rattle.std.specs.Prelude.{◌≡◌, ◌≤◌, ◌<◌, ◌↔◌, ◌⊎◌, [], length, IfOk, OnOk, OnErr, IsErrOf, IsOkUnless};
-ghost use Rattle.qm_postings.specs.Segment.{IsGood, document_of, with_document};
+ghost use Rattle.std.specs.List.Sorted.{IsStrictlySortedBy};
+ghost use Rattle.qm_schema.specs.Term.{term_cmp};
+ghost use Rattle.qm_postings.specs.Segment.{IsGood, document_of, empty_segment, with_document};
 
 use crate::document::PlainDoc;
 use crate::segment_reader::SegmentReader;
 use qm_docset::{DocId, TERMINATED};
-use qm_schema::{QueryError, Schema, Term};
+use qm_schema::{QueryError, Schema};
 use std::alloc::Global;
 use std::marker::Model;
 
@@ -14,24 +16,11 @@ mod checks;
 mod columns;
 mod entering;
 mod grouping;
+mod posting;
+mod term_numbers;
 
-/// A posting: a document that holds a term, and how often.
-#[derive(Debug, Drop)]
-pub(crate) struct Posting {
-    pub(crate) term: Term,
-    pub(crate) document: DocId,
-    pub(crate) frequency: u32,
-}
-
-impl Model for Posting {
-    ghost use Rattle.qm_postings.specs.Index.{Posted, posted_code};
-
-    ghost Value = { Posted };
-
-    ghost coded = { posted_code };
-
-    ghost view = { λ p. record { term = p.term; document = p.document; frequency = p.frequency } };
-}
+use posting::Posting;
+use term_numbers::TermNumbers;
 
 /// Makes a segment, document by document.
 ///
@@ -39,6 +28,8 @@ impl Model for Posting {
 #[derive(Debug, Drop)]
 pub struct SegmentBuilder {
     schema: Schema,
+    block_len: u32,
+    terms: TermNumbers,
     postings: Vec<Posting>,
     lengths: Vec<Vec<u8>>,
     max_doc: DocId,
@@ -46,7 +37,9 @@ pub struct SegmentBuilder {
 
 impl Model for SegmentBuilder {
     ghost use Rattle.std.specs.Prelude.{◌≤◌, length, map};
-    ghost use Rattle.qm_docset.specs.declared.doc_set.TheConstants.{TERMINATED};
+    ghost use Rattle.qm_docset.specs.declared.numbers.TheConstants.{TERMINATED};
+    ghost use Rattle.qm_postings.specs.Building.{posted_by};
+    ghost use Rattle.qm_postings.specs.Grouping.{AreNumbered};
     ghost use Rattle.qm_postings.specs.Index.{AreColumns, ArePosted, segment_from};
     ghost use Rattle.qm_postings.specs.Segment.{Segment, segment_code};
 
@@ -54,11 +47,12 @@ impl Model for SegmentBuilder {
 
     ghost coded = { segment_code };
 
-    ghost view = { λ b. segment_from b.schema b.postings.items (map (λ c. c.items) b.lengths.items) b.max_doc };
+    ghost view = { λ b. segment_from b.schema b.block_len (posted_by b.terms b.postings.items) (map (λ c. c.items) b.lengths.items) b.max_doc };
 
     ghost invariant = { λ b. (b.max_doc ≤ TERMINATED)
         × (length b.schema ≤ 4294967295)
-        × ArePosted b.max_doc b.postings.items
+        × AreNumbered b.terms b.postings.items
+        × ArePosted b.max_doc (posted_by b.terms b.postings.items)
         × AreColumns b.schema b.max_doc (map (λ c. c.items) b.lengths.items) };
 }
 
@@ -69,7 +63,7 @@ impl SegmentBuilder {
     /// Refused with [`QueryError::BadBlockLength`] where `block_len` is not from 1 to 128, and else
     /// with [`QueryError::Memory`] alone.
     pub fn new(alloc: Global, schema: &Schema, block_len: u32) -> Result<SegmentBuilder, QueryError>
-        ensures empty { IfOk result (λ builder. builder ≡ record { schema = schema.now; documents = []; deleted = [] }) }
+        ensures empty { IfOk result (λ builder. builder ≡ empty_segment schema.now block_len) }
         ensures block_len { IsErrOf result QueryError.BadBlockLength ↔ ((block_len ≡ 0) ⊎ (128 < block_len)) }
         ensures refused { (0 < block_len) → block_len ≤ 128 → IsOkUnless result QueryError.Memory }
     {
@@ -80,6 +74,8 @@ impl SegmentBuilder {
         let lengths = columns::empty(alloc, &schema)?;
         Ok(SegmentBuilder {
             schema,
+            block_len,
+            terms: TermNumbers::new(alloc),
             postings: Vec::new(alloc),
             lengths,
             max_doc: 0,
@@ -88,7 +84,8 @@ impl SegmentBuilder {
 
     /// Adds a document, and answers its number, which is the number of documents so far. A refused
     /// one adds nothing: the next gets the number that it would have had. Costs the number of its
-    /// terms times its logarithm, and the number of the schema's fields.
+    /// terms times the logarithm of that of the segment's, and the number of the schema's fields times
+    /// that of the lengths that it was given.
     ///
     /// Refused with [`QueryError::TooManyDocuments`] exactly where there are 2147483647 documents
     /// already; with [`QueryError::BadDocument`] where a field isn't in the schema, a term has no
@@ -110,21 +107,28 @@ impl SegmentBuilder {
         if !checks::is_good(&self.schema, &mut document) {
             return Err(QueryError::BadDocument);
         }
-        self.postings.reserve(document.terms.len())?;
         columns::reserve(&self.schema, &mut self.lengths)?;
-        columns::push(&self.schema, &mut self.lengths, document.lengths.as_slice());
         let doc = self.max_doc;
-        entering::push_postings(&self.schema, &mut self.postings, document.terms, doc);
+        let PlainDoc { terms, lengths } = document;
+        entering::push_postings(
+            &self.schema,
+            &mut self.terms,
+            &mut self.postings,
+            terms,
+            doc,
+        )?;
+        columns::push(&self.schema, &mut self.lengths, lengths.as_slice());
         self.max_doc += 1;
         Ok(doc)
     }
 
-    /// The segment of the documents that were added. Costs the number of postings times its
-    /// logarithm.
+    /// The segment of the documents that were added; the terms that it has postings for ascend. Costs
+    /// the number of postings, and the number of terms.
     ///
     /// Refused with [`QueryError::Memory`] alone.
     pub fn build(self, alloc: Global) -> Result<SegmentReader, QueryError>
         ensures segment { IfOk result (λ reader. reader.segment ≡ self) }
+        ensures ascending { IfOk result (λ reader. IsStrictlySortedBy term_cmp reader.terms) }
         ensures refused { IsOkUnless result QueryError.Memory }
     {
         grouping::group(alloc, self)

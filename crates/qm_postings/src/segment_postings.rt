@@ -1,45 +1,44 @@
 //! A cursor over the postings of a term.
 
-ghost use Rattle.std.specs.Prelude.{◌≡◌, ◌≤◌, [], drop, length, min, take};
-ghost use Rattle.qm_docset.specs.Documents.{AreDocuments};
-ghost use Rattle.qm_docset.specs.Entry.{documents, from, head_document, head_frequency};
-ghost use Rattle.qm_postings.specs.SegmentPostingsFacts.{AreEntries-postings};
-ghost use Rattle.qm_postings.specs.SegmentPostings.{IsPostings, entries_together, postings_left, postings_limits, reads};
+ghost use Rattle.std.specs.Prelude.{◌≡◌, ◌+◌, ◌≤◌, ◌<◌, ◌++◌, All, [], drop, length, min, take, vec_capacity, vec_len};
+ghost use Rattle.qm_docset.specs.Entry.{documents, from, head_document, head_frequency, head_positions};
+ghost use Rattle.qm_postings.specs.Positions.{HasAdded, shifted};
+ghost use Rattle.qm_postings.specs.SegmentPostingsFacts.{AreEntries-postings, ArePositions-postings};
+ghost use Rattle.qm_postings.specs.SegmentPostings.{IsPostings, postings_left, postings_limits, reads};
+ghost use Rattle.qm_postings.specs.TermArrays.{AreArrays, stored};
 
 use crate::freq_reading_option::FreqReadingOption;
-use crate::posting::Postings;
+use crate::postings::Postings;
+use crate::term_arrays::TermArrays;
 use qm_docset::{COLLECT_BLOCK_BUFFER_LEN, DocId, DocSet, TERMINATED, gallop};
 
-/// A cursor over the documents that hold a term, each with how often it does. It borrows the arrays
-/// of its segment; copying it takes no memory.
+/// A cursor over the documents that hold a term, each with how often it does, and at which
+/// positions, where these are kept and were asked for. It borrows the arrays of its segment; copying
+/// it takes no memory.
 #[derive(Clone, Copy, Debug)]
 pub struct SegmentPostings<'a> {
-    documents: &'a [DocId],
-    frequencies: &'a [u32],
-    cursor: usize,
+    arrays: TermArrays<'a>,
     reading: FreqReadingOption,
-    max_term_freq: u32,
+    cursor: usize,
+    // a posting that the cursor stands on or has gone by, and where its positions begin
+    mark: usize,
+    mark_start: usize,
 }
 
 impl<'a> SegmentPostings<'a> {
-    pub(crate) fn new(
-        documents: &'a [DocId],
-        frequencies: &'a [u32],
-        reading: FreqReadingOption,
-        max_term_freq: u32,
-    ) -> SegmentPostings<'a>
-        requires documents { AreDocuments documents.now }
-        requires paired { length frequencies.now ≡ length documents.now }
-        ensures entries { postings_left result ≡ entries_together reading documents.now frequencies.now }
+    pub(crate) fn new(arrays: TermArrays<'a>, reading: FreqReadingOption) -> SegmentPostings<'a>
+        requires { AreArrays reading arrays }
+        ensures entries { postings_left result ≡ stored reading arrays.entry }
+        ensures limits { postings_limits result ≡ record { top = 0; room = arrays.entry.max_term_freq } }
         ensures valid { IsPostings result }
         ensures reading { reads result ≡ reading }
     {
         SegmentPostings {
-            documents,
-            frequencies,
-            cursor: 0,
+            arrays,
             reading,
-            max_term_freq,
+            cursor: 0,
+            mark: 0,
+            mark_start: 0,
         }
     }
 
@@ -48,6 +47,26 @@ impl<'a> SegmentPostings<'a> {
         ensures { result ≡ reads self.now }
     {
         self.reading
+    }
+
+    // The positions of the posting that the cursor stands on; the mark comes along.
+    fn positions_here(&mut self) -> &'a [u32]
+        requires valid { IsPostings self.old }
+        requires here { head_document (postings_left self.old) < TERMINATED }
+        ensures positions { result.now ≡ head_positions (postings_left self.old) }
+        ensures entries { postings_left self.new ≡ postings_left self.old }
+        ensures limits { postings_limits self.new ≡ postings_limits self.old }
+        ensures valid { IsPostings self.new }
+    {
+        let arrays = self.arrays;
+        if arrays.positions.is_empty() {
+            return arrays.positions;
+        }
+        let start = arrays.positions_start(self.cursor, self.mark, self.mark_start);
+        self.mark = self.cursor;
+        self.mark_start = start;
+        let end = start + arrays.frequencies[self.cursor] as usize;
+        &arrays.positions[start..end]
     }
 }
 
@@ -63,39 +82,40 @@ impl<'a> DocSet for SegmentPostings<'a> {
     ghost valid = { IsPostings };
 
     fn doc(&self) -> DocId {
-        match self.documents.get(self.cursor) {
+        match self.arrays.documents.get(self.cursor) {
             Some(doc) => *doc,
             None => TERMINATED,
         }
     }
 
     fn advance(&mut self) -> DocId {
-        if self.cursor < self.documents.len() {
+        if self.cursor < self.arrays.documents.len() {
             self.cursor += 1;
         }
         self.doc()
     }
 
     fn seek(&mut self, target: DocId) -> DocId {
-        self.cursor = gallop(self.documents, self.cursor, target);
+        self.cursor = gallop(self.arrays.documents, self.cursor, target);
         self.doc()
     }
 
     fn fill_buffer(&mut self, buffer: &mut [DocId; COLLECT_BLOCK_BUFFER_LEN]) -> usize {
-        let count = COLLECT_BLOCK_BUFFER_LEN.min(self.documents.len() - self.cursor);
+        let documents = self.arrays.documents;
+        let count = COLLECT_BLOCK_BUFFER_LEN.min(documents.len() - self.cursor);
         let end = self.cursor + count;
-        buffer[..count].copy_from_slice(&self.documents[self.cursor..end]);
+        buffer[..count].copy_from_slice(&documents[self.cursor..end]);
         self.cursor = end;
         count
     }
 
     fn size_hint(&self) -> u32 {
-        (self.documents.len() - self.cursor) as u32
+        (self.arrays.documents.len() - self.cursor) as u32
     }
 
     fn count_including_deleted(&mut self) -> u32 {
-        let count = (self.documents.len() - self.cursor) as u32;
-        self.cursor = self.documents.len();
+        let count = (self.arrays.documents.len() - self.cursor) as u32;
+        self.cursor = self.arrays.documents.len();
         count
     }
 
@@ -105,12 +125,36 @@ impl<'a> DocSet for SegmentPostings<'a> {
 impl<'a> Postings for SegmentPostings<'a> {
     fn term_freq(&self) -> u32 {
         match self.reading {
-            FreqReadingOption::ReadFreq => self.frequencies[self.cursor],
+            FreqReadingOption::ReadFreq => self.arrays.frequencies[self.cursor],
             FreqReadingOption::NoFreq | FreqReadingOption::SkipFreq => 1,
         }
     }
 
     fn max_term_freq(&self) -> u64 {
-        u64::from(self.max_term_freq)
+        u64::from(self.arrays.max_term_freq)
     }
+
+    /// Appends them at the end, in order. Copies each once; the first call in a block sums the
+    /// frequencies of less than a block.
+    fn append_positions_with_offset(&mut self, offset: u32, output: &mut Vec<u32>)
+        requires valid { IsPostings self.old }
+        requires here { head_document (postings_left self.old) < TERMINATED }
+        requires sums { All (λ p. p + offset ≤ 4294967295) (head_positions (postings_left self.old)) }
+        requires room { vec_len output.old + (postings_limits self.old).room ≤ vec_capacity output.old }
+        ensures end { output.new.items ≡ output.old.items ++ shifted offset (head_positions (postings_left self.old)) }
+        ensures members { HasAdded (shifted offset (head_positions (postings_left self.old))) output.old.items output.new.items }
+        ensures alone { output.old.items ≡ [] → output.new.items ≡ shifted offset (head_positions (postings_left self.old)) }
+        ensures longer { vec_len output.new ≤ vec_len output.old + (postings_limits self.old).room }
+        ensures capacity { vec_capacity output.old ≤ vec_capacity output.new }
+        ensures entries { postings_left self.new ≡ postings_left self.old }
+        ensures limits { postings_limits self.new ≡ postings_limits self.old }
+        ensures valid { IsPostings self.new }
+    {
+        let positions = self.positions_here();
+        for position in positions {
+            output.push(*position + offset).unwrap();
+        }
+    }
+
+    ghost ordered = { λ s h. ArePositions-postings s h };
 }

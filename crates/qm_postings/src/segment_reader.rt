@@ -20,13 +20,13 @@ pub(crate) struct TermEntry {
 }
 
 impl Model for TermEntry {
-    ghost use Rattle.qm_postings.specs.Index.{TermRange, range_code};
+    ghost use Rattle.qm_postings.specs.Index.{PostingsRange, range_code};
 
-    ghost Value = { TermRange };
+    ghost Value = { PostingsRange };
 
     ghost coded = { range_code };
 
-    ghost view = { λ e. record { term = e.term; start = e.start; count = e.doc_freq } };
+    ghost view = { λ e. record { term = e.term; start = e.start; count = e.doc_freq; most = e.max_term_freq } };
 }
 
 /// A segment, to be read: a list of documents, numbered from 0 up.
@@ -38,6 +38,7 @@ impl Model for TermEntry {
 #[derive(Debug, Drop)]
 pub struct SegmentReader {
     pub(crate) schema: Schema,
+    pub(crate) block_len: u32,
     pub(crate) terms: Vec<TermEntry>,
     pub(crate) documents: Vec<DocId>,
     pub(crate) frequencies: Vec<u32>,
@@ -47,7 +48,7 @@ pub struct SegmentReader {
 
 impl Model for SegmentReader {
     ghost use Rattle.std.specs.Prelude.{◌≤◌, map};
-    ghost use Rattle.qm_docset.specs.declared.doc_set.TheConstants.{TERMINATED};
+    ghost use Rattle.qm_docset.specs.declared.numbers.TheConstants.{TERMINATED};
     ghost use Rattle.qm_postings.specs.Index.{AreColumns, IsIndex, posted_of, segment_from};
     ghost use Rattle.qm_postings.specs.Reading.{Reader, reader_code};
 
@@ -56,7 +57,7 @@ impl Model for SegmentReader {
     ghost coded = { reader_code };
 
     ghost view = { λ r. record {
-      segment = segment_from r.schema (posted_of r.terms.items r.documents.items r.frequencies.items) (map (λ c. c.items) r.lengths.items) r.max_doc;
+      segment = segment_from r.schema r.block_len (posted_of r.terms.items r.documents.items r.frequencies.items) (map (λ c. c.items) r.lengths.items) r.max_doc;
       terms = map (λ e. e.term) r.terms.items;
     } };
 

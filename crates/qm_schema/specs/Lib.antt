@@ -1,3 +1,4 @@
 pub mod Option
+pub mod Refusals
 pub mod Schema
 pub mod Term

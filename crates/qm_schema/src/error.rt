@@ -70,6 +70,37 @@ pub enum QueryError {
     TooManySegments,
 }
 
+impl QueryError {
+    ghost use Rattle.qm_schema.specs.Refusals.{refusal_number};
+
+    /// The number by which a program reports the refusal: its place in the list above, from 1. What
+    /// the refusal holds does not change it.
+    pub fn number(self) -> u8
+        ensures { result ≡ refusal_number self }
+    {
+        match self {
+            QueryError::TooFewTerms => 1,
+            QueryError::EmptyPrefix => 2,
+            QueryError::MixedFields => 3,
+            QueryError::OffsetTooLarge(_) => 4,
+            QueryError::UnknownField => 5,
+            QueryError::NotIndexed => 6,
+            QueryError::NoPositions => 7,
+            QueryError::TieBreaker => 8,
+            QueryError::ScoreBound => 9,
+            QueryError::DoesNotMatch(_) => 10,
+            QueryError::NoSuchSegment(_) => 11,
+            QueryError::Provider(_) => 12,
+            QueryError::Memory => 13,
+            QueryError::TooManyDocuments => 14,
+            QueryError::BadDocument => 15,
+            QueryError::BadBlockLength => 16,
+            QueryError::BadNorms => 17,
+            QueryError::TooManySegments => 18,
+        }
+    }
+}
+
 impl From<AllocError> for QueryError {
     ghost use Rattle.qm_schema.specs.declared.error.QueryError.TheVariants.{Memory};
 

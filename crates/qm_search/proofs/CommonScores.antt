@@ -11,7 +11,7 @@ use Rattle.qm_combine.specs.HeldSum.{held_sum}
 use Rattle.qm_docset.specs.Entry.{Entry, documents, greatest_score}
 use Rattle.qm_docset.specs.Gather.{AreMembers, common_entries, documents_below, entries_of, gather, gathered, scored, scores_at}
 use Rattle.qm_docset.specs.GatherFacts.{AreMembers-map, scores_at-cons, scores_at-nil}
-use Rattle.qm_docset.specs.declared.doc_set.TheConstants.{TERMINATED}
+use Rattle.qm_docset.specs.declared.numbers.TheConstants.{TERMINATED}
 use Rattle.qm_postings.specs.Segment.{Segment, frequency, holders, length_id, positions}
 use Rattle.qm_postings.specs.Statistics.{Searched}
 use Rattle.qm_schema.specs.declared.error.QueryError.{QueryError}
@@ -23,7 +23,8 @@ use Rattle.qm_search.specs.WordScorers.{AreWordScorers, IsWordScorer, word_entri
 use Rattle.qm_search.specs.declared.terms.TheConstants.{BODY}
 use Rattle.qm_search.proofs.Holders.{common_holders-missing}
 use Rattle.qm_search.proofs.InCommon.{all_of-words}
-use Rattle.qm_search.proofs.WordEntries.{entries_of-within, map-filter-range, map-map}
+use Rattle.qm_search.proofs.Ranges.{map-filter-range, map-map}
+use Rattle.qm_search.proofs.WordEntries.{entries_of-within}
 use Rattle.qm_term.specs.Bm25Facts.{bm25-le}
 use Rattle.qm_term.specs.TermScorer.{IsTermScorer, scored_left, scored_limits}
 use Rattle.qm_term.specs.TermScorerFacts.{AreEntries-scored}

@@ -8,7 +8,7 @@ use Rattle.std.proofs.lemmas.List.Folds.{list_all-map}
 use Rattle.qm_docset.specs.Entry.{Entry, Limits, AreEntries, documents}
 use Rattle.qm_docset.specs.Gather.{scored, entries_of, scores_at, documents_below, gathered, gather, common_entries, AreMembers}
 use Rattle.qm_docset.specs.GatherFacts.{entries_of-nil, entries_of-here, entries_of-other, entries_of-before, scores_at-nil, scores_at-cons, length-scores_at}
-use Rattle.qm_docset.specs.declared.doc_set.TheConstants.{TERMINATED}
+use Rattle.qm_docset.specs.declared.numbers.TheConstants.{TERMINATED}
 use Rattle.qm_postings.specs.Segment.{Segment, holders}
 use Rattle.qm_search.specs.Trees.{common_holders, holds_word, word_term}
 use Rattle.qm_search.proofs.Holders.{filter-range-same, list_any-map, list_any-after, list_any-within}
@@ -23,10 +23,10 @@ length-entries_of d low limits [] a = ap (λ r. length (map (λ e. e.score) r)) 
 length-entries_of d low limits (e ∷ es) a =
     elim (cases_eq e.document d) [
       | inl here ↦
-          let none : entries_of d es ≡ [] = entries_of-before d (e.document + 1) limits es (omega arith) a.4 in
+          let none : entries_of d es ≡ [] = entries_of-before d (e.document + 1) limits es (omega arith) a.others in
           ap (λ r. length (map (λ x. x.score) r)) (entries_of-here d e es here ∙ ap (λ r. e ∷ r) none) ∙ sym (ap (λ b. cond (b || has d es) 1 0) (eq-eqb e.document d here))
       | inr other ↦
-          ap (λ r. length (map (λ x. x.score) r)) (entries_of-other d e es other) ∙ length-entries_of d (e.document + 1) limits es a.4 ∙ sym (ap (λ b. cond (b || has d es) 1 0) (ne_eqb e.document d other))
+          ap (λ r. length (map (λ x. x.score) r)) (entries_of-other d e es other) ∙ length-entries_of d (e.document + 1) limits es a.others ∙ sym (ap (λ b. cond (b || has d es) 1 0) (ne_eqb e.document d other))
     ]
 
 first_too : (here : Bool) (lists scores : ℕ) (others : Bool) → scores ≤ lists → nat_le lists scores ≡ others → nat_le (suc lists) (cond here 1 0 + scores) ≡ (here && others)

@@ -2,8 +2,12 @@ mod Holders
 mod InCommon
 mod CommonScores
 mod Matching
-mod Texts
 mod LineBytes
+mod ListingTexts
+mod PartLemmas
+mod Ranges
 mod TreeScores
 mod WordEntries
+mod OverParts
 mod SegmentTexts
+mod Answering

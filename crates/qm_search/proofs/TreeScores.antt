@@ -10,7 +10,7 @@ use Rattle.qm_postings.specs.Statistics.{Searched}
 use Rattle.qm_search.specs.Scores.{scored_common, with_scores, words_score}
 use Rattle.qm_search.specs.Trees.{boolean_matches, holds_word}
 use Rattle.qm_search.proofs.Matching.{boolean-common, boolean_matches-minimum, boolean_matches-no_clause, filter-all, filter-none}
-use Rattle.qm_search.proofs.WordEntries.{map-map}
+use Rattle.qm_search.proofs.Ranges.{map-map}
 
 -- every document scores 1
 pub pairs-all : (n : ℕ) → map (λ (e : Entry). (e.document, pos e.score)) (all_from 0 n) ≡ with_scores (λ _. 1) (filter (λ _. true) (range_with_len 0 n))

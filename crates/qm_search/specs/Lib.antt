@@ -5,5 +5,6 @@ pub mod Lines
 pub mod Scores
 pub mod WordScorers
 pub mod AllSegments
-pub mod ScriptDocuments
+pub mod Parts
+pub mod ScriptSegments
 pub mod TextSegments

@@ -1,16 +1,22 @@
 -- The texts that the program writes.
-use Rattle.std.specs.Prelude.{ℕ, ℤ, List, ◌∷◌, ◌++◌, map}
+use Rattle.std.specs.Prelude.{◌≡◌, ℕ, ℤ, List, [], ◌∷◌, ◌++◌, Option, None, Some, length, map}
 use Rattle.std.specs.List.{join_with_byte}
 use Rattle.std.specs.Fmt.{decimal, signed_decimal}
 
--- numbers in decimal, joined by one space; nothing for no number
-abbrev pub spaced : List ℕ → List ℕ
-spaced numbers = join_with_byte 32 (map decimal numbers)
+-- a colon and a score, where there is one
+abbrev pub score_text : Option ℤ → List ℕ
+score_text None = []
+score_text (Some score) = 58 ∷ signed_decimal score
 
--- a document's number and its score, with a colon between them
-abbrev pub paired : ℕ × ℤ → List ℕ
-paired pair = decimal pair.0 ++ 58 ∷ signed_decimal pair.1
+-- a document's number, and its score
+abbrev pub item_text : ℕ × Option ℤ → List ℕ
+item_text item = decimal item.0 ++ score_text item.1
 
--- such pairs, joined by one space
-abbrev pub spaced_pairs : List (ℕ × ℤ) → List ℕ
-spaced_pairs pairs = join_with_byte 32 (map paired pairs)
+-- documents, joined by one space; nothing for no document
+abbrev pub listing_text : List (ℕ × Option ℤ) → List ℕ
+listing_text items = join_with_byte 32 (map item_text items)
+
+-- a text that lists documents: it is empty for no document alone
+pub record IsListing (items : List (ℕ × Option ℤ)) (text : List ℕ) : Type 0 where
+  pub listed : text ≡ listing_text items
+  pub begun : length text ≡ 0 → items ≡ []

@@ -1,10 +1,14 @@
 //! The documents of a script, in segments.
 
-ghost use Rattle.std.specs.Prelude.{◌≡◌, ◌<◌, ◌≤◌, [], ◌∷◌, ◌++◌, IfOk, OnErr, OnOk, drop, map, vec_len};
+ghost use Rattle.std.specs.Prelude.{◌≡◌, ◌<◌, ◌≤◌, ◌*◌, ◌+◌, ◌⊎◌, All, IfErr, IfOk, IsOkUnless, OnErr, OnOk, drop, length, map, string_bytes, take, vec_len};
 ghost use Rattle.std.specs.Option.{ForSome};
-ghost use Rattle.qm_search.specs.TextSegments.{segment_of, with_text};
+ghost use Rattle.qm_docset.specs.declared.numbers.TheConstants.{TERMINATED};
+ghost use Rattle.qm_postings.specs.Segment.{IsGood};
+ghost use Rattle.qm_search.specs.Parts.{document_count, joined};
+ghost use Rattle.qm_search.specs.TextSegments.{IsBadText, IsTextRefusal, segment_of, text_draft, with_text};
 
 use crate::terms::body;
+use qm_docset::TERMINATED;
 use qm_postings::{PlainDoc, SegmentBuilder, SegmentReader};
 use qm_schema::{IndexRecordOption, QueryError, Schema};
 use std::alloc::Global;
@@ -14,29 +18,38 @@ const BLOCK_LEN: u32 = 128;
 
 /// The segments of a script, of which the last is open and takes documents.
 ///
-/// The open segment is built anew where a query comes after a document, which costs its size.
+/// The open segment is kept in parts, each a segment of its own: where a query comes after
+/// documents, these become a new part, and the parts before it that have fewer than twice its
+/// documents are built into it. So there are no more parts than the logarithm of the number of
+/// documents, and a document is built into a part no more often than that.
 #[derive(Drop)]
 pub(crate) struct Documents {
     schema: Schema,
-    // the segments that were ended, and behind them the open one where it is built
+    // the segments that were ended, and behind them the parts of the open one
     segments: Vec<SegmentReader>,
     ended: usize,
-    // the texts of the open segment's documents
+    // the texts of the open segment's documents, of which its parts have the first `built`
     texts: Vec<String>,
-    // a builder that has these documents, as long as there is one
+    built: usize,
+    // a builder that has the documents behind these, as long as there is one
     builder: Option<SegmentBuilder>,
     ghost within: { ended ≤ vec_len segments },
-    ghost built: { ended < vec_len segments → map (λ r. r.segment) (drop ended segments.items) ≡ segment_of schema texts.items ∷ [] },
-    ghost building: { ForSome builder (λ b. b ≡ segment_of schema texts.items) },
+    ghost some_built: { built ≤ vec_len texts },
+    ghost few: { vec_len texts ≤ TERMINATED },
+    ghost schemas: { map (λ r. r.segment.schema) (drop ended segments.items) ≡ map (λ r. schema) (drop ended segments.items) },
+    ghost parts: { joined schema (map (λ r. r.segment) (drop ended segments.items)) ≡ segment_of schema (take built texts.items) },
+    ghost counted: { document_count (map (λ r. r.segment) (take ended segments.items)) ≤ ended * TERMINATED },
+    ghost building: { ForSome builder (λ b. b ≡ segment_of schema (drop built texts.items)) },
+    // so a segment takes each of them again
+    ghost good: { All (λ t. ¬ IsBadText schema (string_bytes t)) texts.items },
 }
 
 impl Documents {
-    ghost use Rattle.qm_search.specs.ScriptDocuments.{all_segments, ended_segments, open_segment};
+    ghost use Rattle.qm_search.specs.ScriptSegments.{AreSegments, IsBuilt, all_segments, empty_script, script, with_document_of, with_segment_ended};
 
     /// A script's documents at its beginning: one open segment without documents.
     pub(crate) fn new(alloc: Global) -> Result<Documents, QueryError>
-        ensures ended { IfOk result (λ documents. ended_segments documents ≡ []) }
-        ensures texts { IfOk result (λ documents. documents.texts.items ≡ []) }
+        ensures { IfOk result (λ documents. script documents ≡ empty_script documents.schema) }
     {
         let mut builder = Schema::builder(alloc);
         builder.add_text_field("body", Some(IndexRecordOption::WithFreqsAndPositions), true)?;
@@ -45,6 +58,7 @@ impl Documents {
             segments: Vec::new(alloc),
             ended: 0,
             texts: Vec::new(alloc),
+            built: 0,
             builder: None,
         })
     }
@@ -56,66 +70,121 @@ impl Documents {
         &self.schema
     }
 
+    /// How many segments were ended.
+    pub(crate) fn ended(&self) -> usize
+        ensures { length (all_segments (script self.now)) ≡ result + 1 }
+    {
+        self.ended
+    }
+
     /// Adds a document with the words of this text to the open segment. A refused one adds nothing.
     pub(crate) fn add_document(&mut self, alloc: Global, text: String) -> Result<(), QueryError>
-        ensures added { OnOk result (self.new.texts.items ≡ self.old.texts.items ++ text ∷ []) }
-        ensures unchanged { OnErr result (self.new.texts.items ≡ self.old.texts.items) }
-        ensures ended { ended_segments self.new ≡ ended_segments self.old }
-        ensures schema { self.new.schema ≡ self.old.schema }
+        ensures added { OnOk result (script self.new ≡ with_document_of (script self.old) (string_bytes text)) }
+        ensures unchanged { OnErr result (script self.new ≡ script self.old) }
+        ensures refused { IfErr result (λ e. (e ≡ QueryError.Memory) ⊎ IsTextRefusal (script self.old).current (string_bytes text) e) }
     {
+        if self.texts.len() >= TERMINATED as usize {
+            return Err(QueryError::TooManyDocuments);
+        }
         self.texts.reserve(1)?;
         let mut builder = self.take_builder(alloc)?;
         let added = add_text(alloc, &mut builder, text.as_str());
         self.builder = Some(builder);
         added?;
         self.texts.push(text).unwrap();
-        self.segments.truncate(self.ended);
         Ok(())
     }
 
-    /// Ends the open segment, and opens another.
+    /// Ends the open segment, which is built as one, and opens another.
     pub(crate) fn end_segment(&mut self, alloc: Global) -> Result<(), QueryError>
-        ensures ended { OnOk result (ended_segments self.new ≡ all_segments self.old) }
-        ensures texts { OnOk result (self.new.texts.items ≡ []) }
-        ensures schema { self.new.schema ≡ self.old.schema }
+        ensures ended { OnOk result (script self.new ≡ with_segment_ended (script self.old)) }
+        ensures refused { IsOkUnless result QueryError.Memory }
     {
-        self.build_open_segment(alloc)?;
-        self.ended = self.segments.len();
-        self.builder = None;
-        self.texts.clear();
-        Ok(())
-    }
-
-    /// Builds the open segment with all its documents, for a query to be asked.
-    pub(crate) fn build_open_segment(&mut self, alloc: Global) -> Result<(), QueryError>
-        ensures built { OnOk result (map (λ r. r.segment) self.new.segments.items ≡ all_segments self.old) }
-        ensures texts { self.new.texts.items ≡ self.old.texts.items }
-        ensures ended { ended_segments self.new ≡ ended_segments self.old }
-        ensures schema { self.new.schema ≡ self.old.schema }
-    {
-        if self.segments.len() > self.ended {
-            return Ok(());
-        }
+        self.take_parts_back();
         self.segments.reserve(1)?;
         let builder = self.take_builder(alloc)?;
-        self.segments.push(builder.build(alloc)?).unwrap();
+        let segment = builder.build(alloc)?;
+        self.segments.push(segment).unwrap();
+        self.ended += 1;
+        self.texts.clear();
+        self.built = 0;
         Ok(())
     }
 
-    /// The segments that were ended, and behind them the open one where it is built.
+    /// Builds the documents that came since the last query, for another to be asked.
+    pub(crate) fn build_open_segment(&mut self, alloc: Global) -> Result<(), QueryError>
+        ensures script { script self.new ≡ script self.old }
+        ensures built { OnOk result (IsBuilt self.new) }
+        ensures refused { IsOkUnless result QueryError.Memory }
+    {
+        if self.built == self.texts.len() {
+            return Ok(());
+        }
+        self.take_small_parts_back();
+        self.segments.reserve(1)?;
+        let builder = self.take_builder(alloc)?;
+        let part = builder.build(alloc)?;
+        self.segments.push(part).unwrap();
+        self.built = self.texts.len();
+        Ok(())
+    }
+
+    /// The segments that were ended, and behind them the parts of the open one. Asks that all
+    /// documents are built.
     pub(crate) fn segments(&self) -> &[SegmentReader]
-        ensures { result.now ≡ self.now.segments.items }
+        requires { IsBuilt self.now }
+        ensures segments { AreSegments (script self.now) (map (λ r. r.segment) result.now) }
+        ensures few { document_count (map (λ r. r.segment) result.now) ≤ length (all_segments (script self.now)) * TERMINATED }
     {
         self.segments.as_slice()
     }
 
-    // Takes the builder out, or makes one, that has the documents of the open segment.
+    // Takes the last parts back, as long as one has fewer than twice the documents behind it.
+    fn take_small_parts_back(&mut self)
+        ensures { script self.new ≡ script self.old }
+    {
+        while self.segments.len() > self.ended {
+            let last = &self.segments[self.segments.len() - 1];
+            if last.max_doc() as usize >= 2 * (self.texts.len() - self.built) {
+                return;
+            }
+            self.take_last_part_back();
+        }
+    }
+
+    // Takes all parts back.
+    fn take_parts_back(&mut self)
+        ensures script { script self.new ≡ script self.old }
+        ensures none { vec_len self.new.segments ≤ self.new.ended }
+    {
+        while self.segments.len() > self.ended {
+            self.take_last_part_back();
+        }
+    }
+
+    // Leaves the documents of the last part to be built anew.
+    fn take_last_part_back(&mut self)
+        requires { self.old.ended < vec_len self.old.segments }
+        ensures script { script self.new ≡ script self.old }
+        ensures fewer { vec_len self.new.segments < vec_len self.old.segments }
+    {
+        let last = self.segments.len() - 1;
+        let len = self.segments[last].max_doc() as usize;
+        self.segments.truncate(last);
+        self.built -= len;
+        self.builder = None;
+    }
+
+    // Takes the builder out, or makes one, that has the documents that no part has.
     fn take_builder(&mut self, alloc: Global) -> Result<SegmentBuilder, QueryError>
-        ensures builder { IfOk result (λ builder. builder ≡ open_segment self.old) }
+        ensures builder { IfOk result (λ builder. builder ≡ segment_of self.old.schema (drop self.old.built self.old.texts.items)) }
         ensures segments { self.new.segments ≡ self.old.segments }
         ensures ended { self.new.ended ≡ self.old.ended }
         ensures texts { self.new.texts ≡ self.old.texts }
+        ensures built { self.new.built ≡ self.old.built }
         ensures schema { self.new.schema ≡ self.old.schema }
+        ensures taken { self.new.builder ≡ None }
+        ensures refused { IsOkUnless result QueryError.Memory }
     {
         match self.builder.take() {
             Some(builder) => Ok(builder),
@@ -123,22 +192,36 @@ impl Documents {
         }
     }
 
-    // A builder that has the documents of the open segment.
+    // A builder that has the documents that no part has.
     fn reopen(&self, alloc: Global) -> Result<SegmentBuilder, QueryError>
-        ensures { IfOk result (λ builder. builder ≡ open_segment self.now) }
+        ensures builder { IfOk result (λ builder. builder ≡ segment_of self.now.schema (drop self.now.built self.now.texts.items)) }
+        ensures refused { IsOkUnless result QueryError.Memory }
     {
         let mut builder = SegmentBuilder::new(alloc, &self.schema, BLOCK_LEN)?;
-        for text in &self.texts {
-            add_text(alloc, &mut builder, text.as_str())?;
+        for text in &self.texts[self.built..] {
+            add_good_text(alloc, &mut builder, text.as_str())?;
         }
         Ok(builder)
     }
 }
 
+// Adds a document with the words of the text, which a segment with this schema takes.
+fn add_good_text(alloc: Global, builder: &mut SegmentBuilder, text: &str) -> Result<(), QueryError>
+    requires few { length builder.old.documents < TERMINATED }
+    requires good { ¬ IsBadText builder.old.schema text.now }
+    ensures added { OnOk result (builder.new ≡ with_text builder.old text.now) }
+    ensures refused { IsOkUnless result QueryError.Memory }
+{
+    add_text(alloc, builder, text)
+}
+
 // Adds a document with the words of the text.
 fn add_text(alloc: Global, builder: &mut SegmentBuilder, text: &str) -> Result<(), QueryError>
+    requires few { length builder.old.documents < TERMINATED }
     ensures added { OnOk result (builder.new ≡ with_text builder.old text.now) }
+    ensures good { OnOk result (IsGood builder.old.schema (text_draft text.now)) }
     ensures unchanged { OnErr result (builder.new ≡ builder.old) }
+    ensures refused { IfErr result (λ e. (e ≡ QueryError.Memory) ⊎ IsTextRefusal builder.old text.now e) }
 {
     let mut document = PlainDoc::new(alloc);
     document.add_text(alloc, body(), text)?;

@@ -24,7 +24,7 @@ pub struct Lines {
 }
 
 impl Lines {
-    ghost use Rattle.qm_search.specs.Lines.{pending, unread, TakesPiece};
+    ghost use Rattle.qm_search.specs.Lines.{pending, unread, has_break, TakesPiece};
 
     /// Nothing has been read yet: all lines of the input are still to come.
     pub fn new() -> Lines
@@ -69,6 +69,13 @@ impl Lines {
             }
         }
         Err(RunError::Read)
+    }
+
+    /// Whether the next line can be answered without a read: whether what was read has its end.
+    pub fn has_line(&self) -> bool
+        ensures { result ≡ has_break (unread self.now) }
+    {
+        self.chunk[self.start..self.end].iter().any(|b| *b == b'\n')
     }
 
     // Moves what is unread to the end of the line, up to the first byte 10, which is left out, and

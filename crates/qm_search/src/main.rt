@@ -8,6 +8,7 @@ mod docs;
 mod documents;
 mod left;
 mod lines;
+mod listing;
 mod parse;
 mod run;
 mod scores;

@@ -1,6 +1,6 @@
 //! What a line of a script asks for.
 
-ghost use Rattle.std.specs.Prelude.{◌^◌, ◌<◌, IfOk, IsSome, IsUtf8, SomeIff, pos};
+ghost use Rattle.std.specs.Prelude.{◌≡◌, ◌==◌, ◌||◌, ◌^◌, ◌<◌, IfOk, IsSome, IsUtf8, SomeIff, pos};
 ghost use Rattle.std.specs.Str.Parse.{IsNumeral, digits_value};
 
 use crate::tree::Tree;
@@ -35,15 +35,17 @@ pub fn parse_line(alloc: Global, line: &[u8]) -> Result<Option<Command>, AllocEr
     let Ok(text) = str::from_utf8(line) else {
         return Ok(None);
     };
+    if let Some(words) = document_words(text) {
+        return Ok(Some(Command::AddDocument(spaced(alloc, words)?)));
+    }
     let mut words = Vec::new(alloc);
-    for word in text.split(|c: char| c == ' ' || c == '\t') {
+    for word in text.split(is_blank) {
         if !word.is_empty() {
             words.push(word)?;
         }
     }
     match words.as_slice() {
         [] => Ok(Some(Command::Nothing)),
-        ["doc", words @ ..] => Ok(Some(Command::AddDocument(joined(alloc, words)?))),
         ["weight", word, weight] => parse_weight(alloc, word, weight),
         ["segment"] => Ok(Some(Command::EndSegment)),
         ["docs", query @ ..] => Ok(parse_query(alloc, query)?.map(Command::ListDocuments)),
@@ -52,14 +54,29 @@ pub fn parse_line(alloc: Global, line: &[u8]) -> Result<Option<Command>, AllocEr
     }
 }
 
-// The words, each behind a space but the first.
-fn joined(alloc: Global, words: &[&str]) -> Result<String, AllocError> {
+// Words are cut at these.
+fn is_blank(c: char) -> bool
+    ensures { result ≡ (c == 32 || c == 9) }
+{
+    c == ' ' || c == '\t'
+}
+
+// What follows the word `doc`, where that is the first word.
+fn document_words(text: &str) -> Option<&str> {
+    let words = text.trim_start_matches(is_blank).strip_prefix("doc")?;
+    if words.is_empty() || words.starts_with(is_blank) {
+        Some(words)
+    } else {
+        None
+    }
+}
+
+// The same words, with a space in place of each tab, and one behind them.
+fn spaced(alloc: Global, words: &str) -> Result<String, AllocError> {
     let mut text = String::new(alloc);
-    for (i, word) in words.iter().enumerate() {
-        if i > 0 {
-            text.push(' ')?;
-        }
-        text.push_str(word)?;
+    for part in words.split('\t') {
+        text.push_str(part)?;
+        text.push(' ')?;
     }
     Ok(text)
 }

@@ -39,8 +39,9 @@ impl<T: Drop> From<AllocFailed<T>> for RunError {
 /// Runs the script that the input gives, writes the answers to the output, and answers the exit
 /// status: 2 where some line wasn't understood, else 1 where some line was refused, else 0.
 ///
-/// The first error ends the run. What was answered before it has been written then, and after
-/// `Write` nothing more is written.
+/// Before more input is waited for, all lines that were read whole are answered, and the answers
+/// written. The first error ends the run. What was answered before it has been written then, and
+/// after `Write` nothing more is written.
 pub fn run<R: Read, W: Write>(alloc: Global, input: &mut R, output: &mut W) -> Result<u8, RunError>
     ensures status { IfOk result (λ status. status ≤ 2) }
 {
@@ -72,18 +73,24 @@ fn answer_lines<R: Read, W: Write>(
 {
     let mut lines = Lines::new();
     let mut line = Vec::new(alloc);
+    let mut text = String::new(alloc);
     let Ok(mut corpus) = Corpus::new(alloc) else {
         return Err(RunError::Memory);
     };
     let mut status = 0;
     for number in 1..u64::MAX {
+        // what was answered appears before more input is waited for
+        if !lines.has_line() && output.flush().is_err() {
+            return Err(RunError::Write);
+        }
         if !lines.next_line(input, &mut line)? {
             break;
         }
         let command = parse_line(alloc, line.as_slice())?;
-        let answer = answer_command(alloc, &mut corpus, command)?;
+        text.clear();
+        let answer = answer_command(alloc, &mut corpus, command, &mut text)?;
         status = answer.status().max(status);
-        let text = answer.text(alloc, number)?;
+        answer.finish(number, &mut text)?;
         if output.write_all(text.as_bytes()).is_err() {
             return Err(RunError::Write);
         }

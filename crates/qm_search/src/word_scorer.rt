@@ -1,16 +1,13 @@
 //! The scorer of a word.
 
-ghost use Rattle.std.specs.Prelude.{◌≡◌, IfErr, IfOk, MatchOption, [], length, map};
-ghost use Rattle.std.specs.List.{range_with_len};
-ghost use Rattle.qm_postings.specs.FieldNorms.{norm_ids};
-ghost use Rattle.qm_postings.specs.Segment.{holders, length_id};
+ghost use Rattle.std.specs.Prelude.{◌≡◌, IfErr, IfOk, MatchOption, []};
+ghost use Rattle.qm_postings.specs.Segment.{holders};
 ghost use Rattle.qm_search.specs.Scores.{IsScoreRefusal, word_weighing};
 ghost use Rattle.qm_search.specs.Trees.{word_term};
 ghost use Rattle.qm_search.specs.WordScorers.{IsWordScorer};
-ghost use Rattle.qm_search.specs.declared.terms.TheConstants.{BODY};
 
 use crate::terms::body;
-use qm_postings::{FieldNormReader, Searcher, SegmentReader};
+use qm_postings::{Searcher, SegmentReader};
 use qm_schema::{IndexRecordOption, QueryError, Term};
 use qm_term::{Bm25Weight, TermScorer};
 use std::alloc::Global;
@@ -32,19 +29,5 @@ pub(crate) fn word_scorer<'a>(
 {
     let term = Term::from_field_text(alloc, body(), word)?;
     let weight = Bm25Weight::for_terms(searcher, slice::from_ref(&term))?;
-    let index = segment.inverted_index(body());
-    let Some(postings) = index.read_postings(&term, IndexRecordOption::WithFreqs) else {
-        return Ok(None);
-    };
-    Ok(Some(TermScorer::new(postings, length_ids(segment), weight)))
-}
-
-// The length id of each document, which is 1 where lengths aren't kept.
-fn length_ids(segment: &SegmentReader) -> FieldNormReader<'_>
-    ensures { norm_ids result ≡ map (length_id segment.now.segment BODY) (range_with_len 0 (length segment.now.segment.documents)) }
-{
-    match segment.fieldnorms(body()) {
-        Some(reader) => reader,
-        None => FieldNormReader::constant(segment.max_doc(), 1),
-    }
+    Ok(TermScorer::for_term(segment, &term, IndexRecordOption::WithFreqs, &weight))
 }

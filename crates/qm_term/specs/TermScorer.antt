@@ -10,8 +10,8 @@ use Rattle.qm_term.specs.Bm25Weight.{weighing}
 use Rattle.qm_term.specs.declared.term_scorer.TermScorer.{TermScorer}
 
 -- postings, each with the score that its frequency has at its document's length id
-abbrev pub weighed : Weighing → List ℕ → List Entry → List Entry
-weighed weighing ids es = rescored (λ e. bm25 weighing (slice_index_or ids e.document 0) e.frequency) es
+abbrev pub scored_postings : Weighing → List ℕ → List Entry → List Entry
+scored_postings weighing ids es = rescored (λ e. bm25 weighing (slice_index_or ids e.document 0) e.frequency) es
 
 -- each of the documents has a length id
 abbrev pub AreCovered : List ℕ → List Entry → Type 0
@@ -19,7 +19,7 @@ AreCovered ids es = All (λ e. e.document < length ids) es
 
 -- the documents that a scorer has left, with their scores
 abbrev pub scored_left : TermScorer → List Entry
-scored_left s = weighed (weighing s.similarity_weight) (norm_ids s.fieldnorm_reader) (postings_left s.postings)
+scored_left s = scored_postings (weighing s.similarity_weight) (norm_ids s.fieldnorm_reader) (postings_left s.postings)
 
 abbrev pub scored_limits : TermScorer → Limits
 scored_limits s = limited (bm25_bound (weighing s.similarity_weight)) (postings_limits s.postings)

@@ -2,16 +2,16 @@
 
 ghost use Rattle.std.specs.Prelude.{◌≡◌, ℕ, ◌*◌, ◌≤◌, ◌<◌, ◌↔◌, ◌⊎◌, pos, nat_abs, ◌≤ℤ◌, IfOk, IfErr, IsErrOf, IsOkUnless, length};
 ghost use Rattle.std.specs.List.Sorted.{IsNonDecreasing};
-ghost use Rattle.qm_term.specs.Bm25.{earned};
+ghost use Rattle.qm_term.specs.Bm25.{share};
 
-use crate::explaining::Explanation;
+use crate::explanation::Explanation;
 use qm_docset::Score;
 use qm_postings::Bm25StatisticsProvider;
 use qm_schema::{QueryError, Term};
 use std::alloc::Global;
 
-/// What a term, or several together, score in a document: a weight, of which a frequency earns the
-/// more the greater it is, and the less the longer the document is, times a boost.
+/// What a term, or several together, score in a document: a weight, of which a frequency has the
+/// greater a share the greater it is, and the lesser the longer the document is, times a boost.
 ///
 /// A frequency `tf` in a document of length id `id` scores
 /// `boost * floor(weight * tf / (tf + norms[id]))`, and 0 where `tf` is 0. So the score doesn't fall
@@ -65,7 +65,11 @@ impl Bm25Weight {
         ensures refused { IfErr result (P.may_refuse provider.now terms.now) }
     {
         let weight = provider.weight(terms)?;
-        Bm25Weight::new(weight, *provider.norms())
+        Ok(Bm25Weight {
+            weight: weight as u64,
+            boost: 1,
+            norms: *provider.norms(),
+        })
     }
 
     /// The same weight with its boost times `boost`, which is at least 0.
@@ -100,14 +104,16 @@ impl Bm25Weight {
 
     /// The score of a frequency in a document of that length id, in whole scores. One division, of
     /// 64 bits where the weight is below 4294967296 and else of 128.
+    ///
+    /// A lesser frequency scores no more, and a greater length id no more either.
+    #[inline]
     pub fn score(&self, fieldnorm_id: u8, term_freq: u32) -> Score
-        ensures { result ≡ pos (bm25 (weighing self.now) fieldnorm_id term_freq) }
+        ensures score { result ≡ pos (bm25 (weighing self.now) fieldnorm_id term_freq) }
+        ensures rises { (less : ℕ) → less ≤ term_freq → pos (bm25 (weighing self.now) fieldnorm_id less) ≤ℤ result }
+        ensures falls { (id : ℕ) → fieldnorm_id ≤ id → id ≤ 255 → pos (bm25 (weighing self.now) id term_freq) ≤ℤ result }
     {
-        if term_freq == 0 {
-            return 0;
-        }
         let norm = self.norms[fieldnorm_id as usize];
-        (self.boost * earned(self.weight, norm, term_freq)) as i64
+        (self.boost * share(self.weight, norm, term_freq)) as i64
     }
 
     /// The greatest score that there can be: the weight times the boost.
@@ -143,12 +149,15 @@ impl Bm25Weight {
     }
 }
 
-// The part of a weight that a frequency above 0 earns. With a weight of 32 bits the product has at
-// most 64, and their division is faster.
-fn earned(weight: u64, norm: u32, term_freq: u32) -> u64
-    requires { 0 < term_freq }
-    ensures { result ≡ earned weight norm term_freq }
+// The share of a weight that a frequency has. With a weight of 32 bits the product has at most 64,
+// and their division is faster.
+#[inline]
+fn share(weight: u64, norm: u32, term_freq: u32) -> u64
+    ensures { result ≡ share weight norm term_freq }
 {
+    if term_freq == 0 {
+        return 0;
+    }
     let length = u64::from(term_freq) + u64::from(norm);
     if weight < 4294967296 {
         weight * u64::from(term_freq) / length

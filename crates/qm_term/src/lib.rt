@@ -5,11 +5,11 @@
 #![tactic(auto)]
 
 mod bm25;
-mod explaining;
+mod explanation;
 mod term_scorer;
 
 pub use bm25::Bm25Weight;
-pub use explaining::Explanation;
+pub use explanation::Explanation;
 pub use term_scorer::TermScorer;
 
 #[cfg(test)]

@@ -1,19 +1,23 @@
 //! The scorer over the postings of a term.
 
-ghost use Rattle.std.specs.Prelude.{◌≡◌, ◌<◌, pos, slice_index_or, IfOk, IsOkUnless};
+ghost use Rattle.std.specs.Prelude.{◌≡◌, ◌<◌, ◌↔◌, [], pos, slice_get, IfOk, IfSome, IsOkUnless, IsSome, Some};
 ghost use Rattle.qm_combine.specs.Rescored.{limited};
 ghost use Rattle.qm_docset.specs.Entry.{head_document, head_frequency, head_score};
+ghost use Rattle.qm_docset.specs.Lists.{Lists};
+ghost use Rattle.qm_postings.specs.FieldIndex.{reading};
 ghost use Rattle.qm_postings.specs.FieldNorms.{norm_ids};
+ghost use Rattle.qm_postings.specs.Segment.{holders};
 ghost use Rattle.qm_postings.specs.SegmentPostings.{IsPostings, postings_left, postings_limits, reads};
+ghost use Rattle.qm_term.specs.TermEntries.{length_ids};
 
 use crate::bm25::Bm25Weight;
-use crate::explaining::Explanation;
+use crate::explanation::Explanation;
 use qm_combine::Scorer;
 use qm_docset::{
     AliveBitSet, COLLECT_BLOCK_BUFFER_LEN, DocId, DocSet, Score, SeekDangerResult, TERMINATED,
 };
-use qm_postings::{FieldNormReader, FreqReadingOption, Postings, SegmentPostings};
-use qm_schema::QueryError;
+use qm_postings::{FieldNormReader, FreqReadingOption, Postings, SegmentPostings, SegmentReader};
+use qm_schema::{Field, IndexRecordOption, QueryError, Term};
 use std::alloc::{AllocError, Global};
 
 /// The documents that hold a term, each with its score. It borrows from its segment.
@@ -31,7 +35,8 @@ impl<'a> TermScorer<'a> {
     ghost use Rattle.qm_term.specs.Bm25.{bm25_bound};
     ghost use Rattle.qm_term.specs.Bm25Weight.{weighing};
     ghost use Rattle.qm_term.specs.Explained.{value_of};
-    ghost use Rattle.qm_term.specs.TermScorer.{AreCovered, IsTermScorer, scored_ids, scored_left, scored_limits, scored_reads, weighed};
+    ghost use Rattle.qm_term.specs.TermEntries.{term_entries};
+    ghost use Rattle.qm_term.specs.TermScorer.{AreCovered, IsTermScorer, scored_ids, scored_left, scored_limits, scored_reads, scored_postings};
 
     /// A scorer over what postings have left. It scores each document by its frequency there, and by
     /// the length id that the reader gives it. Asks that the reader has a length id for each of
@@ -43,11 +48,11 @@ impl<'a> TermScorer<'a> {
     ) -> TermScorer<'a>
         requires postings { IsPostings postings }
         requires covered { AreCovered (norm_ids fieldnorm_reader) (postings_left postings) }
-        ensures entries { scored_left result ≡ weighed (weighing similarity_weight) (norm_ids fieldnorm_reader.entry) (postings_left postings.entry) }
-        ensures limits { scored_limits result ≡ limited (bm25_bound (weighing similarity_weight)) (postings_limits postings.entry) }
+        ensures lists { Lists ⟦<TermScorer<'a> as DocSet>⟧ result
+            (scored_postings (weighing similarity_weight) (norm_ids fieldnorm_reader.entry) (postings_left postings.entry))
+            (limited (bm25_bound (weighing similarity_weight)) (postings_limits postings.entry)) }
         ensures ids { scored_ids result ≡ norm_ids fieldnorm_reader.entry }
         ensures reads { scored_reads result ≡ reads postings.entry }
-        ensures valid { IsTermScorer result }
     {
         TermScorer {
             postings,
@@ -56,8 +61,37 @@ impl<'a> TermScorer<'a> {
         }
     }
 
+    /// The scorer of a term over a segment: the documents that hold the term, each with what it
+    /// scores there. None exactly where no document holds it. The frequency of a document is read
+    /// where the option asks for it and the field keeps it, and else is 1; the length id is that of
+    /// the term's field, and 1 where the field keeps no lengths.
+    ///
+    /// Costs a search by halving for the term; takes no memory.
+    pub fn for_term(
+        segment: &'a SegmentReader,
+        term: &Term,
+        option: IndexRecordOption,
+        weight: &Bm25Weight,
+    ) -> Option<TermScorer<'a>>
+        ensures present { IsSome result ↔ ¬ (holders segment.now.segment term.now ≡ []) }
+        ensures entries { IfSome result (λ s. scored_left s ≡ term_entries segment.now.segment option term.now (weighing weight.now)) }
+        ensures top { IfSome result (λ s. (scored_limits s).top ≡ bm25_bound (weighing weight.now)) }
+        ensures ids { IfSome result (λ s. scored_ids s ≡ length_ids segment.now.segment term.now.field) }
+        ensures reads { IfSome result (λ s. scored_reads s ≡ reading segment.now.segment.schema option term.now.field) }
+        ensures valid { IfSome result IsTermScorer }
+    {
+        let field = term.field();
+        let postings = segment.inverted_index(field).read_postings(term, option)?;
+        Some(TermScorer {
+            postings,
+            fieldnorm_reader: length_ids(segment, field),
+            similarity_weight: *weight,
+        })
+    }
+
     /// How often the term stands in the scorer's document, as its postings read it. Asks that the
     /// scorer stands on a document. Constant time.
+    #[inline]
     #[tactic(auto, using(crate::specs::TermScorerFacts::scoring))]
     pub fn term_freq(&self) -> u32
         requires valid { IsTermScorer self.now }
@@ -68,11 +102,12 @@ impl<'a> TermScorer<'a> {
     }
 
     /// The length id of the scorer's document. Asks that the scorer stands on one. Constant time.
+    #[inline]
     #[tactic(auto, using(crate::specs::TermScorerFacts::scoring))]
     pub fn fieldnorm_id(&self) -> u8
         requires valid { IsTermScorer self.now }
         requires here { head_document (scored_left self.now) < TERMINATED }
-        ensures { result ≡ slice_index_or (scored_ids self.now) (head_document (scored_left self.now)) 0 }
+        ensures { slice_get (scored_ids self.now) (head_document (scored_left self.now)) ≡ Some result }
     {
         self.fieldnorm_reader.fieldnorm_id(self.postings.doc())
     }
@@ -134,18 +169,22 @@ impl<'a> DocSet for TermScorer<'a> {
 
     ghost valid = { IsTermScorer };
 
+    #[inline]
     fn doc(&self) -> DocId {
         self.postings.doc()
     }
 
+    #[inline]
     fn advance(&mut self) -> DocId {
         self.postings.advance()
     }
 
+    #[inline]
     fn seek(&mut self, target: DocId) -> DocId {
         self.postings.seek(target)
     }
 
+    #[inline]
     fn seek_danger(&mut self, target: DocId) -> SeekDangerResult {
         self.postings.seek_danger(target)
     }
@@ -175,6 +214,7 @@ impl<'a> DocSet for TermScorer<'a> {
 
 #[tactic(auto, using(crate::specs::TermScorerFacts::scoring))]
 impl<'a> Scorer for TermScorer<'a> {
+    #[inline]
     fn score(&mut self) -> Score {
         self.similarity_weight
             .score(self.fieldnorm_id(), self.term_freq())
@@ -182,5 +222,15 @@ impl<'a> Scorer for TermScorer<'a> {
 
     fn max_score(&self) -> Score {
         TermScorer::max_score(self)
+    }
+}
+
+// The length id of a field in each document of a segment: 1 where the field keeps no lengths.
+fn length_ids(segment: &SegmentReader, field: Field) -> FieldNormReader<'_>
+    ensures { norm_ids result ≡ length_ids segment.now.segment field }
+{
+    match segment.fieldnorms(field) {
+        Some(reader) => reader,
+        None => FieldNormReader::constant(segment.max_doc(), 1),
     }
 }

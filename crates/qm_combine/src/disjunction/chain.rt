@@ -10,7 +10,7 @@ ghost use Rattle.qm_combine.specs.Union.{least_head};
 
 use super::scorer_wrapper::ScorerWrapper;
 use crate::score_combiner::ScoreCombiner;
-use crate::scoring::Scorer;
+use crate::scorer::Scorer;
 use qm_docset::{DocId, DocSet, TERMINATED};
 use std::alloc::{AllocError, Global};
 use std::collections::BinaryHeap;

@@ -5,14 +5,13 @@ ghost use Rattle.std.specs.BinaryHeap.{IsHeap, heap_items};
 ghost use Rattle.std.specs.List.Sorted.{IsPermutation};
 ghost use Rattle.qm_docset.specs.Entry.{greatest_score};
 ghost use Rattle.qm_docset.specs.Gather.{gather};
-ghost use Rattle.qm_combine.specs.Combine.{combine};
 ghost use Rattle.qm_combine.specs.Disjunction.{AreStanding, least_first, led_by};
 ghost use Rattle.qm_combine.specs.Union.{total_top};
 
 use super::chain::{least_document, take_at};
 use super::scorer_wrapper::ScorerWrapper;
 use crate::score_combiner::ScoreCombiner;
-use crate::scoring::Scorer;
+use crate::scorer::Scorer;
 use qm_docset::{DocId, DocSet, Score, TERMINATED};
 use std::collections::BinaryHeap;
 
@@ -33,7 +32,7 @@ pub(super) fn next_match<S: Scorer, C: ScoreCombiner>(
     requires standing { AreStanding S.valid S.placed S.entries (heap_items chain.old) }
     ensures document { result.0 ≤ TERMINATED }
     ensures score { result.1 ≡ pos (nat_abs result.1) }
-    ensures entries { gather minimum (combine C.step C.value combiner) (map (λ w. S.entries w.scorer) (heap_items chain.old)) ≡ led_by result.0 (nat_abs result.1) (gather minimum (combine C.step C.value combiner) (map (λ w. S.entries w.scorer) (heap_items chain.new))) }
+    ensures entries { gather minimum (C.combined combiner) (map (λ w. S.entries w.scorer) (heap_items chain.old)) ≡ led_by result.0 (nat_abs result.1) (gather minimum (C.combined combiner) (map (λ w. S.entries w.scorer) (heap_items chain.new))) }
     ensures limits { IsPermutation (map (λ w. S.limits w.scorer) (heap_items chain.old)) (map (λ w. S.limits w.scorer) (heap_items chain.new)) }
     ensures heap { IsHeap (least_first (λ w. w.doc)) (heap_items chain.new) }
     ensures standing { AreStanding S.valid S.placed S.entries (heap_items chain.new) }

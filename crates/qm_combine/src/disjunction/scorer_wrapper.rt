@@ -9,7 +9,7 @@ ghost use Rattle.qm_docset.specs.Entry.{from, head_score};
 ghost use Rattle.qm_combine.specs.Disjunction.{IsStanding, least_first};
 
 use crate::score_combiner::ScoreCombiner;
-use crate::scoring::Scorer;
+use crate::scorer::Scorer;
 use qm_docset::{DocId, DocSet, TERMINATED};
 use std::cmp::Ordering;
 

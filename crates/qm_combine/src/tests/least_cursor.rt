@@ -1,14 +1,15 @@
 //! A cursor that keeps the law of its trait and no more.
 
-ghost use Rattle.std.specs.Prelude.{◌≡◌, ℕ, ◌+◌, ◌*◌, ◌%◌, ◌≤◌, All, IfOk, IsTrue, length, vec_len};
+ghost use Rattle.std.specs.Prelude.{◌≡◌, ℕ, ◌+◌, ◌*◌, ◌%◌, ◌≤◌, IfOk, IsTrue, length, vec_len};
 ghost use Rattle.std.proofs.Common.{arith};
-ghost use Rattle.qm_docset.specs.Documents.{AreEntries-documents};
+ghost use Rattle.qm_docset.specs.DocumentsFacts.{AreEntries-documents};
 ghost use Rattle.qm_docset.specs.Entry.{Entry, documents, no_limits};
-ghost use Rattle.qm_docset.specs.VecDocSet.{IsCursor, remaining};
+ghost use Rattle.qm_docset.specs.Lists.{ArePlaced, IsPlaced};
+ghost use Rattle.qm_docset.specs.VecDocSet.{IsVecCursor, remaining_documents};
 ghost use Rattle.qm_combine.specs.Rescored.{limited, rescored};
 ghost use Rattle.qm_combine.specs.RescoredFacts.{AreEntries-rescored};
 
-use crate::scoring::Scorer;
+use crate::scorer::Scorer;
 use qm_docset::{DocId, DocSet, Score, SeekDangerResult, TERMINATED, VecDocSet, are_documents};
 use std::alloc::Global;
 use std::cell::Cell;
@@ -35,8 +36,7 @@ pub fn least<'a>(
     weight: u32,
     moves: &'a Cell<u32>,
 ) -> Result<LeastCursor<'a>, Fail>
-    ensures valid { IfOk result (λ s. ⟦<LeastCursor<'a> as DocSet>⟧.valid s) }
-    ensures placed { IfOk result (λ s. ⟦<LeastCursor<'a> as DocSet>⟧.placed s) }
+    ensures placed { IfOk result (λ s. IsPlaced ⟦<LeastCursor<'a> as DocSet>⟧ s) }
     ensures top { IfOk result (λ s. (⟦<LeastCursor<'a> as DocSet>⟧.limits s).top ≡ 2 * weight) }
 {
     let docs = Vec::from_slice(alloc, docs)?;
@@ -60,8 +60,7 @@ pub fn least_of_each<'a>(
     moves: &'a Cell<u32>,
 ) -> Result<Vec<LeastCursor<'a>>, Fail>
     ensures count { IfOk result (λ row. vec_len row ≡ length lists.now) }
-    ensures valid { IfOk result (λ row. All ⟦<LeastCursor<'a> as DocSet>⟧.valid row.items) }
-    ensures placed { IfOk result (λ row. All ⟦<LeastCursor<'a> as DocSet>⟧.placed row.items) }
+    ensures placed { IfOk result (λ row. ArePlaced ⟦<LeastCursor<'a> as DocSet>⟧ row.items) }
 {
     let mut members = Vec::new(alloc);
     for docs in lists {
@@ -78,13 +77,13 @@ impl<'a> LeastCursor<'a> {
 
 #[tactic(auto, using(crate::specs::RescoredFacts::rescoring))]
 impl<'a> DocSet for LeastCursor<'a> {
-    ghost entries = { λ s. rescored (λ e. s.weight * (1 + e.document % 2)) (remaining s.docs) };
+    ghost entries = { λ s. rescored (λ e. s.weight * (1 + e.document % 2)) (remaining_documents s.docs) };
 
     ghost limits = { λ s. limited (2 * s.weight) no_limits };
 
     ghost placed = { λ s. IsTrue s.standing };
 
-    ghost valid = { λ s. IsCursor s.docs };
+    ghost valid = { λ s. IsVecCursor s.docs };
 
     fn doc(&self) -> DocId {
         if self.standing { self.docs.doc() } else { 0 }
@@ -120,7 +119,7 @@ impl<'a> DocSet for LeastCursor<'a> {
         self.hint
     }
 
-    ghost ascending = { λ s h. AreEntries-rescored _ (2 * s.weight) 0 no_limits (remaining s.docs) (λ e _. Prim.grind arith) (AreEntries-documents s.docs.cursor s.docs.docs.items h.1) };
+    ghost ascending = { λ s h. AreEntries-rescored _ (2 * s.weight) 0 no_limits (remaining_documents s.docs) (λ e _. Prim.grind arith) (AreEntries-documents s.docs.cursor s.docs.docs.items h.documents) };
 }
 
 #[tactic(auto, using(crate::specs::RescoredFacts::rescoring))]

@@ -1,48 +1,64 @@
-//! A thousand members, of which each has one document more than the one before it: all of them have
-//! document 0, all but one document 1, and so on; the last alone has document 999.
+//! Five thousand members, of which each has one document more than the one before it: all of them
+//! have document 0, all but one document 1, and so on; the last alone has document 4999.
 
-ghost use Rattle.std.specs.Prelude.{All, IfOk};
+ghost use Rattle.std.specs.Prelude.{IfOk};
+ghost use Rattle.qm_docset.specs.Lists.{ArePlaced};
 
-use crate::tests::visits::visits;
-use crate::{AllScorer, BufferedUnionScorer, Disjunction, Intersection, SumCombiner};
+use crate::{
+    AllScorer, BufferedUnionScorer, Disjunction, Intersection, Scorer, SumCombiner, scores_left,
+};
 use qm_docset::DocSet;
 use std::alloc::{AllocError, Global};
 use std::test::Fail;
 
-fn thousand(alloc: Global) -> Result<Vec<AllScorer>, AllocError>
-    ensures valid { IfOk result (λ members. All ⟦<AllScorer as DocSet>⟧.valid members.items) }
-    ensures placed { IfOk result (λ members. All ⟦<AllScorer as DocSet>⟧.placed members.items) }
+fn five_thousand(alloc: Global) -> Result<Vec<AllScorer>, AllocError>
+    ensures placed { IfOk result (λ members. ArePlaced ⟦<AllScorer as DocSet>⟧ members.items) }
 {
     let mut members = Vec::new(alloc);
-    for max_doc in 1..1001 {
+    for max_doc in 1..5001 {
         members.push(AllScorer::new(max_doc))?;
     }
     Ok(members)
 }
 
 #[test]
-fn an_intersection_of_a_thousand(rt: HostRuntime) -> Result<(), Fail> {
-    let members = thousand(rt.alloc())?;
+fn an_intersection_of_five_thousand(rt: HostRuntime) -> Result<(), Fail> {
+    let members = five_thousand(rt.alloc())?;
     assert!(rt; members.len() >= 2);
-    let mut all = Intersection::new(rt.alloc(), members, 1000)?;
-    visits(&rt, &mut all, &[(0, 1000)]);
+    let every = Intersection::new(rt.alloc(), members, 5000)?;
+    assert_eq!(rt;
+        scores_left(rt.alloc(), every)?.as_slice(),
+        [(0, 5000)].as_slice()
+    );
     Ok(())
 }
 
 #[test]
-fn a_disjunction_of_a_thousand(rt: HostRuntime) -> Result<(), Fail> {
-    let members = thousand(rt.alloc())?;
-    let mut most = Disjunction::new(rt.alloc(), members, SumCombiner::default(), 998)?;
-    visits(&rt, &mut most, &[(0, 1000), (1, 999), (2, 998)]);
+fn a_disjunction_of_five_thousand(rt: HostRuntime) -> Result<(), Fail> {
+    let members = five_thousand(rt.alloc())?;
+    let mut most = Disjunction::new(rt.alloc(), members, SumCombiner::default(), 4998)?;
+    assert_eq!(rt; most.max_score(), 5000);
+    assert_eq!(rt; most.advance(), 1);
+    assert_eq!(rt; most.advance(), 2);
     Ok(())
 }
 
 #[test]
-fn a_union_of_a_thousand(rt: HostRuntime) -> Result<(), Fail> {
-    let members = thousand(rt.alloc())?;
-    let mut any = BufferedUnionScorer::build(rt.alloc(), members, SumCombiner::default(), 1000)?;
+fn a_union_of_five_thousand(rt: HostRuntime) -> Result<(), Fail> {
+    let members = five_thousand(rt.alloc())?;
+    let mut any = BufferedUnionScorer::build(rt.alloc(), members, SumCombiner::default(), 5000)?;
     assert_eq!(rt; any.advance(), 1);
-    assert_eq!(rt; any.seek(996), 996);
-    visits(&rt, &mut any, &[(996, 4), (997, 3), (998, 2), (999, 1)]);
+    assert_eq!(rt; any.seek(4998), 4998);
+    assert_eq!(rt;
+        scores_left(rt.alloc(), any)?.as_slice(),
+        [(4998, 2), (4999, 1)].as_slice()
+    );
+    Ok(())
+}
+
+#[test]
+fn pairs_of_five_thousand_documents(rt: HostRuntime) -> Result<(), Fail> {
+    let pairs = scores_left(rt.alloc(), AllScorer::new(5000))?;
+    assert_eq!(rt; pairs.len(), 5000);
     Ok(())
 }

@@ -1,9 +1,9 @@
 ghost use Rattle.std.specs.Prelude.{IfOk};
-ghost use Rattle.qm_docset.specs.VecDocSet.{IsCursor};
+ghost use Rattle.qm_docset.specs.VecDocSet.{IsVecCursor};
 
 use crate::{
     COLLECT_BLOCK_BUFFER_LEN, DocId, DocSet, HasLen, SeekDangerResult, TERMINATED, VecDocSet,
-    are_documents, seek_by_steps,
+    are_documents, documents_left, seek_by_steps,
 };
 use std::alloc::Global;
 use std::process::Abort;
@@ -11,7 +11,7 @@ use std::test::Fail;
 
 /// A cursor over documents that a test writes out.
 pub fn cursor(rt: &impl Abort, alloc: Global, docs: &[DocId]) -> Result<VecDocSet, Fail>
-    ensures { IfOk result IsCursor }
+    ensures { IfOk result IsVecCursor }
 {
     let docs = Vec::from_slice(alloc, docs)?;
     assert!(rt; are_documents(&docs));
@@ -20,7 +20,7 @@ pub fn cursor(rt: &impl Abort, alloc: Global, docs: &[DocId]) -> Result<VecDocSe
 
 /// A cursor over the multiples of `step` below `end`.
 fn multiples(rt: &impl Abort, alloc: Global, step: u32, end: u32) -> Result<VecDocSet, Fail>
-    ensures { IfOk result IsCursor }
+    ensures { IfOk result IsVecCursor }
 {
     let mut docs = Vec::new(alloc);
     for doc in 0..end {
@@ -64,8 +64,8 @@ fn answers_a_dangerous_seek_by_the_document_reached(rt: HostRuntime) -> Result<(
 
 /// Takes a buffer of documents, and wants `count` of them, in a row from `first` on.
 fn takes_a_row(rt: &impl Abort, docs: &mut VecDocSet, first: u64, count: usize)
-    requires { IsCursor docs.old }
-    ensures { IsCursor docs.new }
+    requires { IsVecCursor docs.old }
+    ensures { IsVecCursor docs.new }
 {
     let mut buffer = [7; COLLECT_BLOCK_BUFFER_LEN];
     assert_eq!(rt; docs.fill_buffer(&mut buffer), count);
@@ -85,6 +85,19 @@ fn fills_buffers_until_none_is_left(rt: HostRuntime) -> Result<(), Fail> {
     assert_eq!(rt; docs.doc(), TERMINATED);
     let mut none = cursor(&rt, rt.alloc(), &[])?;
     takes_a_row(&rt, &mut none, 0, 0);
+    assert!(rt; none.is_empty());
+    Ok(())
+}
+
+#[test]
+fn lists_what_is_left(rt: HostRuntime) -> Result<(), Fail> {
+    let mut docs = multiples(&rt, rt.alloc(), 1, 5128)?;
+    assert_eq!(rt; docs.seek(8), 8);
+    let left = documents_left(rt.alloc(), docs)?;
+    assert_eq!(rt; left.len(), 5120);
+    assert_eq!(rt; left[0], 8);
+    assert_eq!(rt; left[5119], 5127);
+    let none = documents_left(rt.alloc(), cursor(&rt, rt.alloc(), &[])?)?;
     assert!(rt; none.is_empty());
     Ok(())
 }

@@ -1,7 +1,7 @@
 //! A cursor that writes none of the calls with a body by default.
 
-ghost use Rattle.qm_docset.specs.Documents.{AreEntries-documents};
-ghost use Rattle.qm_docset.specs.VecDocSet.{remaining, IsCursor};
+ghost use Rattle.qm_docset.specs.DocumentsFacts.{AreEntries-documents};
+ghost use Rattle.qm_docset.specs.VecDocSet.{remaining_documents, IsVecCursor};
 
 use crate::tests::cursors::cursor;
 use crate::{COLLECT_BLOCK_BUFFER_LEN, DocId, DocSet, SeekDangerResult, TERMINATED, VecDocSet};
@@ -13,11 +13,11 @@ struct OnlySteps {
 }
 
 impl DocSet for OnlySteps {
-    ghost entries = { λ s. remaining s.docs };
+    ghost entries = { λ s. remaining_documents s.docs };
 
     ghost placed = { λ _. Unit {0} };
 
-    ghost valid = { λ s. IsCursor s.docs };
+    ghost valid = { λ s. IsVecCursor s.docs };
 
     fn doc(&self) -> DocId {
         self.docs.doc()
@@ -35,7 +35,7 @@ impl DocSet for OnlySteps {
         u32::MAX
     }
 
-    ghost ascending = { λ s h. AreEntries-documents s.docs.cursor s.docs.docs.items h.1 };
+    ghost ascending = { λ s h. AreEntries-documents s.docs.cursor s.docs.docs.items h.documents };
 }
 
 #[test]

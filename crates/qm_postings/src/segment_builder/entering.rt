@@ -1,35 +1,62 @@
 //! The entry of a document's postings.
 
-ghost use Rattle.std.specs.Prelude.{◌≡◌, ◌+◌, ◌≤◌, ◌++◌, All, length, vec_len};
-ghost use Rattle.std.specs.Vec.{vec_capacity};
-ghost use Rattle.qm_postings.specs.Building.{postings_of_document};
+ghost use Rattle.std.specs.Prelude.{◌≡◌, ◌≤◌, ◌<◌, ◌++◌, [], ◌∷◌, ℕ, All, List, Some, OnOk, OnErr, IsOkUnless, length, slice_get};
+ghost use Rattle.qm_schema.specs.Term.{TermKey};
+ghost use Rattle.qm_postings.specs.Building.{ArePushed};
 
 use crate::document::GivenTerm;
-use crate::segment_builder::{Posting, checks};
+use crate::segment_builder::checks;
+use crate::segment_builder::posting::Posting;
+use crate::segment_builder::term_numbers::TermNumbers;
 use qm_docset::DocId;
-use qm_schema::Schema;
+use qm_schema::{QueryError, Schema, Term};
 
-// Adds the postings of a document's terms, those of indexed fields alone, to postings that have
-// room for them.
+// Adds the postings of a document's terms, those of indexed fields alone. A refused call leaves the
+// postings as they were.
 pub(super) fn push_postings(
     schema: &Schema,
+    terms: &mut TermNumbers,
     postings: &mut Vec<Posting>,
-    terms: Vec<GivenTerm>,
+    given: Vec<GivenTerm>,
     document: DocId,
-)
-    requires room { vec_len postings.old + vec_len terms ≤ vec_capacity postings.old }
-    requires counts { All (λ g. length g.positions ≤ u32.MAX) terms.items }
-    ensures { postings.new.items ≡ postings.old.items ++ postings_of_document schema.now document terms.items }
+) -> Result<(), QueryError>
+    requires counts { All (λ g. length g.positions ≤ u32.MAX) given.items }
+    ensures pushed { OnOk result (ArePushed schema.now document given.items terms.new postings.old.items postings.new.items) }
+    ensures grown { (more : List TermKey) × (terms.new ≡ terms.old ++ more) }
+    ensures unchanged { OnErr result (postings.new.items ≡ postings.old.items) }
+    ensures refused { IsOkUnless result QueryError.Memory }
 {
-    for given in terms {
-        if checks::is_indexed(schema, given.term.field()) {
-            let frequency = given.positions.len() as u32;
-            let posting = Posting {
-                term: given.term,
-                document,
-                frequency,
-            };
-            postings.push(posting).unwrap();
+    let before = postings.len();
+    for given_term in given {
+        if !checks::is_indexed(schema, given_term.term.field()) {
+            continue;
+        }
+        let frequency = given_term.positions.len() as u32;
+        if let Err(error) = push_posting(terms, postings, given_term.term, document, frequency) {
+            postings.truncate(before);
+            return Err(error);
         }
     }
+    Ok(())
+}
+
+fn push_posting(
+    terms: &mut TermNumbers,
+    postings: &mut Vec<Posting>,
+    term: Term,
+    document: DocId,
+    frequency: u32,
+) -> Result<(), QueryError>
+    ensures pushed { OnOk result ((number : ℕ) × (slice_get terms.new number ≡ Some term) × (postings.new.items ≡ postings.old.items ++ record { number = number; document = document; frequency = frequency } ∷ [])) }
+    ensures grown { (more : List TermKey) × (terms.new ≡ terms.old ++ more) }
+    ensures unchanged { OnErr result (postings.new.items ≡ postings.old.items) }
+    ensures refused { IsOkUnless result QueryError.Memory }
+{
+    let number = terms.number_of(term)?;
+    postings.push(Posting {
+        number,
+        document,
+        frequency,
+    })?;
+    Ok(())
 }

@@ -1,5 +1,6 @@
 //! Readers and writers that give or take little, and fail when they are told to.
 
+use std::cell::Cell;
 use std::io;
 use std::io::{Error, ErrorKind, Read, Write};
 
@@ -76,5 +77,47 @@ impl Write for BadWriter {
             self.called_after = true;
         }
         Ok(())
+    }
+}
+
+/// Counts the bytes that it takes.
+#[derive(Drop)]
+pub(super) struct CountingWriter<'a> {
+    pub(super) written: &'a Cell<usize>,
+}
+
+impl Write for CountingWriter<'_> {
+    fn write(&mut self, buf: &[u8]) -> io::Result<usize> {
+        self.written
+            .set(self.written.get().saturating_add(buf.len()));
+        Ok(buf.len())
+    }
+
+    fn flush(&mut self) -> io::Result<()> {
+        Ok(())
+    }
+}
+
+/// Gives one piece of a text a read, and looks at each how much has been written.
+#[derive(Drop)]
+pub(super) struct WatchingReader<'a> {
+    pub(super) pieces: [&'a [u8]; 4],
+    pub(super) next: usize,
+    pub(super) written: &'a Cell<usize>,
+    pub(super) seen: [usize; 5],
+}
+
+impl Read for WatchingReader<'_> {
+    fn read(&mut self, buf: &mut [u8]) -> io::Result<usize> {
+        if self.next < 5 {
+            self.seen[self.next] = self.written.get();
+        }
+        let piece: &[u8] = if self.next < 4 {
+            self.pieces[self.next]
+        } else {
+            b""
+        };
+        self.next = self.next.saturating_add(1);
+        Read::read(&mut &*piece, buf)
     }
 }

@@ -1,5 +1,6 @@
-use super::fakes::{BadWriter, InterruptedReader, SlowReader};
+use super::fakes::{BadWriter, CountingWriter, InterruptedReader, SlowReader, WatchingReader};
 use super::{RunError, run};
+use std::cell::Cell;
 use std::process::Abort;
 use std::test::Fail;
 
@@ -75,28 +76,203 @@ fn does_not_understand_what_it_does_not_serve(rt: HostRuntime) {
     }
 }
 
+// Each script with what it prints, and its status; 1000 is what a word weighs by default, and a
+// word's score is its weight times how often it stands there, over that and the words, rounded down.
 #[test]
-fn scores_documents_of_several_segments(rt: HostRuntime) {
-    // 1000 / 3 and 500 / 3, then 1000 * 2 / 5 and 500 / 4, each rounded down
-    let script =
-        b"doc a b\ndoc a\nsegment\ndoc a a b\nweight b 500\nscores bool 0 2 + term a + term b\ndocs term a\n";
-    expect_run(&rt, script, b"0:499 2:525\n0 1 2\n", 0);
-    // the second of three segments is empty
-    let script =
-        b"doc a\nsegment\nsegment\ndoc b\ndoc a\nscores term a\nscores all\nscores none\ndocs all\n";
-    expect_run(&rt, script, b"0:500 2:500\n0:1 1:1 2:1\n\n0 1 2\n", 0);
+fn runs_whole_scripts(rt: HostRuntime) {
+    let runs: [(&[u8], &[u8], u8); 13] = [
+        // 1000 / 3 and 500 / 3, then 1000 * 2 / 5 and 500 / 4
+        (
+            b"doc a b\ndoc a\nsegment\ndoc a a b\nweight b 500\nscores bool 0 2 + term a + term b\ndocs term a\n",
+            b"0:499 2:525\n0 1 2\n",
+            0,
+        ),
+        // the second of three segments is empty
+        (
+            b"doc a\nsegment\nsegment\ndoc b\ndoc a\nscores term a\nscores all\nscores none\ndocs all\n",
+            b"0:500 2:500\n0:1 1:1 2:1\n\n0 1 2\n",
+            0,
+        ),
+        // four segments, of which the last has no document
+        (
+            b"doc a\nsegment\ndoc b\nsegment\ndoc a\ndoc b\nsegment\ndocs all\ndocs term a\ndocs term b\n",
+            b"0 1 2 3\n0 2\n1 3\n",
+            0,
+        ),
+        // documents and weights between queries
+        (
+            b"doc a\nscores term a\ndoc a a\nweight a 100\nscores term a\nsegment\nscores term a\nweight a 1\ndoc a\nscores term a\n",
+            b"0:500\n0:50 1:50\n0:50 1:50\n0:0 1:0 2:0\n",
+            0,
+        ),
+        // a segment that was searched before it ended, and one after it
+        (
+            b"doc a\ndocs all\ndoc a\ndocs all\nsegment\ndoc a\ndocs all\ndoc b\ndoc a\nscores term a\n",
+            b"0\n0 1\n0 1 2\n0:500 1:500 2:500 4:500\n",
+            0,
+        ),
+        // 600 / 4, 0 / 4 and 1000 / 4, then all three
+        (
+            b"doc a b c\nweight a 600\nweight b 0\nscores term a\nscores term b\nscores term c\nscores bool 0 3 + term a + term b + term c\n",
+            b"0:150\n0:0\n0:250\n0:400\n",
+            0,
+        ),
+        // the last weight of a word counts, from then on
+        (
+            b"doc a\nweight a 7\nweight a 8\nscores term a\nweight a 6\nscores term a\n",
+            b"0:4\n0:3\n",
+            0,
+        ),
+        // five words: 5 * (1000 / 6)
+        (
+            b"doc a b c d\ndoc e d c b a\ndocs bool 0 5 + term a + term b + term c + term d + term e\nscores bool 0 5 + term e + term d + term c + term b + term a\n",
+            b"1\n1:830\n",
+            0,
+        ),
+        // a word that is asked for twice scores twice
+        (
+            b"doc a\nscores bool 0 2 + term a + term a\ndocs bool 0 2 + term a + term a\n",
+            b"0:1000\n0\n",
+            0,
+        ),
+        // an empty line between documents, and documents without a word
+        (
+            b"doc a\n\ndoc\ndoc a\n  \ndocs term a\ndocs all\n",
+            b"0 2\n0 1 2\n",
+            0,
+        ),
+        // refused, and then not understood; and the other way round
+        (
+            b"weight a 9223372036854775807\ndoc a\nscores bool 0 2 + term a + term a\nfoo\ndocs all\n",
+            b"line 3: refused 9\nline 4: not understood\n0\n",
+            2,
+        ),
+        (
+            b"foo\nweight a 9223372036854775807\ndoc a\nscores bool 0 2 + term a + term a\ndocs all\n",
+            b"line 1: not understood\nline 4: refused 9\n0\n",
+            2,
+        ),
+        // nothing of a refused line is written, and the other lines are answered
+        (
+            b"doc b\nsegment\ndoc a\nweight a 9223372036854775807\nscores bool 0 2 + term a + term a\ndocs bool 0 2 + term a + term a\n",
+            b"line 5: refused 9\n1\n",
+            1,
+        ),
+    ];
+    for (script, text, status) in runs {
+        expect_run(&rt, script, text, status);
+    }
+}
+
+// A word, and so many times the word `x`.
+fn push_document(script: &mut Vec<u8>, word: &[u8], others: usize) -> Result<(), Fail> {
+    script.extend_from_slice(b"doc ")?;
+    script.extend_from_slice(word)?;
+    for _ in 0..others {
+        script.extend_from_slice(b" x")?;
+    }
+    script.push(b'\n')?;
+    Ok(())
 }
 
 #[test]
-fn takes_documents_and_weights_between_queries(rt: HostRuntime) {
-    let script =
-        b"doc a\nscores term a\ndoc a a\nweight a 100\nscores term a\nsegment\nscores term a\nweight a 1\ndoc a\nscores term a\n";
+fn takes_long_documents(rt: HostRuntime) -> Result<(), Fail> {
+    let mut script = Vec::new(rt.alloc());
+    push_document(&mut script, b"a", 100)?;
+    push_document(&mut script, b"b", 255)?;
+    push_document(&mut script, b"b", 256)?;
+    // 101 * 102 / (1 + 101), and 256 * 256 / (1 + 255): a length is held at 255
+    script.extend_from_slice(b"weight a 10302\nweight b 65536\nscores term a\nscores term b\n")?;
+    expect_run(&rt, script.as_slice(), b"0:101\n1:256 2:256\n", 0);
+    // a word of 300 letters, and one that lacks the last of them
+    let mut script = Vec::new(rt.alloc());
+    script.extend_from_slice(b"doc ")?;
+    for _ in 0..300 {
+        script.push(b'y')?;
+    }
+    script.extend_from_slice(b"\ndocs term ")?;
+    for _ in 0..300 {
+        script.push(b'y')?;
+    }
+    script.extend_from_slice(b"\ndocs term ")?;
+    for _ in 0..299 {
+        script.push(b'y')?;
+    }
+    expect_run(&rt, script.as_slice(), b"0\n\n", 0);
+    Ok(())
+}
+
+#[test]
+fn takes_queries_of_many_words(rt: HostRuntime) -> Result<(), Fail> {
+    let mut words = String::new(rt.alloc());
+    let mut clauses = String::new(rt.alloc());
+    for i in 0..70u8 {
+        write!(words, " w{i}")?;
+        write!(clauses, " + term w{i}")?;
+    }
+    let script = format!(in rt.alloc();
+        "doc{words}\ndoc w0 w1\ndocs bool 0 70{clauses}\nscores bool 0 70{clauses}\n"
+    )?;
+    // 70 * (1000 / 71)
+    expect_run(&rt, script.as_bytes(), b"0\n0:980\n", 0);
+    Ok(())
+}
+
+#[test]
+fn answers_a_query_after_each_document(rt: HostRuntime) -> Result<(), Fail> {
+    let mut script = String::new(rt.alloc());
+    let mut text = String::new(rt.alloc());
+    for i in 0..1001u32 {
+        write!(script, "doc a n{i}\nscores term n{i}\n")?;
+        writeln!(text, "{i}:333")?;
+    }
+    script.push_str("docs term a\n")?;
+    for i in 0..1000u32 {
+        write!(text, "{i} ")?;
+    }
+    text.push_str("1000\n")?;
+    expect_run(&rt, script.as_bytes(), text.as_bytes(), 0);
+    Ok(())
+}
+
+#[test]
+fn numbers_far_lines(rt: HostRuntime) -> Result<(), Fail> {
+    let mut script = Vec::new(rt.alloc());
+    for _ in 0..299 {
+        script.push(b'\n')?;
+    }
+    script.extend_from_slice(
+        b"foo\ndoc a\nweight a 9223372036854775807\nscores bool 0 2 + term a + term a\n",
+    )?;
     expect_run(
         &rt,
-        script,
-        b"0:500\n0:50 1:50\n0:50 1:50\n0:0 1:0 2:0\n",
-        0,
+        script.as_slice(),
+        b"line 300: not understood\nline 303: refused 9\n",
+        2,
     );
+    Ok(())
+}
+
+#[test]
+fn answers_before_it_waits_for_more(rt: HostRuntime) {
+    let written = Cell::new(0);
+    let mut input = WatchingReader {
+        // two lines; the end of one, and the beginning of the next; its end; a last one
+        pieces: [
+            b"doc a\ndocs all\n",
+            b"docs te",
+            b"rm a\nfoo\ndoc",
+            b" b\ndocs all",
+        ],
+        next: 0,
+        written: &written,
+        seen: [0; 5],
+    };
+    let mut output = CountingWriter { written: &written };
+    assert_eq!(rt; run(rt.alloc(), &mut input, &mut output), Ok(2));
+    // at each read, how many bytes had been written before it
+    assert_eq!(rt; input.seen, [0, 2, 2, 27, 27]);
+    assert_eq!(rt; written.get(), 31);
 }
 
 #[test]
@@ -284,11 +460,13 @@ fn keeps_the_first_error(rt: HostRuntime) {
         has_failed: false,
         called_after: false,
     };
+    // the answer is written before the read that fails
     assert_eq!(rt;
         run(rt.alloc(), &mut input, &mut output),
-        Err(RunError::Read)
+        Err(RunError::Write)
     );
     assert!(rt; output.has_failed && !output.called_after);
+    assert_eq!(rt; input.reads_left, 0);
 }
 
 #[test]

@@ -4,7 +4,7 @@ ghost use Rattle.std.specs.Prelude.{IfOk, IfSome};
 ghost use Rattle.qm_term.specs.TermScorer.{IsTermScorer};
 
 use crate::{Bm25Weight, TermScorer};
-use qm_postings::{FieldNormReader, PlainDoc, SegmentBuilder, SegmentReader};
+use qm_postings::{PlainDoc, SegmentBuilder, SegmentReader};
 use qm_schema::{Field, IndexRecordOption, QueryError, Schema, Term};
 use std::alloc::Global;
 
@@ -25,8 +25,7 @@ pub(crate) fn a_a_and_others(
     segment.build(alloc)
 }
 
-/// A scorer over the postings of the term a in the first field. A field that keeps no lengths has
-/// the length id 1 everywhere.
+/// The scorer of the term a in the first field.
 pub(crate) fn scorer_of(
     alloc: Global,
     segment: &SegmentReader,
@@ -35,14 +34,6 @@ pub(crate) fn scorer_of(
 ) -> Result<Option<TermScorer<'_>>, QueryError>
     ensures { IfOk result (λ scorer. IfSome scorer IsTermScorer) }
 {
-    let field = Field::from_field_id(0);
-    let term = Term::from_field_text(alloc, field, "a")?;
-    let Some(postings) = segment.inverted_index(field).read_postings(&term, option) else {
-        return Ok(None);
-    };
-    let lengths = match segment.fieldnorms(field) {
-        Some(lengths) => lengths,
-        None => FieldNormReader::constant(segment.max_doc(), 1),
-    };
-    Ok(Some(TermScorer::new(postings, lengths, weight)))
+    let term = Term::from_field_text(alloc, Field::from_field_id(0), "a")?;
+    Ok(TermScorer::for_term(segment, &term, option, &weight))
 }

@@ -3,7 +3,7 @@ use Rattle.std.proofs.Common.{◌≡◌, ℕ, ◌<◌, IsTrue, Bool, true, false
 use Rattle.std.specs.List.{IsAllAdjacentAnswer}
 use Rattle.std.proofs.lemmas.List.Sorted.{answers_always}
 use Rattle.qm_docset.specs.Documents.{AreDocuments}
-use Rattle.qm_docset.specs.declared.doc_set.TheConstants.{TERMINATED}
+use Rattle.qm_docset.specs.declared.numbers.TheConstants.{TERMINATED}
 use Rattle.qm_docset.proofs.document_list.are_documents.Goals as goal
 
 ascending_is : (docs : List ℕ) (r : Bool) → IsAllAdjacentAnswer (λ x y b. b ≡ ltb x y) docs r → All (λ d. d < TERMINATED) docs → (IsTrue r → AreDocuments docs) × (AreDocuments docs → IsTrue r)

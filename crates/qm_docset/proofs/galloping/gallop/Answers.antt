@@ -1,10 +1,10 @@
 -- Doubling keeps what is passed and what is reached; halving finds the place between them.
-use Rattle.std.proofs.Common.{◌<◌, ◌≤◌, ◌+◌, ◌-◌, length, get_or, take, drop, ltb, arith, rules}
-use Rattle.std.proofs.lemmas.List.{length-take}
-use Rattle.std.proofs.lemmas.List.Sorted.{IsPartitionPoint-from_clause}
-use Rattle.qm_docset.proofs.GallopFacts.{rises, parted, passed_by, reached_by}
+use Rattle.std.proofs.Common.{◌≡◌, ◌+◌, ◌-◌, ◌/◌, length, take, drop, arith, rules, inl, inr, length-drop}
+use Rattle.std.proofs.lemmas.Bool.{cases_lt}
+use Rattle.std.proofs.lemmas.List.{length-take-le}
+use Rattle.qm_docset.proofs.GallopFacts.{rises, get_or-part, rises_in_part}
 use Rattle.qm_docset.proofs.galloping.gallop.Goals as goal
-use Rattle.qm_docset.proofs.galloping.gallop.Goals.{else-loop-stride-test, then-loop-stride-test+then-docs-probe}
+use Rattle.qm_docset.proofs.galloping.gallop.Goals.{then-doc-target, else-doc-target, After-loop-doc}
 
 pub loop-stride-preserved : goal.loop-stride-preserved
 loop-stride-preserved c = record {
@@ -16,35 +16,70 @@ loop-stride-preserved c = record {
   reached = c.loop-stride.invariant.reached;
 }
 
--- the end of the last stride is at or past the target, or the end of the list
-bounded : (c : goal.After-partition_point) → (c.loop-stride.low ≤ c.loop-stride-test.high) × (c.loop-stride-test.high ≤ length c.args.docs.now) × (c.loop-stride-test.high < length c.args.docs.now → c.args.target ≤ get_or c.args.docs.now c.loop-stride-test.high 0)
-bounded c =
-    elim c.loop-stride-test.branch [
-      | else-loop-stride-test w ↦ rw w.high-is (c.loop-stride.invariant.ordered, c.loop-stride.invariant.within, c.loop-stride.invariant.reached)
-      | then-loop-stride-test+then-docs-probe w ↦ rw w.high-is (omega arith, omega arith, λ _. w.if-docs-probe.true)
+pub loop-high-preserved-then-docs-middle : goal.loop-high-preserved-then-docs-middle
+loop-high-preserved-then-docs-middle c =
+    let middle = c.loop-high.low + (c.loop-high.high - c.loop-high.low) / 2 in
+    record {
+      from_start = omega arith;
+      ordered = omega arith;
+      within = omega arith;
+      passed = λ k l h. let top = rises _ c.requires.ascending k middle (omega arith) (omega arith) in omega arith;
+      reached = c.loop-high.invariant.reached;
+    }
+
+pub loop-doc-preserved : goal.loop-doc-preserved
+loop-doc-preserved c =
+    let docs = c.args.docs.now in
+    let low = c.loop-high.low in
+    let count = c.loop-high.high - c.loop-high.low in
+    let known = c.loop-doc.invariant in
+    elim c.if-doc-target.branch [
+      | then-doc-target w ↦
+          -- so far all of the window were below
+          let all : c.loop-doc.below ≡ c.loop-doc.doc-index =
+          elim (cases_lt c.loop-doc.below c.loop-doc.doc-index) [
+            | inr none ↦ omega arith
+            | inl fewer ↦
+                let past = known.reached c.loop-doc.below (omega arith) fewer in
+                let up = rises_in_part docs low count c.loop-doc.below c.loop-doc.doc-index c.requires.ascending (omega arith) (omega arith) in
+                absurd (omega (arith, w.if-doc-target.true))
+          ] in
+          rw w.below-is (record {
+            short = omega arith;
+            passed = λ k l. elim (cases_lt k c.loop-doc.below) [ inl before ↦ known.passed k before | inr last ↦ let here : k ≡ c.loop-doc.doc-index = omega arith in rw here w.if-doc-target.true ];
+            reached = λ k l h. absurd (omega arith);
+          })
+      | else-doc-target w ↦ rw w.below-is (record {
+        short = omega arith;
+        passed = known.passed;
+        reached = λ k l h. elim (cases_lt k c.loop-doc.doc-index) [ inl before ↦ known.reached k l before | inr last ↦ let here : k ≡ c.loop-doc.doc-index = omega arith in rw here w.if-doc-target.false ];
+      })
     ]
 
-short : (c : goal.After-partition_point) → c.partition_point.result ≤ c.loop-stride-test.high - c.loop-stride.low
-short c =
-    let part = take (c.loop-stride-test.high - c.loop-stride.low) (drop c.loop-stride.low c.args.docs.now) in
-    let fits : c.partition_point.result ≤ length part = c.partition_point.ensures.bound in
-    omega (arith, length-take (c.loop-stride-test.high - c.loop-stride.low) (drop c.loop-stride.low c.args.docs.now))
+-- the window is what is left to be searched
+width : (c : After-loop-doc) → length (take (c.loop-high.high - c.loop-high.low) (drop c.loop-high.low c.args.docs.now)) ≡ c.loop-high.high - c.loop-high.low
+width c = length-take-le (c.loop-high.high - c.loop-high.low) (drop c.loop-high.low c.args.docs.now) (omega (arith, length-drop c.loop-high.low c.args.docs.now))
 
 pub returns-clause-passed : goal.returns-clause-passed
-returns-clause-passed c =
-    let docs = c.args.docs.now in
-    let low = c.loop-stride.low in
-    let high = c.loop-stride-test.high in
-    let parts = parted docs low (high - low) c.args.target c.requires.ascending in
-    let point = IsPartitionPoint-from_clause (λ y. ltb y c.args.target) _ _ c.partition_point.ensures.partitioned parts (λ a r q k. search rules) in
-    passed_by docs c.args.start low (high - low) c.args.target c.partition_point.result c.loop-stride.invariant.passed point.0 (short c)
+returns-clause-passed c k from_start before =
+    let long = width (goal.at.returns-clause-passed c).After-loop-doc in
+    elim (cases_lt k c.loop-high.low) [
+      | inl earlier ↦ c.loop-high.invariant.passed k from_start earlier
+      | inr inside ↦
+          let below = c.loop-doc.invariant.passed (k - c.loop-high.low) (omega arith) in
+          rw (get_or-part c.args.docs.now c.loop-high.low (c.loop-high.high - c.loop-high.low) k inside (omega arith)) at below
+    ]
 
 pub returns-clause-reached : goal.returns-clause-reached
-returns-clause-reached c =
-    let docs = c.args.docs.now in
-    let low = c.loop-stride.low in
-    let high = c.loop-stride-test.high in
-    let ends = bounded c in
-    let parts = parted docs low (high - low) c.args.target c.requires.ascending in
-    let point = IsPartitionPoint-from_clause (λ y. ltb y c.args.target) _ _ c.partition_point.ensures.partitioned parts (λ a r q k. search rules) in
-    reached_by docs low high c.args.target c.partition_point.result ends.0 ends.1 ends.2 point.1 (short c)
+returns-clause-reached c more =
+    let long = width (goal.at.returns-clause-reached c).After-loop-doc in
+    let place = c.loop-high.low + c.loop-doc.below in
+    elim (cases_lt c.loop-doc.below (c.loop-high.high - c.loop-high.low)) [
+      | inl inside ↦
+          let back : place - c.loop-high.low ≡ c.loop-doc.below = omega arith in
+          let past = c.loop-doc.invariant.reached (place - c.loop-high.low) (omega arith) (omega arith) in
+          rw (get_or-part c.args.docs.now c.loop-high.low (c.loop-high.high - c.loop-high.low) place (omega arith) (omega arith)) at past
+      | inr end ↦
+          let last : place ≡ c.loop-high.high = omega arith in
+          rw last (c.loop-high.invariant.reached (omega arith))
+    ]

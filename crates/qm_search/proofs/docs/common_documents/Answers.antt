@@ -3,7 +3,7 @@ use Rattle.std.proofs.lemmas.Bool.{false≢true}
 use Rattle.qm_combine.specs.HeldSum.{held_sum}
 use Rattle.qm_docset.specs.Entry.{documents}
 use Rattle.qm_docset.specs.GatherFacts.{AreMembers-map}
-use Rattle.qm_docset.specs.declared.doc_set.TheConstants.{TERMINATED}
+use Rattle.qm_docset.specs.declared.numbers.TheConstants.{TERMINATED}
 use Rattle.qm_postings.specs.SegmentPostings.{postings_left, postings_limits}
 use Rattle.qm_postings.specs.SegmentPostingsFacts.{AreEntries-postings}
 use Rattle.qm_schema.specs.declared.schema.option.IndexRecordOption.TheVariants.{WithFreqs}
@@ -21,7 +21,7 @@ returns-in_ok-documents_left-in-Some-clause-documents c =
     let valid = rw c.in-Some.is at c.in_ok-members.ensures.valid in
     let few : length segment.documents ≤ TERMINATED = omega (arith, c.max_doc.ensures.number, c.max_doc.ensures.room) in
     let members = AreMembers-map postings_limits postings_left cursors (λ k d below. AreEntries-postings _ (valid k d below)) in
-    c.in_ok-documents_left-in-Some.ensures ∙ ap documents c.in_ok-common-in-Some.ensures.entries
+    c.in_ok-documents_left-in-Some.ensures ∙ ap documents c.in_ok-common-in-Some.ensures.lists.entries
     ∙ documents-common_entries held_sum segment words (map postings_limits cursors) (map postings_left cursors) (omega arith) few members (ap (map documents) entries ∙ documents-of_words segment WithFreqs words)
 
 pub returns-in-None-clause-documents : goal.returns-in-None-clause-documents

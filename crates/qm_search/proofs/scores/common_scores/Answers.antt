@@ -2,7 +2,7 @@ use Rattle.std.proofs.Common.{◌≡◌, ◌∙◌, ◌≤◌, Any, ap, subst, m
 use Rattle.std.proofs.lemmas.Option.{MatchOption-at_none, MatchOption-at_some}
 use Rattle.std.proofs.lemmas.Result.{err_from_is_err_and}
 use Rattle.qm_docset.specs.Entry.{Entry}
-use Rattle.qm_docset.specs.declared.doc_set.TheConstants.{TERMINATED}
+use Rattle.qm_docset.specs.declared.numbers.TheConstants.{TERMINATED}
 use Rattle.qm_postings.specs.Segment.{holders}
 use Rattle.qm_search.specs.Scores.{word_weighing, words_bound}
 use Rattle.qm_search.specs.Trees.{word_term}
@@ -25,7 +25,7 @@ returns-in_ok-scores_left-in-Some-clause-pairs c =
     let scorers = MatchOption-at_some (Any (λ w. holders segment (word_term (string_bytes w)) ≡ []) words) (λ members. AreWordScorers searched segment words members.items) c.in-Some.members c.in-Some.is c.in_ok-members.ensures.scorers in
     let few = subst (λ n. n ≤ TERMINATED) c.max_doc.ensures.number c.max_doc.ensures.room in
     c.in_ok-scores_left-in-Some.ensures
-    ∙ ap (map (λ (e : Entry). (e.document, pos e.score))) c.in_ok-common-in-Some.ensures.entries
+    ∙ ap (map (λ (e : Entry). (e.document, pos e.score))) c.in_ok-common-in-Some.ensures.lists.entries
     ∙ pairs-words searched segment words c.in-Some.members.items c.requires few scorers
 
 pub returns-in-None-clause-pairs : goal.returns-in-None-clause-pairs

@@ -12,7 +12,7 @@ pub returns-in_ok-scores_left-in-All-clause-pairs : goal.returns-in_ok-scores_le
 returns-in_ok-scores_left-in-All-clause-pairs c =
     let segment = c.args.segment.now.segment in
     c.in_ok-scores_left-in-All.ensures
-    ∙ ap (map (λ (e : Entry). (e.document, pos e.score))) (c.new.ensures.entries ∙ ap (all_from 0) c.max_doc.ensures.number)
+    ∙ ap (map (λ (e : Entry). (e.document, pos e.score))) (c.new.ensures.lists.entries ∙ ap (all_from 0) c.max_doc.ensures.number)
     ∙ pairs-all (length segment.documents)
     ∙ ap (λ t. scored_matching t c.args.searcher.now segment) (sym c.in-All.is)
 

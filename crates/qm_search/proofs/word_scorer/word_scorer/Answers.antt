@@ -1,45 +1,37 @@
-use Rattle.std.proofs.Common.{◌≡◌, ◌∙◌, ◌*◌, ap, sym, subst, arith, [], ◌∷◌, List, is_some}
+use Rattle.std.proofs.Common.{◌≡◌, ℕ, ◌∙◌, ◌*◌, ◌↔◌, ap, sym, arith, [], ◌∷◌, List, Option, None, Some, IsSome, IfSome, MatchOption}
 use Rattle.std.proofs.lemmas.Bool.{false≢true}
-use Rattle.qm_postings.specs.FieldIndex.{shown}
-use Rattle.qm_postings.specs.FieldNorms.{norm_ids}
-use Rattle.qm_postings.specs.SegmentPostings.{postings_left}
-use Rattle.qm_postings.specs.Statistics.{weight_together}
+use Rattle.qm_postings.specs.Segment.{Segment, holders}
+use Rattle.qm_postings.specs.Statistics.{Searched, weight_together}
 use Rattle.qm_schema.specs.Term.{TermKey}
+use Rattle.qm_schema.specs.declared.schema.option.IndexRecordOption.TheVariants.{WithFreqs}
 use Rattle.qm_search.specs.Scores.{word_weighing}
 use Rattle.qm_search.specs.Trees.{word_term}
-use Rattle.qm_search.proofs.WordEntries.{AreCovered-word, weighed-word, holders-unheld, postings-word}
+use Rattle.qm_search.specs.WordScorers.{IsWordScorer}
+use Rattle.qm_search.proofs.Holders.{nil-from}
 use Rattle.qm_search.proofs.word_scorer.word_scorer.Goals as goal
 use Rattle.qm_term.specs.Bm25.{Weighing, bm25_bound}
 use Rattle.qm_term.specs.Bm25Weight.{weighing}
-use Rattle.qm_term.specs.TermScorer.{AreCovered, weighed}
+use Rattle.qm_term.specs.TermEntries.{term_entries}
+use Rattle.qm_term.specs.TermScorer.{IsTermScorer, scored_left, scored_limits}
+use Rattle.qm_term.specs.declared.term_scorer.TermScorer.{TermScorer}
 
-pub returns-in_default-clause-scorer : goal.returns-in_default-clause-scorer
-returns-in_default-clause-scorer c =
-    let word = c.args.word.now in
-    let named : c.in_ok-term.term ≡ word_term word = c.in_ok-term.ensures.ok ∙ ap (λ f. let k : TermKey = record { field = f; bytes = word } in k) c.body.ensures in
-    holders-unheld (shown c.inverted_index-index.result) c.args.segment.now c.body-2.result c.inverted_index-index.ensures c.body-2.ensures c.in_ok-term.term word named
-    (λ held. false≢true (ap is_some (sym c.in_default.is) ∙ c.read_postings.ensures.held.1 held))
-
-pub new-requires-clause-covered : goal.new-requires-clause-covered
-new-requires-clause-covered c =
-    let word = c.args.word.now in
-    let ids = norm_ids c.length_ids.result in
-    let named : c.in_ok-term.term ≡ word_term word = c.in_ok-term.ensures.ok ∙ ap (λ f. let k : TermKey = record { field = f; bytes = word } in k) c.body.ensures in
-    let left = c.in-Some.ensures.entries ∙ postings-word (shown c.inverted_index-index.result) c.args.segment.now c.body-2.result c.inverted_index-index.ensures c.body-2.ensures c.in_ok-term.term word named in
-    subst (AreCovered ids) (sym left) (AreCovered-word c.args.segment.now.segment word ids c.length_ids.ensures)
+-- the scorer of a term is that of the word that the term stands for
+of_term : (found : Option TermScorer) (searched : Searched) (segment : Segment) (word : List ℕ) (term : TermKey) (w : Weighing) → term ≡ word_term word → w ≡ word_weighing searched word → (IsSome found ↔ ¬ (holders segment term ≡ [])) → IfSome found (λ s. scored_left s ≡ term_entries segment WithFreqs term w) → IfSome found (λ s. (scored_limits s).top ≡ bm25_bound w) → IfSome found (λ s. IsTermScorer s) → MatchOption found (holders segment (word_term word) ≡ []) (IsWordScorer searched segment word)
+of_term None searched segment word term w named weighs present entries top valid =
+    ap (holders segment) (sym named) ∙ nil-from (holders segment term) (λ some. false≢true (present.1 some))
+of_term (Some s) searched segment word term w named weighs present entries top valid =
+    let bound : 1 * (word_weighing searched word).weight ≡ (word_weighing searched word).weight = omega arith in
+    record {
+      valid = valid;
+      entries = entries ∙ ap (λ (t : TermKey). term_entries segment WithFreqs t w) named ∙ ap (λ (x : Weighing). term_entries segment WithFreqs (word_term word) x) weighs;
+      top = top ∙ ap bm25_bound weighs ∙ bound;
+    }
 
 pub returns-clause-scorer : goal.returns-clause-scorer
 returns-clause-scorer c =
     let searched = c.args.searcher.now in
     let word = c.args.word.now in
-    let ids = norm_ids c.length_ids.result in
     let named : c.in_ok-term.term ≡ word_term word = c.in_ok-term.ensures.ok ∙ ap (λ f. let k : TermKey = record { field = f; bytes = word } in k) c.body.ensures in
-    let left = c.in-Some.ensures.entries ∙ postings-word (shown c.inverted_index-index.result) c.args.segment.now c.body-2.result c.inverted_index-index.ensures c.body-2.ensures c.in_ok-term.term word named in
     let weighs : weighing c.in_ok-weight.weight ≡ word_weighing searched word =
     c.in_ok-weight.ensures.weighing ∙ ap (λ (ts : List TermKey). let w : Weighing = record { weight = weight_together searched ts; norms = searched.norms; boost = 1 } in w) (c.from_ref.ensures.value ∙ ap (λ (t : TermKey). t ∷ []) named) in
-    let bound : 1 * (word_weighing searched word).weight ≡ (word_weighing searched word).weight = omega arith in
-    record {
-      valid = c.new.ensures.valid;
-      entries = c.new.ensures.entries ∙ ap (λ w. weighed w ids (postings_left c.in-Some.postings)) weighs ∙ ap (weighed (word_weighing searched word) ids) left ∙ weighed-word searched c.args.segment.now.segment word ids c.length_ids.ensures;
-      top = ap (λ l. l.top) c.new.ensures.limits ∙ ap bm25_bound weighs ∙ bound;
-    }
+    of_term c.for_term.result searched c.args.segment.now.segment word c.in_ok-term.term (weighing c.in_ok-weight.weight) named weighs c.for_term.ensures.present c.for_term.ensures.entries c.for_term.ensures.top c.for_term.ensures.valid

@@ -2,7 +2,7 @@
 use Rattle.std.proofs.Common.{rules, ◌≡◌, ℕ, ◌*◌, ◌≤◌, ◌<◌, pos, negsuc, nat_abs, ℤ, ◌*ℤ◌, ◌≤ℤ◌, arith, FitsSigned, w64, to_z, of_z, sym, ap, subst, ◌∙◌}
 use Rattle.std.proofs.lemmas.Int.{to_z-of_z, fits_signed_from_abs}
 use Rattle.qm_docset.specs.Entry.{greatest_score, head_document, head_score}
-use Rattle.qm_docset.specs.declared.doc_set.TheConstants.{TERMINATED}
+use Rattle.qm_docset.specs.declared.numbers.TheConstants.{TERMINATED}
 use Rattle.qm_combine.specs.RescoredFacts.{head_document-rescored, head_score-rescored, head_score-le, product-le}
 use Rattle.qm_combine.proofs.boost_scorer.BoostScorerScorer.score.Goals as goal
 

@@ -8,7 +8,7 @@ use Rattle.qm_combine.proofs.intersection.IntersectionDocSet.seek_danger.Goals a
 pub returns-in-Found-clause-answer : goal.returns-in-Found-clause-answer
 returns-in-Found-clause-answer g c =
     let same = whole c.args.self.now.others.len c.seek_each.new.members c.args.self.now.others.items (c.seek_each.auto.members ∙ ap length c.deref_mut.ensures.value) c.args.self.now.others.ok.0 in
-    rw same (IsSeekAnswer-shared g.D.DocSet.valid g.D.DocSet.limits g.D.DocSet.entries g.met.D.DocSet.ascending held_sum g.D.DocSet.placed c.args.target _ _ c.seek_each.new.members c.seek_each.result c.in-Found.ensures.answer.0 (g.met.L.DocSet.ascending _ c.in-Found.ensures.valid) c.in-Found.ensures.answer.1 c.seek_each.ensures.valid c.seek_each.ensures.answer)
+    rw same (IsSeekAnswer-shared g.D.DocSet.valid g.D.DocSet.limits g.D.DocSet.entries g.met.D.DocSet.ascending held_sum g.D.DocSet.placed c.args.target _ _ c.seek_each.new.members c.seek_each.result c.in-Found.ensures.answer.below_end (g.met.L.DocSet.ascending _ c.in-Found.ensures.valid) c.in-Found.ensures.answer.here c.seek_each.ensures.valid c.seek_each.ensures.answer)
 
 pub returns-in-Found-clause-entries : goal.returns-in-Found-clause-entries
 returns-in-Found-clause-entries g c =

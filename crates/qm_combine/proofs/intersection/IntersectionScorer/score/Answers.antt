@@ -3,7 +3,7 @@ use Rattle.std.proofs.Common.{◌≡◌, ◌<◌, ◌∷◌, All, map, length, p
 use Rattle.std.proofs.lemmas.Int.{to_z_pos}
 use Rattle.std.proofs.lemmas.List.Sums.{sum_by-cons}
 use Rattle.qm_docset.specs.Entry.{head_document, head_score}
-use Rattle.qm_docset.specs.declared.doc_set.TheConstants.{TERMINATED}
+use Rattle.qm_docset.specs.declared.numbers.TheConstants.{TERMINATED}
 use Rattle.qm_combine.specs.HeldSum.{held_sum}
 use Rattle.qm_combine.proofs.EachMember.{All-same_lists, score_cast}
 use Rattle.qm_combine.proofs.Leading.{whole, head_document-together, head_score-together}

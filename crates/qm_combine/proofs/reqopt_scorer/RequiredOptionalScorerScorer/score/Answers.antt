@@ -3,14 +3,12 @@
 use Rattle.std.proofs.Common.{rules, ◌≡◌, ℕ, ◌<◌, [], ◌∷◌, arith, refl, sym, ap, subst, ◌∙◌, pos, FitsSigned, w64}
 use Rattle.std.specs.List.{fold}
 use Rattle.std.proofs.lemmas.Int.{to_z-of_z}
-use Rattle.std.proofs.lemmas.List.Sums.{sum_by-cons}
 use Rattle.qm_docset.specs.Entry.{head_document, head_score}
 use Rattle.qm_docset.specs.Gather.{scores_at}
-use Rattle.qm_docset.specs.declared.doc_set.TheConstants.{TERMINATED}
-use Rattle.qm_combine.specs.Combine.{combine}
+use Rattle.qm_docset.specs.declared.numbers.TheConstants.{TERMINATED}
+use Rattle.qm_combine.specs.CombineFacts.{value-fold}
 use Rattle.qm_combine.specs.Rescored.{with_optional}
 use Rattle.qm_combine.specs.RescoredFacts.{head_document-rescored, head_score-rescored, head_score-le}
-use Rattle.qm_combine.specs.OptionalFacts.{sum-scores_at_one}
 use Rattle.qm_combine.proofs.OptionalScores.{with_optional-reached}
 use Rattle.qm_combine.proofs.reqopt_scorer.RequiredOptionalScorerScorer.score.Goals as goal
 
@@ -30,28 +28,16 @@ add_optional-requires-clause-room g c =
     let taken = c.update.ensures.state ∙ ap (λ s. g.C.ScoreCombiner.step s own) c.requires.valid.4.1 in
     same_room g.C.ScoreCombiner.has_room _ _ _ _ taken refl (g.met.C.ScoreCombiner.room start (own ∷ []) _ (omega arith))
 
-pub score-requires : goal.score-requires
-score-requires g c =
-    let start = c.requires.valid.4.0 in
-    let rs = g.R.DocSet.entries c.args.self.now.required in
-    let os = g.O.DocSet.entries c.args.self.now.optional in
-    let own = head_score rs in
-    let own_most = head_score-le 0 _ rs (g.met.R.DocSet.ascending c.args.self.now.required c.requires.valid.0) in
-    let optional_most = sum-scores_at_one c.doc-doc.result _ os (g.met.O.DocSet.ascending c.args.self.now.optional c.requires.valid.1) in
-    let scores = own ∷ scores_at c.doc-doc.result (os ∷ []) in
-    let total = sum_by-cons (λ n. n) own (scores_at c.doc-doc.result (os ∷ [])) in
-    let taken = c.add_optional.ensures.state ∙ ap (λ s. fold g.C.ScoreCombiner.step s (scores_at c.doc-doc.result (os ∷ []))) (c.update.ensures.state ∙ ap (λ s. g.C.ScoreCombiner.step s own) c.requires.valid.4.1) in
-    same_room g.C.ScoreCombiner.has_room _ _ _ _ taken refl (g.met.C.ScoreCombiner.room start scores 0 (omega arith))
-
 pub returns-clause-score : goal.returns-clause-score
 returns-clause-score g c =
     let rs = g.R.DocSet.entries c.args.self.now.required in
     let os = g.O.DocSet.entries c.args.self.now.optional in
-    let combined = combine g.C.ScoreCombiner.step g.C.ScoreCombiner.value c.args.self.now.combiner in
+    let combined = g.C.ScoreCombiner.combined c.args.self.now.combiner in
     let here : head_document rs < TERMINATED = omega (arith, c.requires.here, head_document-rescored (λ e. combined (e.score ∷ scores_at e.document (os ∷ []))) rs) in
     let fits : FitsSigned w64 c.score.result = search rules in
     let taken = c.add_optional.ensures.state ∙ ap (λ s. fold g.C.ScoreCombiner.step s (scores_at c.doc-doc.result (os ∷ []))) c.update.ensures.state in
     to_z-of_z w64 c.score.result fits ∙ c.score.ensures ∙ ap (λ s. pos (g.C.ScoreCombiner.value s)) taken
+    ∙ ap pos (value-fold g.C.ScoreCombiner g.met.C.ScoreCombiner.combines g.met.C.ScoreCombiner.clear_keeps _ c.args.self.now.combiner c.requires.valid.4.1 (head_score rs ∷ scores_at c.doc-doc.result (os ∷ [])))
     ∙ ap (λ d. pos (combined (head_score rs ∷ scores_at d (os ∷ [])))) c.doc-doc.ensures
     ∙ ap pos (sym (head_score-rescored (λ e. combined (e.score ∷ scores_at e.document (os ∷ []))) rs here))
 
@@ -59,6 +45,6 @@ pub returns-clause-entries : goal.returns-clause-entries
 returns-clause-entries g c =
     let rs = g.R.DocSet.entries c.args.self.now.required in
     let os = g.O.DocSet.entries c.args.self.now.optional in
-    let combined = combine g.C.ScoreCombiner.step g.C.ScoreCombiner.value c.args.self.now.combiner in
+    let combined = g.C.ScoreCombiner.combined c.args.self.now.combiner in
     let ascends = g.met.R.DocSet.ascending c.args.self.now.required c.requires.valid.0 in
-    (λ i. with_optional combined (c.update.ensures.entries i) (c.add_optional.ensures.entries i)) ∙ with_optional-reached combined c.doc-doc.result _ rs os c.doc-doc.ensures ascends
+    (λ i. with_optional combined (c.update.ensures.entries i) (c.add_optional.ensures.left.entries i)) ∙ with_optional-reached combined c.doc-doc.result _ rs os c.doc-doc.ensures ascends

@@ -13,9 +13,3 @@ pub update-requires-2-clause-room : goal.update-requires-2-clause-room
 update-requires-2-clause-room g c =
     let taken = c.update.ensures.state ∙ (λ i. g.C.ScoreCombiner.step (c.clear.ensures i) (c.scored.ensures.score i)) in
     same_room g.C.ScoreCombiner.has_room _ _ _ _ taken c.scored-2.ensures.top (g.met.C.ScoreCombiner.room c.args.combiner.now (c.args.first ∷ []) c.args.other (omega arith))
-
-pub score-requires : goal.score-requires
-score-requires g c =
-    let taken = c.update.ensures.state ∙ (λ i. g.C.ScoreCombiner.step (c.clear.ensures i) (c.scored.ensures.score i)) in
-    let both = c.update-2.ensures.state ∙ (λ i. g.C.ScoreCombiner.step (taken i) (c.scored-2.ensures.score i)) in
-    same_room g.C.ScoreCombiner.has_room _ _ _ _ both refl (g.met.C.ScoreCombiner.room c.args.combiner.now (c.args.first ∷ c.args.other ∷ []) 0 (omega arith))

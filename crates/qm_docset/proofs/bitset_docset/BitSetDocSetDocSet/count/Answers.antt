@@ -1,7 +1,6 @@
-use Rattle.std.proofs.Common.{◌≡◌, ◌+◌, ◌*◌, ◌≤◌, ◌&&◌, length, arith, sym, ap, ap₂, ◌∙◌}
+use Rattle.std.proofs.Common.{◌≡◌, ◌+◌, ◌*◌, ◌≤◌, ◌&&◌, length, arith, ap₂, ◌∙◌}
 use Rattle.qm_docset.specs.AliveBitSet.{alive_docs}
 use Rattle.qm_docset.specs.BitSet.{set_max_value}
-use Rattle.qm_docset.specs.Entry.{head_document}
 use Rattle.qm_docset.specs.Members.{members_between}
 use Rattle.qm_docset.proofs.BitSetLemmas.{length-word_more}
 use Rattle.qm_docset.proofs.CountMembers.{both_have, both-word, length-both_from, count_alive, none_at_end}
@@ -28,7 +27,7 @@ overflow_add-count c =
     let set = c.args.self.now in
     let all = more (goal.at.overflow_add-count c).After-len-count-in-loop-bucket in
     let short = length-members_between (both_have set.docs (alive_docs c.args.alive.now)) set.doc (64 * (c.loop-bucket.bucket + 1)) in
-    omega (arith, c.requires.valid.0, c.max_value.ensures, c.div_ceil-bucket-end.ensures)
+    omega (arith, c.requires.valid.documents, c.max_value.ensures, c.div_ceil-bucket-end.ensures)
 
 pub loop-bucket-preserved : goal.loop-bucket-preserved
 loop-bucket-preserved c = more (goal.at.loop-bucket-preserved c).After-len-count-in-loop-bucket
@@ -40,7 +39,4 @@ returns-clause-count c =
     c.loop-bucket.invariant ∙ count_alive set.docs c.args.alive.now set.doc (64 * c.loop-bucket.bucket) past
 
 pub returns-clause-entries : goal.returns-clause-entries
-returns-clause-entries c = none_at_end c.args.self.now.docs c.requires.valid.0
-
-pub returns-clause-placed : goal.returns-clause-placed
-returns-clause-placed c = sym (ap head_document (none_at_end c.args.self.now.docs c.requires.valid.0))
+returns-clause-entries c = c.go_to.ensures.entries ∙ none_at_end c.args.self.now.docs c.requires.valid.documents

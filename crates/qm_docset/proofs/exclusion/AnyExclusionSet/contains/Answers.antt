@@ -18,14 +18,14 @@ none_added g c d member =
 pub returns-in-Found-clause-member : goal.returns-in-Found-clause-member
 returns-in-Found-clause-member g c =
     let left = g.T.DocSet.entries c.seek_danger.new.self in
-    let found = has_document-head c.args.doc left c.in-Found.ensures.answer.1 c.requires.doc in
+    let found = has_document-head c.args.doc left c.in-Found.ensures.answer.here c.requires.doc in
     sym found ∙ kept g (goal.at.returns-in-Found-clause-member g c).After-seek_danger c.args.doc (omega arith)
 
 pub returns-in_default-clause-member : goal.returns-in_default-clause-member
 returns-in_default-clause-member g c =
     let left = g.T.DocSet.entries c.seek_danger.new.self in
     let ascends = g.met.T.DocSet.ascending c.seek_danger.new.self c.in_default.ensures.valid in
-    let before : c.args.doc < head_document left = omega (arith, c.in_default.ensures.answer.0, c.in_default.ensures.answer.1 c.requires.doc) in
+    let before : c.args.doc < head_document left = omega (arith, c.in_default.ensures.answer.before_all, c.in_default.ensures.answer.past c.requires.doc) in
     sym (has_document-before 0 c.args.doc (g.T.DocSet.limits c.seek_danger.new.self) left ascends before)
     ∙ kept g (goal.at.returns-in_default-clause-member g c).After-seek_danger c.args.doc (omega arith)
 

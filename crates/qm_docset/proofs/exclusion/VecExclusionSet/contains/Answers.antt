@@ -5,7 +5,8 @@ use Rattle.std.proofs.lemmas.List.{drop-set-lt}
 use Rattle.std.proofs.lemmas.List.Elements.{All-set}
 use Rattle.std.proofs.lemmas.List.Folds.{list_any_at}
 use Rattle.qm_docset.specs.Exclusion.{has_document, some_has_document}
-use Rattle.qm_docset.proofs.ExclusionLemmas.{some_has_document-map, some_has_document-set, some_has_document-set_added, lacks_more, same_at, whole}
+use Rattle.qm_docset.proofs.ExclusionLemmas.{some_has_document-map, some_has_document-set, some_has_document-set_added, lacks_more, same_at}
+use Rattle.qm_docset.specs.ListFacts.{whole}
 use Rattle.qm_docset.proofs.exclusion.VecExclusionSet.contains.Goals as goal
 use Rattle.qm_docset.proofs.exclusion.VecExclusionSet.contains.Goals.{After-set-item, After-contains}
 use Rattle.qm_docset.proofs.exclusion.VecExclusionSet.contains.Given.{Over}
@@ -61,7 +62,7 @@ lent : (g : Over) (c : After-contains g) → take c.args.self.now.len (set c.loo
 lent g c =
     let long : length (set c.loop-set.set-items c.loop-set.set-index c.contains.new.self) ≡ c.args.self.now.len =
     length-set c.loop-set.set-items c.loop-set.set-index c.contains.new.self ∙ c.loop-set.auto.set-items ∙ c.deref_mut-set-items.ensures.len in
-    whole c.args.self.now.len (set c.loop-set.set-items c.loop-set.set-index c.contains.new.self) c.args.self.now.items long
+    whole c.args.self.now.len (set c.loop-set.set-items c.loop-set.set-index c.contains.new.self) _ long
 
 pub returns-then-contains-clause-kept : goal.returns-then-contains-clause-kept
 returns-then-contains-clause-kept g c d above =

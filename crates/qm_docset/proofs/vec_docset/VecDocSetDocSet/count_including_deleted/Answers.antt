@@ -4,6 +4,6 @@ use Rattle.qm_docset.proofs.vec_docset.VecDocSetDocSet.count_including_deleted.G
 
 pub overflow_cast-count : goal.overflow_cast-count
 overflow_cast-count c =
-    let most = few c.args.self.now.cursor c.args.self.now.docs.items c.requires.1 in
+    let most = few c.args.self.now.cursor c.args.self.now.docs.items c.requires.documents in
     let long = c.args.self.now.docs.ok.0 in
     omega (arith, long)

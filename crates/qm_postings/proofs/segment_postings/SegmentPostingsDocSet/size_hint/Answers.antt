@@ -4,5 +4,5 @@ use Rattle.qm_postings.proofs.segment_postings.SegmentPostingsDocSet.size_hint.G
 
 pub overflow_cast-result : goal.overflow_cast-result
 overflow_cast-result c =
-    let most = few c.args.self.now.cursor c.args.self.now.documents.now c.requires.documents in
-    omega arith
+    let s = c.args.self.now in
+    omega (arith, few s.cursor s.arrays.documents.now c.requires.arrays.documents)

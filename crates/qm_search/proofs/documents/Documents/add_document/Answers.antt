@@ -1,21 +1,39 @@
-use Rattle.std.proofs.Common.{◌≡◌, ◌∷◌, ◌++◌, [], arith, ap, sym, ◌∙◌}
-use Rattle.qm_search.specs.TextSegments.{segment_of, with_text}
-use Rattle.qm_search.proofs.SegmentTexts.{with_texts-push}
+use Rattle.std.proofs.Common.{◌≡◌, ◌+◌, ◌≤◌, ◌<◌, [], ◌∷◌, ◌++◌, All, ap, sym, ◌∙◌, subst, arith, drop, take, length, vec_len, string_bytes, IsOk, rules}
+use Rattle.std.proofs.lemmas.List.{drop-append-le, take-append-le}
+use Rattle.std.proofs.lemmas.List.Elements.{All-push}
+use Rattle.qm_docset.specs.declared.numbers.TheConstants.{TERMINATED}
+use Rattle.qm_postings.specs.Segment.{IsGood}
+use Rattle.qm_search.specs.TextSegments.{IsBadText, segment_of, text_draft, with_text}
+use Rattle.qm_search.proofs.SegmentTexts.{segment_of-push}
 use Rattle.qm_search.proofs.documents.Documents.add_document.Goals as goal
 
 pub invariant_of-self-2 : goal.invariant_of-self-2
 invariant_of-self-2 c =
     let taken = c.take_builder.new.self in
+    let texts = taken.texts.items in
     let text = c.args.text in
-    let builder : c.in_ok-builder.builder ≡ segment_of taken.schema taken.texts.items =
-    c.in_ok-builder.ensures.builder ∙ ap (λ s. segment_of s c.reserve.new.self.items) (sym c.take_builder.ensures.schema) ∙ ap (λ v. segment_of taken.schema v.items) (sym c.take_builder.ensures.texts) in
-    let pushed : c.push.new.self.items ≡ taken.texts.items ++ text ∷ [] = rw c.unwrap.ensures at c.push.ensures.items in
-    let longer : c.add_text-added.new.builder ≡ segment_of taken.schema c.push.new.self.items =
-    c.in_ok-added.ensures.added ∙ ap (λ b. with_text b c.as_str.result.now) builder ∙ ap (with_text (segment_of taken.schema taken.texts.items)) c.as_str.ensures.value
-    ∙ sym (with_texts-push (record { schema = taken.schema; documents = []; deleted = [] }) taken.texts.items text)
-    ∙ ap (segment_of taken.schema) (sym pushed) in
+    let ok : IsOk c.push.result = search rules in
+    let pushed : c.push.new.self.items ≡ texts ++ text ∷ [] = rw ok at c.push.ensures.items in
+    let longer : vec_len c.push.new.self ≡ vec_len taken.texts + 1 = rw ok at c.push.ensures.len in
+    let built : taken.built ≤ length texts = omega (arith, taken.some_built, taken.texts.ok.0) in
+    let same : vec_len taken.texts ≡ vec_len c.reserve.new.self = ap (λ v. vec_len v) c.take_builder.ensures.texts in
+    let builder : c.in_ok-builder.builder ≡ segment_of taken.schema (drop taken.built texts) =
+    c.in_ok-builder.ensures.builder
+    ∙ ap (λ s. segment_of s (drop c.args.self.now.built c.reserve.new.self.items)) (sym c.take_builder.ensures.schema)
+    ∙ ap (λ b. segment_of taken.schema (drop b c.reserve.new.self.items)) (sym c.take_builder.ensures.built)
+    ∙ ap (λ v. segment_of taken.schema (drop taken.built v.items)) (sym c.take_builder.ensures.texts) in
+    let grown : c.add_text-added.new.builder ≡ segment_of taken.schema (drop taken.built c.push.new.self.items) =
+    c.in_ok-added.ensures.added ∙ ap (λ b. with_text b c.as_str.result.now) builder ∙ ap (with_text (segment_of taken.schema (drop taken.built texts))) c.as_str.ensures.value
+    ∙ sym (segment_of-push taken.schema (drop taken.built texts) text)
+    ∙ ap (segment_of taken.schema) (sym (ap (drop taken.built) pushed ∙ drop-append-le taken.built texts (text ∷ []) built)) in
+    let good : IsGood taken.schema (text_draft (string_bytes text)) = subst (λ t. IsGood taken.schema (text_draft t)) c.as_str.ensures.value (subst (λ s. IsGood s.schema (text_draft c.as_str.result.now)) builder c.in_ok-added.ensures.good) in
     record {
-      within = omega (arith, c.truncate.ensures.len, taken.within);
-      built = λ h. absurd (omega (arith, c.truncate.ensures.len, taken.within));
-      building = λ x h. let one : c.add_text-added.new.builder ≡ x = cc in sym one ∙ longer;
+      within = taken.within;
+      some_built = omega (arith, taken.some_built, longer);
+      few = omega (arith, longer, same, c.in_ok-reserve.ensures.len);
+      schemas = taken.schemas;
+      parts = taken.parts ∙ sym (ap (segment_of taken.schema) (ap (take taken.built) pushed ∙ take-append-le taken.built texts (text ∷ []) built));
+      counted = taken.counted;
+      building = λ x h. let one : c.add_text-added.new.builder ≡ x = cc in sym one ∙ grown;
+      good = subst (λ ts. All (λ t. ¬ IsBadText taken.schema (string_bytes t)) ts) (sym pushed) (All-push (λ t. ¬ IsBadText taken.schema (string_bytes t)) texts text taken.good (λ bad. bad good));
     }

@@ -1,0 +1,139 @@
+//! An example of use, and the first code to read: it indexes three documents, and prints those that
+//! hold two terms, each with its score; then those that hold either of them, without one that was
+//! found elsewhere.
+//!
+//! `one_document` is a cursor of one's own and `greatest_score` a combiner: the library takes them as
+//! it takes its own.
+#![tactic(auto)]
+
+mod greatest_score;
+mod one_document;
+
+ghost use Rattle.std.specs.Prelude.{◌≡◌, IfOk, IfSome};
+ghost use Rattle.example_search.specs.Both.{in_both, with_scores};
+ghost use Rattle.qm_term.specs.Bm25Weight.{weighing};
+
+use greatest_score::GreatestScore;
+use one_document::OneDocument;
+use qm_combine::{BufferedUnionScorer, Exclude, Intersection, scores_left};
+use qm_docset::{DocId, DocSet, Score};
+use qm_postings::{PlainDoc, SegmentBuilder, SegmentReader};
+use qm_schema::{Field, IndexRecordOption, QueryError, Schema, Term};
+use qm_term::{Bm25Weight, TermScorer};
+use std::alloc::Global;
+use std::io;
+
+const TEXTS: [&str; 3] = [
+    "the quick fox",
+    "the lazy dog",
+    "the quick fox and the lazy dog and the other fox",
+];
+
+/// How many postings a block has.
+const BLOCK_LEN: u32 = 128;
+
+/// What of a term's postings is kept and read: documents, and how often the term stands there.
+const OPTION: IndexRecordOption = IndexRecordOption::WithFreqs;
+
+/// Documents, each with its score.
+type Found = Vec<(DocId, Score)>;
+
+fn main(rt: HostRuntime) -> io::Result<()> {
+    let answers = match search(rt.alloc()) {
+        Ok(answers) => answers,
+        Err(error) => return println!(rt; "refused: {error}"),
+    };
+    for (query, found) in answers {
+        println!(rt; "{query}")?;
+        for (doc, score) in found {
+            println!(rt; "  document {doc}, score {score}")?;
+        }
+    }
+    Ok(())
+}
+
+/// Indexes the documents, and answers two queries. Whatever takes memory is handed the allocator
+/// first, and may be refused.
+fn search(alloc: Global) -> Result<Vec<(&'static str, Found)>, QueryError> {
+    let mut schema = Schema::builder(alloc);
+    let body = schema.add_text_field("body", Some(OPTION), true)?;
+    let segment = segment_of(alloc, &schema.build(), body, &TEXTS)?;
+    let fox = Term::from_field_text(alloc, body, "fox")?;
+    let lazy = Term::from_field_text(alloc, body, "lazy")?;
+    let weight = Bm25Weight::new(1000, norms())?;
+    let both = both(alloc, &segment, &fox, &lazy, &weight)?.unwrap_or(Vec::new(alloc));
+    let either = either(alloc, &segment, &fox, &lazy, &weight)?;
+    Ok(vec![in alloc; ("fox and lazy", both), ("fox or lazy, without 1", either)]?)
+}
+
+/// A segment of documents with one field, of these texts.
+fn segment_of(
+    alloc: Global,
+    schema: &Schema,
+    body: Field,
+    texts: &[&str],
+) -> Result<SegmentReader, QueryError> {
+    let mut segment = SegmentBuilder::new(alloc, schema, BLOCK_LEN)?;
+    for text in texts {
+        let mut document = PlainDoc::new(alloc);
+        document.add_text(alloc, body, text)?;
+        segment.add_document(document)?;
+    }
+    segment.build(alloc)
+}
+
+/// The norm of each length id: a document is as long as it has words.
+fn norms() -> [u32; 256] {
+    let mut norms = [0; 256];
+    for (id, norm) in norms.iter_mut().enumerate() {
+        *norm = id as u32;
+    }
+    norms
+}
+
+/// The documents that hold both terms, each with the sum of what the terms score there. None where
+/// one of the terms is held by no document.
+fn both(
+    alloc: Global,
+    segment: &SegmentReader,
+    first: &Term,
+    second: &Term,
+    weight: &Bm25Weight,
+) -> Result<Option<Found>, QueryError>
+    ensures { IfOk result (λ found. IfSome found (λ pairs. pairs.items ≡ with_scores (in_both segment.now.segment (weighing weight.now) first.now second.now))) }
+{
+    let Some(first) = TermScorer::for_term(segment, first, OPTION, weight) else {
+        return Ok(None);
+    };
+    let Some(second) = TermScorer::for_term(segment, second, OPTION, weight) else {
+        return Ok(None);
+    };
+    let members = vec![in alloc; first, second]?;
+    let common = Intersection::new(alloc, members, segment.max_doc())?;
+    Ok(Some(scores_left(alloc, common)?))
+}
+
+/// The documents but 1 that hold either of the terms, each with the greatest of what they score
+/// there.
+fn either(
+    alloc: Global,
+    segment: &SegmentReader,
+    first: &Term,
+    second: &Term,
+    weight: &Bm25Weight,
+) -> Result<Found, QueryError> {
+    let mut members = Vec::with_capacity(alloc, 2)?;
+    for term in [first, second] {
+        let Some(scorer) = TermScorer::for_term(segment, term, OPTION, weight) else {
+            continue;
+        };
+        members.push(scorer)?;
+    }
+    let any = BufferedUnionScorer::build(
+        alloc,
+        members,
+        GreatestScore::default(),
+        segment.max_doc(),
+    )?;
+    Ok(scores_left(alloc, Exclude::new(any, OneDocument::new(1)))?)
+}

@@ -1,0 +1,15 @@
+use Rattle.std.proofs.Common.{◌≡◌, ◌+◌, length}
+use Rattle.qm_docset.specs.Entry.{head_document}
+use Rattle.qm_docset.proofs.docset.DocSet.count_including_deleted.Given as goal
+
+abbrev pub invariant-loop-doc : goal.invariant-loop-doc
+invariant-loop-doc g l = record {
+  counted : l.count + length (g.Self.DocSet.entries l.self) ≡ length (g.Self.DocSet.entries l.fn.self);
+  here : l.doc ≡ head_document (g.Self.DocSet.entries l.self);
+  limits : g.Self.DocSet.limits l.self ≡ g.Self.DocSet.limits l.fn.self;
+  valid : g.Self.DocSet.valid l.self;
+  placed : g.Self.DocSet.placed l.self;
+}
+
+abbrev pub decreases-loop-doc : goal.decreases-loop-doc
+decreases-loop-doc g l = length (g.Self.DocSet.entries l.self)

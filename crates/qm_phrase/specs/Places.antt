@@ -1,0 +1,41 @@
+-- What a row of a term's places shows, as a count passes them one after another.
+use Rattle.std.specs.Prelude.{ℕ, ◌+◌, ◌<◌, ◌≤◌, ◌==◌, if◌then◌else◌, List, [], ◌∷◌, drop, max, min, vec_capacity}
+use Rattle.qm_postings.specs.Positions.{shifted}
+use Rattle.qm_phrase.specs.Starts.{all_places}
+use Rattle.qm_phrase.specs.declared.places.Places.{Places}
+
+-- the places that no count has passed yet
+abbrev pub places_left : Places → List ℕ
+places_left row = shifted row.shift (drop row.passed row.positions.items)
+
+-- how far positions are shifted
+abbrev pub shift_of : Places → ℕ
+shift_of row = row.shift
+
+-- how many positions there is room for
+abbrev pub room_of : Places → ℕ
+room_of row = vec_capacity row.positions
+
+-- places ascend strictly from `low` on
+abbrev pub Ascends : ℕ → List ℕ → Type 0
+Ascends low [] = Unit {0}
+Ascends low (p ∷ ps) = (low ≤ p) × (p < all_places) × Ascends (p + 1) ps
+
+-- the first place, or past all of them where there is none
+abbrev pub first_place : List ℕ → ℕ
+first_place [] = all_places
+first_place (p ∷ ps) = p
+
+-- the least and the greatest of the first places
+abbrev pub least_first : List (List ℕ) → ℕ
+least_first [] = all_places
+least_first (s ∷ sets) = min (first_place s) (least_first sets)
+
+abbrev pub greatest_first : List (List ℕ) → ℕ
+greatest_first [] = 0
+greatest_first (s ∷ sets) = max (first_place s) (greatest_first sets)
+
+-- what is left of a set behind a place that it may begin with
+abbrev pub past : ℕ → List ℕ → List ℕ
+past x [] = []
+past x (p ∷ ps) = if p == x then ps else (p ∷ ps)

@@ -1,0 +1,210 @@
+//! The documents in which the terms of a phrase stand together.
+
+ghost use Rattle.std.specs.Prelude.{◌≡◌, ◌<◌, ◌≤◌, All, IfOk, IsOkUnless, drop, true, map, min, vec_len};
+ghost use Rattle.qm_docset.specs.Cursor.{IsSeekAnswer, OnFound};
+ghost use Rattle.qm_docset.specs.Entry.{from, head_document};
+ghost use Rattle.qm_docset.specs.Lists.{Lists};
+ghost use Rattle.qm_phrase.specs.Phrase.{count_at, phrase_entries, phrase_limits, phrase_points, shifts_of};
+ghost use Rattle.qm_phrase.specs.Places.{shift_of};
+ghost use Rattle.qm_phrase.specs.PhraseFacts.{AreEntries-phrase};
+ghost use Rattle.qm_phrase.specs.PhraseScorer.{IsOnPhrase, IsPhrase, has_weight, is_weighted, most_counted, phrase_left, phrase_scorer_limits, phrase_starts};
+ghost use Rattle.qm_postings.specs.FieldNorms.{norm_ids};
+ghost use Rattle.qm_term.specs.TermScorer.{AreCovered};
+
+use crate::offsets::{greatest_offset, split_terms};
+use crate::places::Places;
+use crate::terms::{look_at, seek_start};
+use qm_combine::Scorer;
+use qm_docset::{DocId, DocSet, Score, SeekDangerResult, TERMINATED};
+use qm_postings::{FieldNormReader, Postings};
+use qm_schema::QueryError;
+use qm_term::Bm25Weight;
+use std::alloc::Global;
+
+/// The documents in which the terms of a phrase stand together, within a slop.
+///
+/// Each term has an offset in the phrase. Its places in a document are its positions, less its offset.
+/// A start is a place of some term from which on, up to the slop, every term has one; the phrase count
+/// of a document is the number of its starts, held at 4294967295. A document is listed where it has a
+/// start. With a weight it scores what the weight gives its count at its length id, and else 1.
+///
+/// The terms are asked for their documents in turn, and positions are read only of documents that all
+/// of them have. To count the starts of a document costs at most the number of its places times the
+/// number of terms; without a weight the first start is enough. No call takes memory.
+#[derive(Drop)]
+pub struct PhraseScorer<'a, P> {
+    members: Vec<P>,
+    places: Vec<Places>,
+    similarity_weight: Option<Bm25Weight>,
+    fieldnorm_reader: FieldNormReader<'a>,
+    slop: u32,
+    doc: DocId,
+    phrase_count: u32,
+}
+
+impl<'a, P: Postings> PhraseScorer<'a, P> {
+    /// The scorer of at least two terms, each with its offset in the phrase, in any order. They may
+    /// stand anywhere; what is listed begins at the first document at or past all of theirs. The
+    /// phrase is scored by the weight at the length ids that the reader gives, and with 1 where there
+    /// is no weight.
+    ///
+    /// Asks that offsets are at most 4294967295, and that the reader has a length id for each of the
+    /// documents. Fails with [`QueryError::Memory`] alone, where there is no room for the terms or for
+    /// as many positions of one as its `max_term_freq` says.
+    pub fn new(
+        alloc: Global,
+        term_postings: Vec<(usize, P)>,
+        similarity_weight: Option<Bm25Weight>,
+        fieldnorm_reader: FieldNormReader<'a>,
+        slop: u32,
+    ) -> Result<PhraseScorer<'a, P>, QueryError>
+        requires two { 2 ≤ vec_len term_postings }
+        requires valid { All (λ pair. P.valid pair.1) term_postings.items }
+        requires offsets { All (λ pair. pair.0 ≤ 4294967295) term_postings.items }
+        requires covered { All (λ pair. AreCovered (norm_ids fieldnorm_reader) (P.entries pair.1)) term_postings.items }
+        ensures lists { IfOk result (λ s. Lists ⟦<PhraseScorer<'a, P> as DocSet>⟧ s (phrase_entries (phrase_points similarity_weight (norm_ids fieldnorm_reader.entry)) slop (shifts_of (map (λ pair. pair.0) term_postings.items)) (map (λ pair. P.entries pair.1) term_postings.items)) (phrase_limits similarity_weight)) }
+        ensures weighted { IfOk result (λ s. is_weighted P.DocSet s ≡ has_weight similarity_weight) }
+        ensures memory { IsOkUnless result QueryError.Memory }
+    {
+        let greatest = greatest_offset(&term_postings);
+        let (members, places) = split_terms(alloc, term_postings, greatest)?;
+        let mut scorer = PhraseScorer {
+            members,
+            places,
+            similarity_weight,
+            fieldnorm_reader,
+            slop,
+            doc: 0,
+            phrase_count: 0,
+        };
+        scorer.seek(0);
+        Ok(scorer)
+    }
+
+    /// How many starts are counted: all where a weight scores them, and else the first.
+    fn most(&self) -> u32
+        ensures { result ≡ most_counted self.now.similarity_weight }
+    {
+        match self.similarity_weight {
+            Some(_) => u32::MAX,
+            None => 1,
+        }
+    }
+
+    /// How many starts the document has that the scorer stands on, held at 4294967295. Without a
+    /// weight nothing is said of it. Asks that the scorer stands on a document. Constant time.
+    pub fn phrase_count(&self) -> u32
+        requires valid { IsPhrase P.DocSet self.now }
+        requires placed { IsOnPhrase P.DocSet self.now }
+        requires here { head_document (phrase_left P.DocSet self.now) < TERMINATED }
+        ensures { is_weighted P.DocSet self.now ≡ true → result ≡ min 4294967295 (phrase_starts P.DocSet self.now (head_document (phrase_left P.DocSet self.now))) }
+    {
+        self.phrase_count
+    }
+}
+
+impl<'a, P: Postings> DocSet for PhraseScorer<'a, P> {
+    ghost entries = { λ s. phrase_left P.DocSet s };
+
+    ghost limits = { λ s. phrase_scorer_limits P.DocSet s };
+
+    ghost placed = { λ s. IsOnPhrase P.DocSet s };
+
+    ghost valid = { λ s. IsPhrase P.DocSet s };
+
+    fn doc(&self) -> DocId {
+        self.doc
+    }
+
+    fn advance(&mut self) -> DocId
+        requires valid { IsPhrase P.DocSet self.old }
+        requires placed { IsOnPhrase P.DocSet self.old }
+        ensures head { result ≡ head_document (phrase_left P.DocSet self.new) }
+        ensures entries { phrase_left P.DocSet self.new ≡ drop 1 (phrase_left P.DocSet self.old) }
+        ensures limits { phrase_scorer_limits P.DocSet self.new ≡ phrase_scorer_limits P.DocSet self.old }
+        ensures valid { IsPhrase P.DocSet self.new }
+        ensures placed { IsOnPhrase P.DocSet self.new }
+        ensures weighted { is_weighted P.DocSet self.new ≡ is_weighted P.DocSet self.old }
+    {
+        self.seek((self.doc + 1).min(TERMINATED))
+    }
+
+    fn seek(&mut self, target: DocId) -> DocId
+        requires valid { IsPhrase P.DocSet self.old }
+        requires target { target ≤ TERMINATED }
+        ensures head { result ≡ head_document (phrase_left P.DocSet self.new) }
+        ensures entries { phrase_left P.DocSet self.new ≡ from target (phrase_left P.DocSet self.old) }
+        ensures limits { phrase_scorer_limits P.DocSet self.new ≡ phrase_scorer_limits P.DocSet self.old }
+        ensures valid { IsPhrase P.DocSet self.new }
+        ensures placed { IsOnPhrase P.DocSet self.new }
+        ensures weighted { is_weighted P.DocSet self.new ≡ is_weighted P.DocSet self.old }
+    {
+        let most = self.most();
+        let (doc, count) = seek_start(&mut self.members, &mut self.places, self.slop, target, most);
+        self.doc = doc;
+        self.phrase_count = count;
+        doc
+    }
+
+    fn seek_danger(&mut self, target: DocId) -> SeekDangerResult
+        requires valid { IsPhrase P.DocSet self.old }
+        requires target { target ≤ TERMINATED }
+        ensures answer { IsSeekAnswer target (phrase_left P.DocSet self.new) result }
+        ensures entries { phrase_left P.DocSet self.new ≡ from target (phrase_left P.DocSet self.old) }
+        ensures limits { phrase_scorer_limits P.DocSet self.new ≡ phrase_scorer_limits P.DocSet self.old }
+        ensures valid { IsPhrase P.DocSet self.new }
+        ensures placed { OnFound result (IsOnPhrase P.DocSet self.new) }
+        ensures weighted { is_weighted P.DocSet self.new ≡ is_weighted P.DocSet self.old }
+    {
+        if target == TERMINATED {
+            self.seek(TERMINATED);
+            return SeekDangerResult::SeekLowerBound(TERMINATED);
+        }
+        let most = self.most();
+        match look_at(&mut self.members, &mut self.places, self.slop, target, most) {
+            Ok(count) => {
+                self.doc = target;
+                self.phrase_count = count;
+                SeekDangerResult::Found
+            }
+            Err(bound) => SeekDangerResult::SeekLowerBound(bound),
+        }
+    }
+
+    fn size_hint(&self) -> u32 {
+        let mut hint = u32::MAX;
+        for member in &self.members {
+            hint = member.size_hint().min(hint);
+        }
+        hint
+    }
+
+    fn cost(&self) -> u64 {
+        let mut cost = 0u64;
+        for member in &self.members {
+            cost = cost.saturating_add(member.cost());
+        }
+        cost
+    }
+
+    ghost ascending = { λ s h. AreEntries-phrase s.similarity_weight (norm_ids s.fieldnorm_reader) s.slop (map shift_of s.places.items) (map P.entries s.members.items) };
+}
+
+impl<'a, P: Postings> Scorer for PhraseScorer<'a, P> {
+    fn score(&mut self) -> Score {
+        match &self.similarity_weight {
+            Some(weight) => weight.score(
+                self.fieldnorm_reader.fieldnorm_id(self.doc),
+                self.phrase_count,
+            ),
+            None => 1,
+        }
+    }
+
+    fn max_score(&self) -> Score {
+        match &self.similarity_weight {
+            Some(weight) => weight.max_score(),
+            None => 1,
+        }
+    }
+}

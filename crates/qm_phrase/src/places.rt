@@ -1,0 +1,81 @@
+//! The places of one term in a document.
+
+ghost use Rattle.std.specs.Prelude.{◌≡◌, ◌<◌, ◌≤◌, IfOk};
+ghost use Rattle.qm_docset.specs.Entry.{head_document, head_positions};
+ghost use Rattle.qm_postings.specs.Positions.{shifted};
+ghost use Rattle.qm_phrase.specs.Places.{first_place, past, places_left, room_of, shift_of};
+
+use qm_docset::TERMINATED;
+use qm_postings::Postings;
+use std::alloc::{AllocError, Global};
+
+/// Past every place: a position and a shift are below 4294967296 each.
+pub(crate) const ALL_PLACES: u64 = 8589934592;
+
+/// The positions of one term in the document looked at, and how many of them a count has passed. The
+/// shift is added where places are compared, in 64 bits.
+#[derive(Debug, Drop)]
+pub(crate) struct Places {
+    pub(crate) shift: u32,
+    pub(crate) positions: Vec<u32>,
+    pub(crate) passed: usize,
+}
+
+impl Places {
+    /// A buffer for so many positions, with none yet. Fails where there is no room for them.
+    pub(crate) fn with_room(
+        alloc: Global,
+        shift: u32,
+        max_term_freq: u64,
+    ) -> Result<Places, AllocError>
+        ensures shift { IfOk result (λ row. shift_of row ≡ shift) }
+        ensures room { IfOk result (λ row. room_of row ≡ max_term_freq) }
+    {
+        Ok(Places {
+            shift,
+            positions: Vec::with_capacity(alloc, max_term_freq as usize)?,
+            passed: 0,
+        })
+    }
+
+    /// The first place that no count has passed, or [`ALL_PLACES`] where none is left.
+    pub(crate) fn first(&self) -> u64
+        ensures { result ≡ first_place (places_left self.now) }
+    {
+        match self.positions.get(self.passed) {
+            Some(position) => u64::from(*position) + u64::from(self.shift),
+            None => ALL_PLACES,
+        }
+    }
+
+    /// Passes the first place, where it is this one.
+    pub(crate) fn pass(&mut self, place: u64)
+        requires { place < ALL_PLACES }
+        ensures left { places_left self.new ≡ past place (places_left self.old) }
+        ensures shift { shift_of self.new ≡ shift_of self.old }
+        ensures room { room_of self.new ≡ room_of self.old }
+    {
+        if self.first() == place {
+            self.passed += 1;
+        }
+    }
+
+    /// Reads the positions of a term in the document that it stands on, and begins anew. Takes no
+    /// memory.
+    pub(crate) fn read<P: Postings>(&mut self, postings: &mut P)
+        requires valid { P.valid postings.old }
+        requires placed { P.placed postings.old }
+        requires here { head_document (P.entries postings.old) < TERMINATED }
+        requires room { (P.limits postings.old).room ≤ room_of self.old }
+        ensures left { places_left self.new ≡ shifted (shift_of self.old) (head_positions (P.entries postings.old)) }
+        ensures shift { shift_of self.new ≡ shift_of self.old }
+        ensures room { room_of self.old ≤ room_of self.new }
+        ensures entries { P.entries postings.new ≡ P.entries postings.old }
+        ensures limits { P.limits postings.new ≡ P.limits postings.old }
+        ensures valid { P.valid postings.new }
+        ensures placed { P.placed postings.new }
+    {
+        postings.positions(&mut self.positions);
+        self.passed = 0;
+    }
+}

@@ -1,0 +1,57 @@
+//! What a segment keeps of the postings of a term.
+
+ghost use Rattle.std.specs.Prelude.{◌≡◌, ◌≤◌, ◌<◌, length, sum, take};
+ghost use Rattle.qm_postings.specs.TermArrays.{ArePlaces};
+
+use qm_docset::DocId;
+
+/// What a segment knows of a block of a term's postings. A block has `block_len` of them, the last
+/// one may have fewer.
+#[derive(Clone, Copy, Debug)]
+pub(crate) struct BlockInfo {
+    /// How many positions the term's postings before this block have together.
+    pub(crate) positions_start: usize,
+}
+
+/// What is read of a term's postings: a document and a frequency for each, the positions of all of
+/// them end to end, and what is known of each block. Where no positions are read there are none.
+#[derive(Clone, Copy, Debug)]
+pub(crate) struct TermArrays<'a> {
+    pub(crate) documents: &'a [DocId],
+    pub(crate) frequencies: &'a [u32],
+    pub(crate) positions: &'a [u32],
+    pub(crate) blocks: &'a [BlockInfo],
+    pub(crate) block_len: usize,
+    pub(crate) max_term_freq: u32,
+}
+
+impl<'a> TermArrays<'a> {
+    // Where the positions of the posting at a place begin. It is known where those of the posting at
+    // the mark do, and where those of each block do; so it sums the frequencies of less than a block.
+    pub(crate) fn positions_start(&self, place: usize, mark: usize, mark_start: usize) -> usize
+        requires places { ArePlaces self.now }
+        requires within { place < length self.now.frequencies.now }
+        requires mark { mark ≤ place }
+        requires start { mark_start ≡ sum (take mark self.now.frequencies.now) }
+        ensures { result ≡ sum (take place self.now.frequencies.now) }
+    {
+        let block = place / self.block_len;
+        let block_start = block * self.block_len;
+        if mark < block_start {
+            self.blocks[block].positions_start + sum_of(&self.frequencies[block_start..place])
+        } else {
+            mark_start + sum_of(&self.frequencies[mark..place])
+        }
+    }
+}
+
+fn sum_of(frequencies: &[u32]) -> usize
+    requires { sum frequencies.now ≤ usize.MAX }
+    ensures { result ≡ sum frequencies.now }
+{
+    let mut total = 0;
+    for frequency in frequencies {
+        total += *frequency as usize;
+    }
+    total
+}
