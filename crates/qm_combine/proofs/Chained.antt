@@ -3,21 +3,25 @@
 use Rattle.std.proofs.Common.{◌≡◌, ℕ, ◌+◌, ◌<◌, ◌≤◌, ◌≢◌, Bool, true, false, cond, nat_eq, List, [], ◌∷◌, ◌++◌, length, map, drop, max, sum, sum_by, refl, ap, sym, subst, ◌∙◌, arith, inl, inr}
 use Rattle.std.specs.List.{All}
 use Rattle.std.specs.List.Sorted.{IsPermutation}
-use Rattle.std.specs.BinaryHeap.{IsUpperBound}
+use Rattle.std.specs.BinaryHeap.{IsUpperBound, heap_items}
+use Rattle.std.specs.declared.collections.binary_heap.BinaryHeap.{BinaryHeap}
 use Rattle.std.specs.Ordering.{is_lt, nat_cmp}
 use Rattle.std.specs.declared.cmp.Ordering.TheVariants.{Less}
 use Rattle.std.proofs.lemmas.Bool.{cases_lt, eq-eqb, ne_eqb, lt-ltb}
 use Rattle.std.proofs.lemmas.List.Elements.{All-cons, All-head, All-tail, All-weaker}
-use Rattle.std.proofs.lemmas.List.Sorted.{IsPermutation-trans, IsPermutation-cons, IsPermutation-map, All-permutation, sum_by-IsPermutation}
+use Rattle.std.proofs.lemmas.List.Sorted.{IsPermutation-refl, IsPermutation-trans, IsPermutation-cons, IsPermutation-map, All-permutation, sum_by-IsPermutation}
 use Rattle.std.proofs.lemmas.List.Sums.{sum_by-append, sum_by-cons}
 use Rattle.qm_docset.specs.Entry.{Entry, Limits, AreEntries, from, greatest_score, head_document, head_score}
 use Rattle.qm_docset.specs.EntryFacts.{from-drop, from-nil, from-skip, from-keep, from-reached, head_document-bounds}
+use Rattle.qm_docset.specs.ListFacts.{map-map}
 use Rattle.qm_docset.specs.Gather.{scored, entries_of, scores_at, gather, IsBare, AreMembers}
 use Rattle.qm_docset.specs.GatherFacts.{scores_at-cons, entries_of-before, entries_of-nil, length-scores_at, AreMembers-map}
 use Rattle.qm_docset.specs.declared.numbers.TheConstants.{TERMINATED}
 use Rattle.qm_docset.proofs.Gathering.{gather-bare, gather-first, gather-from, gather-none, gather-permutation, scores_at-permutation}
-use Rattle.qm_combine.proofs.Uniting.{score_of-here, scores_at-ahead}
-use Rattle.qm_combine.specs.Disjunction.{least_first, led_by, led_by-here, led_by-ended, tops_at}
+use Rattle.qm_combine.specs.RescoredFacts.{head_score-le}
+use Rattle.qm_combine.proofs.Uniting.{least_head-most, score_of-here, scores_at-ahead}
+use Rattle.qm_docset.specs.declared.docset.DocSet.{Ghosts}
+use Rattle.qm_combine.specs.Disjunction.{IsStanding, KeepsFrom, chain_lists, least_first}
 use Rattle.qm_combine.specs.Union.{least_head, total_top, united_limits}
 use Rattle.qm_combine.specs.declared.disjunction.scorer_wrapper.ScorerWrapper.{ScorerWrapper}
 
@@ -58,10 +62,6 @@ least_head-past t (es ∷ ess) h all =
     let first = All-head (λ xs. t ≤ head_document xs) es ess all in
     let rest = least_head-past t ess h (All-tail (λ xs. t ≤ head_document xs) es ess all) in
     omega arith
-
-pub least_head-most : (ess : List (List Entry)) → least_head ess ≤ TERMINATED
-least_head-most [] = omega arith
-least_head-most (es ∷ ess) = omega (arith, least_head-most ess)
 
 pub least_head-permutation : (xss yss : List (List Entry)) → IsPermutation xss yss → least_head xss ≤ least_head yss
 least_head-permutation xss yss moved = least_head-past (least_head xss) yss (least_head-most xss) (All-permutation (λ es. least_head xss ≤ head_document es) xss yss moved (least_head-least xss))
@@ -141,20 +141,12 @@ pub length-sought : (t : ℕ) (es : List Entry) → head_document es < t → t �
 length-sought t [] h b = absurd (omega arith)
 length-sought t (e ∷ es) h b = omega (arith, ap length (from-skip t e es h), length-from t es)
 
-head_score-top : (low : ℕ) (limits : Limits) (es : List Entry) → AreEntries low limits es → head_score es ≤ limits.top
-head_score-top low limits [] a = omega arith
-head_score-top low limits (e ∷ es) a = omega arith
-
 -- two readings, one after the other
-map-both : {X Y Z : Type 0} (f : Y → Z) (g : X → Y) (xs : List X) → map f (map g xs) ≡ map (λ x. f (g x)) xs
-map-both f g [] = refl
-map-both f g (x ∷ xs) = ap (λ r. f (g x) ∷ r) (map-both f g xs)
-
 pub read-through : {X Y Z : Type 0} (f : Y → Z) (g : X → Y) (ys : List Y) (xs : List X) → IsPermutation ys (map g xs) → IsPermutation (map f ys) (map (λ x. f (g x)) xs)
-read-through f g ys xs moved = subst (IsPermutation (map f ys)) (map-both f g xs) (IsPermutation-map f ys (map g xs) moved)
+read-through f g ys xs moved = subst (IsPermutation (map f ys)) (map-map f g xs) (IsPermutation-map f ys (map g xs) moved)
 
 pub moved-lists : {X : Type 0} (t : ℕ) (list : X → List Entry) (xs ys : List X) → IsPermutation (map (λ x. from t (list x)) xs) (map (λ x. from t (list x)) ys) → IsPermutation (map (from t) (map list xs)) (map (from t) (map list ys))
-moved-lists t list xs ys moved = rw (map-both (from t) list xs, map-both (from t) list ys) moved
+moved-lists t list xs ys moved = rw (map-map (from t) list xs, map-map (from t) list ys) moved
 
 nat_cmp-less : (b a : ℕ) → b < a → nat_cmp b a ≡ Less
 nat_cmp-less b a less = rw (lt-ltb b a less) refl
@@ -180,103 +172,104 @@ stepped-later limits [] a = omega arith
 stepped-later limits (e ∷ es) a = omega (arith, head_document-bounds (e.document + 1) limits es (omega arith) a.others)
 
 -- The members of a disjunction, each beside the document that it stands on.
-module _ {S : Type 0} (valid placed : S → Type 0) (bound : S → Limits) (list : S → List Entry) (law : (s : S) → valid s → AreEntries 0 (bound s) (list s)) where
-  abbrev pub Stands : ScorerWrapper S → Type 0
-  Stands w = valid w.scorer × placed w.scorer × (w.doc ≡ head_document (list w.scorer))
-
+module _ {S : Type 0} (D : Ghosts S) (law : (s : S) → D.valid s → AreEntries 0 (D.limits s) (D.entries s)) where
   abbrev pub lists_of : List (ScorerWrapper S) → List (List Entry)
-  lists_of xs = map (λ (w : ScorerWrapper S). list w.scorer) xs
+  lists_of xs = map (λ (w : ScorerWrapper S). D.entries w.scorer) xs
+
+  -- the greatest scores of those that stand on a document, added up
+  abbrev tops : ℕ → List (ScorerWrapper S) → ℕ
+  tops d xs = sum_by (λ (w : ScorerWrapper S). cond (nat_eq (head_document (D.entries w.scorer)) d) (D.limits w.scorer).top 0) xs
 
   abbrev pub bounds_of : List (ScorerWrapper S) → List Limits
-  bounds_of xs = map (λ (w : ScorerWrapper S). bound w.scorer) xs
+  bounds_of xs = map (λ (w : ScorerWrapper S). D.limits w.scorer) xs
 
-  pub standing_members : (xs : List (ScorerWrapper S)) → All Stands xs → AreMembers (bounds_of xs) (lists_of xs)
-  standing_members xs all = AreMembers-map (λ (w : ScorerWrapper S). bound w.scorer) (λ w. list w.scorer) xs (All-weaker Stands (λ w. AreEntries 0 (bound w.scorer) (list w.scorer)) (λ w h. law w.scorer h.0) xs all)
+  pub standing_members : (xs : List (ScorerWrapper S)) → All (IsStanding D) xs → AreMembers (bounds_of xs) (lists_of xs)
+  standing_members xs all = AreMembers-map (λ (w : ScorerWrapper S). D.limits w.scorer) (λ w. D.entries w.scorer) xs (All-weaker (IsStanding D) (λ w. AreEntries 0 (D.limits w.scorer) (D.entries w.scorer)) (λ w h. law w.scorer h.valid) xs all)
 
-  first_is-least : (x : ScorerWrapper S) (xs : List (ScorerWrapper S)) → x.doc ≤ TERMINATED → IsUpperBound (least_first (λ w. w.doc)) x xs → All Stands xs → x.doc ≤ least_head (lists_of xs)
+  first_is-least : (x : ScorerWrapper S) (xs : List (ScorerWrapper S)) → x.doc ≤ TERMINATED → IsUpperBound (least_first (λ w. w.doc)) x xs → All (IsStanding D) xs → x.doc ≤ least_head (lists_of xs)
   first_is-least x [] h most all = h
   first_is-least x (y ∷ ys) h most all =
-      let here : y.doc ≡ head_document (list y.scorer) = (All-head Stands y ys all).2 in
-      let rest = first_is-least x ys h most.1 (All-tail Stands y ys all) in
+      let here : y.doc ≡ head_document (D.entries y.scorer) = (All-head (IsStanding D) y ys all).document in
+      let rest = first_is-least x ys h most.1 (All-tail (IsStanding D) y ys all) in
       let order : x.doc ≤ y.doc = below_first x.doc y.doc most.0 in
       omega arith
 
   -- what is first in a heap is the member of the least document
-  pub least_head-first : (x : ScorerWrapper S) (xs rest : List (ScorerWrapper S)) → IsPermutation xs (x ∷ rest) → IsUpperBound (least_first (λ w. w.doc)) x xs → All Stands xs → x.doc ≡ least_head (lists_of xs)
+  pub least_head-first : (x : ScorerWrapper S) (xs rest : List (ScorerWrapper S)) → IsPermutation xs (x ∷ rest) → IsUpperBound (least_first (λ w. w.doc)) x xs → All (IsStanding D) xs → x.doc ≡ least_head (lists_of xs)
   least_head-first x xs rest was most all =
-      let here = All-head Stands x rest (All-permutation Stands xs (x ∷ rest) was all) in
-      let within = head_document-bounds 0 (bound x.scorer) (list x.scorer) (omega arith) (law x.scorer here.0) in
-      let doc : x.doc ≡ head_document (list x.scorer) = here.2 in
+      let here = All-head (IsStanding D) x rest (All-permutation (IsStanding D) xs (x ∷ rest) was all) in
+      let within = head_document-bounds 0 (D.limits x.scorer) (D.entries x.scorer) (omega arith) (law x.scorer here.valid) in
+      let doc : x.doc ≡ head_document (D.entries x.scorer) = here.document in
       let low = first_is-least x xs (omega arith) most all in
-      let high = least_head-permutation (lists_of xs) (list x.scorer ∷ lists_of rest) (IsPermutation-map (λ (w : ScorerWrapper S). list w.scorer) xs (x ∷ rest) was) in
+      let high = least_head-permutation (lists_of xs) (D.entries x.scorer ∷ lists_of rest) (IsPermutation-map (λ (w : ScorerWrapper S). D.entries w.scorer) xs (x ∷ rest) was) in
       omega arith
 
-  tops-cons : (d : ℕ) (x : ScorerWrapper S) (xs : List (ScorerWrapper S)) → tops_at (λ w. list w.scorer) (λ w. bound w.scorer) d (x ∷ xs) ≡ cond (nat_eq (head_document (list x.scorer)) d) (bound x.scorer).top 0 + tops_at (λ w. list w.scorer) (λ w. bound w.scorer) d xs
-  tops-cons d x xs = sum_by-cons (λ (w : ScorerWrapper S). cond (nat_eq (head_document (list w.scorer)) d) (bound w.scorer).top 0) x xs
+  tops-cons : (d : ℕ) (x : ScorerWrapper S) (xs : List (ScorerWrapper S)) → tops d (x ∷ xs) ≡ cond (nat_eq (head_document (D.entries x.scorer)) d) (D.limits x.scorer).top 0 + tops d xs
+  tops-cons d x xs = sum_by-cons (λ (w : ScorerWrapper S). cond (nat_eq (head_document (D.entries w.scorer)) d) (D.limits w.scorer).top 0) x xs
 
-  pub tops_at-total : (d : ℕ) (xs : List (ScorerWrapper S)) → tops_at (λ w. list w.scorer) (λ w. bound w.scorer) d xs ≤ total_top (bounds_of xs)
+  pub tops_at-total : (d : ℕ) (xs : List (ScorerWrapper S)) → tops d xs ≤ total_top (bounds_of xs)
   tops_at-total d [] = omega arith
   tops_at-total d (x ∷ xs) =
       let rest = tops_at-total d xs in
-      let one : cond (nat_eq (head_document (list x.scorer)) d) (bound x.scorer).top 0 ≤ (bound x.scorer).top = at_most (nat_eq (head_document (list x.scorer)) d) (bound x.scorer).top in
-      omega (arith, tops-cons d x xs, sum_by-cons (λ (l : Limits). l.top) (bound x.scorer) (bounds_of xs))
+      let one : cond (nat_eq (head_document (D.entries x.scorer)) d) (D.limits x.scorer).top 0 ≤ (D.limits x.scorer).top = at_most (nat_eq (head_document (D.entries x.scorer)) d) (D.limits x.scorer).top in
+      omega (arith, tops-cons d x xs, sum_by-cons (λ (l : Limits). l.top) (D.limits x.scorer) (bounds_of xs))
 
   -- The first member, at the least document, gives way to one that has moved on.
-  module _ (items rest new : List (ScorerWrapper S)) (x y : ScorerWrapper S) (was : IsPermutation items (x ∷ rest)) (is : IsPermutation (y ∷ rest) new) (most : IsUpperBound (least_first (λ w. w.doc)) x items) (all : All Stands items) where
-    here : Stands x
-    here = All-head Stands x rest (All-permutation Stands items (x ∷ rest) was all)
+  module _ (items rest new : List (ScorerWrapper S)) (x y : ScorerWrapper S) (was : IsPermutation items (x ∷ rest)) (is : IsPermutation (y ∷ rest) new) (most : IsUpperBound (least_first (λ w. w.doc)) x items) (all : All (IsStanding D) items) where
+    here : IsStanding D x
+    here = All-head (IsStanding D) x rest (All-permutation (IsStanding D) items (x ∷ rest) was all)
 
-    doc_here : head_document (list x.scorer) ≡ least_head (lists_of items)
-    doc_here = sym here.2 ∙ least_head-first x items rest was most all
+    doc_here : head_document (D.entries x.scorer) ≡ least_head (lists_of items)
+    doc_here = sym here.document ∙ least_head-first x items rest was most all
 
-    entries_here : AreEntries 0 (bound x.scorer) (list x.scorer)
-    entries_here = law x.scorer here.0
+    entries_here : AreEntries 0 (D.limits x.scorer) (D.entries x.scorer)
+    entries_here = law x.scorer here.valid
 
-    pub moved-fewer : (t : ℕ) → t ≤ TERMINATED → least_head (lists_of items) < t → list y.scorer ≡ from t (list x.scorer) → sum_by (λ (w : ScorerWrapper S). length (list w.scorer)) new < sum_by (λ (w : ScorerWrapper S). length (list w.scorer)) items
+    pub moved-fewer : (t : ℕ) → t ≤ TERMINATED → least_head (lists_of items) < t → D.entries y.scorer ≡ from t (D.entries x.scorer) → sum_by (λ (w : ScorerWrapper S). length (D.entries w.scorer)) new < sum_by (λ (w : ScorerWrapper S). length (D.entries w.scorer)) items
     moved-fewer t h behind sought =
-        let less = length-sought t (list x.scorer) (omega (arith, doc_here)) h in
-        omega (arith, replaced-sum items new rest x y was is (λ (w : ScorerWrapper S). length (list w.scorer)), ap length sought)
+        let less = length-sought t (D.entries x.scorer) (omega (arith, doc_here)) h in
+        omega (arith, replaced-sum items new rest x y was is (λ (w : ScorerWrapper S). length (D.entries w.scorer)), ap length sought)
 
-    pub taken-scores : least_head (lists_of items) < TERMINATED → list y.scorer ≡ drop 1 (list x.scorer) → IsPermutation (scores_at (least_head (lists_of items)) (lists_of items)) (head_score (list x.scorer) ∷ scores_at (least_head (lists_of items)) (lists_of new))
+    pub taken-scores : least_head (lists_of items) < TERMINATED → D.entries y.scorer ≡ drop 1 (D.entries x.scorer) → IsPermutation (scores_at (least_head (lists_of items)) (lists_of items)) (head_score (D.entries x.scorer) ∷ scores_at (least_head (lists_of items)) (lists_of new))
     taken-scores below stepped =
-        let before = IsPermutation-map (λ (w : ScorerWrapper S). list w.scorer) items (x ∷ rest) was in
-        let after = subst (λ r. IsPermutation (r ∷ lists_of rest) (lists_of new)) stepped (IsPermutation-map (λ (w : ScorerWrapper S). list w.scorer) (y ∷ rest) new is) in
-        scores_at-taken (least_head (lists_of items)) (bound x.scorer) (list x.scorer) (lists_of items) (lists_of new) (lists_of rest) before after entries_here doc_here below
+        let before = IsPermutation-map (λ (w : ScorerWrapper S). D.entries w.scorer) items (x ∷ rest) was in
+        let after = subst (λ r. IsPermutation (r ∷ lists_of rest) (lists_of new)) stepped (IsPermutation-map (λ (w : ScorerWrapper S). D.entries w.scorer) (y ∷ rest) new is) in
+        scores_at-taken (least_head (lists_of items)) (D.limits x.scorer) (D.entries x.scorer) (lists_of items) (lists_of new) (lists_of rest) before after entries_here doc_here below
 
-    pub taken-forward : list y.scorer ≡ drop 1 (list x.scorer) → least_head (lists_of items) ≤ least_head (lists_of new)
+    pub taken-forward : D.entries y.scorer ≡ drop 1 (D.entries x.scorer) → least_head (lists_of items) ≤ least_head (lists_of new)
     taken-forward stepped =
-        let before = least_head-permutation (lists_of items) (list x.scorer ∷ lists_of rest) (IsPermutation-map (λ (w : ScorerWrapper S). list w.scorer) items (x ∷ rest) was) in
-        let after = least_head-permutation (list y.scorer ∷ lists_of rest) (lists_of new) (IsPermutation-map (λ (w : ScorerWrapper S). list w.scorer) (y ∷ rest) new is) in
-        omega (arith, stepped-later (bound x.scorer) (list x.scorer) entries_here, ap head_document stepped)
+        let before = least_head-permutation (lists_of items) (D.entries x.scorer ∷ lists_of rest) (IsPermutation-map (λ (w : ScorerWrapper S). D.entries w.scorer) items (x ∷ rest) was) in
+        let after = least_head-permutation (D.entries y.scorer ∷ lists_of rest) (lists_of new) (IsPermutation-map (λ (w : ScorerWrapper S). D.entries w.scorer) (y ∷ rest) new is) in
+        omega (arith, stepped-later (D.limits x.scorer) (D.entries x.scorer) entries_here, ap head_document stepped)
 
-    pub taken-kept : least_head (lists_of items) < TERMINATED → list y.scorer ≡ drop 1 (list x.scorer) → from (least_head (lists_of items) + 1) (list y.scorer) ≡ from (least_head (lists_of items) + 1) (list x.scorer)
-    taken-kept below stepped = ap (from (least_head (lists_of items) + 1)) stepped ∙ from-drop (least_head (lists_of items) + 1) (list x.scorer) (omega (arith, doc_here)) (omega arith)
+    pub taken-kept : least_head (lists_of items) < TERMINATED → D.entries y.scorer ≡ drop 1 (D.entries x.scorer) → from (least_head (lists_of items) + 1) (D.entries y.scorer) ≡ from (least_head (lists_of items) + 1) (D.entries x.scorer)
+    taken-kept below stepped = ap (from (least_head (lists_of items) + 1)) stepped ∙ from-drop (least_head (lists_of items) + 1) (D.entries x.scorer) (omega (arith, doc_here)) (omega arith)
 
-    tops_first : cond (nat_eq (head_document (list x.scorer)) (least_head (lists_of items))) (bound x.scorer).top 0 ≡ (bound x.scorer).top
-    tops_first = rw (eq-eqb (head_document (list x.scorer)) (least_head (lists_of items)) doc_here) refl
+    tops_first : cond (nat_eq (head_document (D.entries x.scorer)) (least_head (lists_of items))) (D.limits x.scorer).top 0 ≡ (D.limits x.scorer).top
+    tops_first = rw (eq-eqb (head_document (D.entries x.scorer)) (least_head (lists_of items)) doc_here) refl
 
-    tops_before : tops_at (λ w. list w.scorer) (λ w. bound w.scorer) (least_head (lists_of items)) items ≡ (bound x.scorer).top + tops_at (λ w. list w.scorer) (λ w. bound w.scorer) (least_head (lists_of items)) rest
-    tops_before = sym (sum_by-IsPermutation (λ (w : ScorerWrapper S). cond (nat_eq (head_document (list w.scorer)) (least_head (lists_of items))) (bound w.scorer).top 0) items (x ∷ rest) was) ∙ tops-cons (least_head (lists_of items)) x rest ∙ ap (λ n. n + tops_at (λ w. list w.scorer) (λ w. bound w.scorer) (least_head (lists_of items)) rest) tops_first
+    tops_before : tops (least_head (lists_of items)) items ≡ (D.limits x.scorer).top + tops (least_head (lists_of items)) rest
+    tops_before = sym (sum_by-IsPermutation (λ (w : ScorerWrapper S). cond (nat_eq (head_document (D.entries w.scorer)) (least_head (lists_of items))) (D.limits w.scorer).top 0) items (x ∷ rest) was) ∙ tops-cons (least_head (lists_of items)) x rest ∙ ap (λ n. n + tops (least_head (lists_of items)) rest) tops_first
 
-    tops_gone : least_head (lists_of items) < TERMINATED → list y.scorer ≡ drop 1 (list x.scorer) → cond (nat_eq (head_document (list y.scorer)) (least_head (lists_of items))) (bound y.scorer).top 0 ≡ 0
+    tops_gone : least_head (lists_of items) < TERMINATED → D.entries y.scorer ≡ drop 1 (D.entries x.scorer) → cond (nat_eq (head_document (D.entries y.scorer)) (least_head (lists_of items))) (D.limits y.scorer).top 0 ≡ 0
     tops_gone below stepped =
-        let past = stepped-past (bound x.scorer) (list x.scorer) entries_here (omega (arith, doc_here)) in
-        let other : head_document (list y.scorer) ≢ least_head (lists_of items) = omega (arith, ap head_document stepped, doc_here) in
-        rw (ne_eqb (head_document (list y.scorer)) (least_head (lists_of items)) other) refl
+        let past = stepped-past (D.limits x.scorer) (D.entries x.scorer) entries_here (omega (arith, doc_here)) in
+        let other : head_document (D.entries y.scorer) ≢ least_head (lists_of items) = omega (arith, ap head_document stepped, doc_here) in
+        rw (ne_eqb (head_document (D.entries y.scorer)) (least_head (lists_of items)) other) refl
 
-    tops_after : least_head (lists_of items) < TERMINATED → list y.scorer ≡ drop 1 (list x.scorer) → tops_at (λ w. list w.scorer) (λ w. bound w.scorer) (least_head (lists_of items)) new ≡ tops_at (λ w. list w.scorer) (λ w. bound w.scorer) (least_head (lists_of items)) rest
+    tops_after : least_head (lists_of items) < TERMINATED → D.entries y.scorer ≡ drop 1 (D.entries x.scorer) → tops (least_head (lists_of items)) new ≡ tops (least_head (lists_of items)) rest
     tops_after below stepped =
-        let moved = sum_by-IsPermutation (λ (w : ScorerWrapper S). cond (nat_eq (head_document (list w.scorer)) (least_head (lists_of items))) (bound w.scorer).top 0) (y ∷ rest) new is in
+        let moved = sum_by-IsPermutation (λ (w : ScorerWrapper S). cond (nat_eq (head_document (D.entries w.scorer)) (least_head (lists_of items))) (D.limits w.scorer).top 0) (y ∷ rest) new is in
         omega (arith, moved, tops-cons (least_head (lists_of items)) y rest, tops_gone below stepped)
 
     -- there is room for the score of the first, and then for those of the others there
-    pub room-first : (scores : List ℕ) → tops_at (λ w. list w.scorer) (λ w. bound w.scorer) (least_head (lists_of items)) items + sum scores ≤ greatest_score → (bound x.scorer).top + sum scores ≤ greatest_score
+    pub room-first : (scores : List ℕ) → tops (least_head (lists_of items)) items + sum scores ≤ greatest_score → (D.limits x.scorer).top + sum scores ≤ greatest_score
     room-first scores h = omega (arith, tops_before)
 
-    pub room-rest : (scores : List ℕ) → least_head (lists_of items) < TERMINATED → list y.scorer ≡ drop 1 (list x.scorer) → tops_at (λ w. list w.scorer) (λ w. bound w.scorer) (least_head (lists_of items)) items + sum scores ≤ greatest_score → tops_at (λ w. list w.scorer) (λ w. bound w.scorer) (least_head (lists_of items)) new + sum (scores ++ head_score (list x.scorer) ∷ []) ≤ greatest_score
+    pub room-rest : (scores : List ℕ) → least_head (lists_of items) < TERMINATED → D.entries y.scorer ≡ drop 1 (D.entries x.scorer) → tops (least_head (lists_of items)) items + sum scores ≤ greatest_score → tops (least_head (lists_of items)) new + sum (scores ++ head_score (D.entries x.scorer) ∷ []) ≤ greatest_score
     room-rest scores below stepped h =
-        let score = head_score-top 0 (bound x.scorer) (list x.scorer) entries_here in
-        omega (arith, tops_before, tops_after below stepped, sum_by-append (λ n. n) scores (head_score (list x.scorer) ∷ []), sum_by-cons (λ n. n) (head_score (list x.scorer)) [])
+        let score = head_score-le 0 (D.limits x.scorer) (D.entries x.scorer) entries_here in
+        omega (arith, tops_before, tops_after below stepped, sum_by-append (λ n. n) scores (head_score (D.entries x.scorer) ∷ []), sum_by-cons (λ n. n) (head_score (D.entries x.scorer)) [])
 
 -- The order of the members is of no consequence for the limits.
 pub united-permutation : (some others : List Limits) → IsPermutation some others → united_limits some ≡ united_limits others
@@ -285,25 +278,14 @@ united-permutation some others moved = ap (λ n. let l : Limits = record { top =
 pub total_top-permutation : (some others : List Limits) → IsPermutation some others → total_top others ≡ total_top some
 total_top-permutation some others moved = sum_by-IsPermutation (λ (l : Limits). l.top) some others moved
 
--- A document that is kept apart, and what is left past it.
-pub head_document-led_by : (d score : ℕ) (es : List Entry) → d ≤ TERMINATED → head_document (led_by d score es) ≡ d
-head_document-led_by d score es h =
-    elim (cases_lt d TERMINATED) [
-      | inl here ↦ ap head_document (led_by-here d score es here)
-      | inr ended ↦ omega (arith, ap head_document (led_by-ended d score es ended))
-    ]
+-- What two moves keep, one after the other, both keep.
+module _ {S Z : Type 0} (D : Ghosts S) (t : ℕ) where
+  pub KeepsFrom-refl : (chain : BinaryHeap (ScorerWrapper S) Z) → KeepsFrom D t chain chain
+  KeepsFrom-refl chain = record { entries = IsPermutation-refl _; limits = IsPermutation-refl _ }
 
-pub head_score-led_by : (d score : ℕ) (es : List Entry) → d < TERMINATED → head_score (led_by d score es) ≡ score
-head_score-led_by d score es h = ap head_score (led_by-here d score es h)
+  pub KeepsFrom-trans : (old between new : BinaryHeap (ScorerWrapper S) Z) → KeepsFrom D t old between → KeepsFrom D t between new → KeepsFrom D t old new
+  KeepsFrom-trans old between new a b = record { entries = IsPermutation-trans _ _ _ a.entries b.entries; limits = IsPermutation-trans _ _ _ a.limits b.limits }
 
-pub led_by-step : (d score : ℕ) (es : List Entry) → d < TERMINATED → drop 1 (led_by d score es) ≡ es
-led_by-step d score es h = ap (drop 1) (led_by-here d score es h)
-
-pub led_by-stay : (d score : ℕ) (es : List Entry) → TERMINATED ≤ d → drop 1 (led_by d score es) ≡ led_by d score es
-led_by-stay d score es h = ap (drop 1) (led_by-ended d score es h) ∙ sym (led_by-ended d score es h)
-
-pub led_by-sought : (t d score : ℕ) (es : List Entry) → d < t → t ≤ TERMINATED → from t (led_by d score es) ≡ from t es
-led_by-sought t d score es h below = ap (from t) (led_by-here d score es (omega arith)) ∙ from-skip t (scored d score) es h
-
-pub led_by-reached : (t d score : ℕ) (limits : Limits) (es : List Entry) → t ≤ d → d ≤ TERMINATED → AreEntries 0 limits (led_by d score es) → from t (led_by d score es) ≡ led_by d score es
-led_by-reached t d score limits es h most a = from-reached t 0 limits (led_by d score es) (omega (arith, head_document-led_by d score es most)) a
+  -- so their lists are the same from there on
+  pub kept-lists : (old new : BinaryHeap (ScorerWrapper S) Z) → KeepsFrom D t old new → IsPermutation (map (from t) (chain_lists D old)) (map (from t) (chain_lists D new))
+  kept-lists old new kept = moved-lists t (λ (w : ScorerWrapper S). D.entries w.scorer) (heap_items old) (heap_items new) kept.entries

@@ -1,7 +1,8 @@
 -- One cursor leads, the others are asked for its documents: what all have in common as they go on.
 use Rattle.std.proofs.Common.{◌≡◌, ℕ, suc, ◌+◌, ◌<◌, ◌≤◌, List, [], ◌∷◌, ◌++◌, All, Any, length, map, min, get_or, take, drop, remove, IsPermutation, refl, ap, sym, ◌∙◌, arith, inl, inr}
 use Rattle.std.proofs.lemmas.Bool.{cases_lt}
-use Rattle.std.proofs.lemmas.List.{append-nil, drop_all, get_or-map, length-map, take_all}
+use Rattle.std.proofs.lemmas.List.{get_or-map, length-map}
+use Rattle.qm_docset.specs.ListFacts.{whole as lent}
 use Rattle.std.proofs.lemmas.List.Elements.{All-cons, All-map, All-weaker}
 use Rattle.qm_docset.specs.Entry.{Entry, Limits, AreEntries, from, greatest_score, head_document, head_score}
 use Rattle.std.proofs.lemmas.List.Sorted.{IsPermutation-map, sum_by-IsPermutation}
@@ -27,9 +28,7 @@ any_other list t es xs one =
 
 -- what a slice of all of a vector's elements leaves in it
 pub whole : {X : Type 0} (count : ℕ) (new old : List X) → length new ≡ length old → count ≡ length old → take count (new ++ drop (length new) old) ≡ new
-whole count new old long is =
-    let none : drop (length new) old ≡ [] = drop_all (length new) old (omega arith) in
-    ap (λ r. take count (new ++ r)) none ∙ ap (take count) (append-nil new) ∙ take_all count new (omega arith)
+whole count new old long is = lent count new (drop (length new) old) (long ∙ sym is)
 
 -- the member taken from the front, and the others
 pub first_removed : {X : Type 0} (xs : List X) (x : X) → 0 < length xs → x ≡ get_or xs 0 x → xs ≡ x ∷ remove xs 0

@@ -4,7 +4,6 @@
 
 mod all_scorer;
 mod boost_scorer;
-mod buffered_union;
 mod const_scorer;
 mod disjunction;
 mod disjunction_max_combiner;
@@ -18,10 +17,10 @@ mod reqopt_scorer;
 mod score_combiner;
 mod scorer;
 mod sum_combiner;
+mod union;
 
 pub use all_scorer::AllScorer;
 pub use boost_scorer::BoostScorer;
-pub use buffered_union::BufferedUnionScorer;
 pub use const_scorer::ConstScorer;
 pub use disjunction::Disjunction;
 pub use disjunction_max_combiner::DisjunctionMaxCombiner;
@@ -37,6 +36,7 @@ pub use reqopt_scorer::RequiredOptionalScorer;
 pub use score_combiner::ScoreCombiner;
 pub use scorer::Scorer;
 pub use sum_combiner::SumCombiner;
+pub use union::BufferedUnionScorer;
 
 #[cfg(test)]
 mod tests;

@@ -24,12 +24,14 @@ get_or-part docs low count k h l =
     let place : low + (k - low) ≡ k = omega arith in
     subst P place (get_or-take count (drop low docs) (k - low) 0 (omega arith) ∙ get_or-drop low docs (k - low) 0)
 
--- nor in a part of the list
-pub rises_in_part : (docs : List ℕ) (low count i j : ℕ) → IsStrictlyIncreasing docs → i ≤ j → j < length (take count (drop low docs)) → get_or (take count (drop low docs)) i 0 ≤ get_or (take count (drop low docs)) j 0
-rises_in_part docs low count i j up h l =
+-- a part of an ascending list ascends
+pub increases_in_part : (docs : List ℕ) (low count : ℕ) → IsStrictlyIncreasing docs → low + count ≤ length docs → IsStrictlyIncreasing (take count (drop low docs))
+increases_in_part docs low count up h k l =
     let size = length-take count (drop low docs) in
     let rest = length-drop low docs in
-    let top = rises docs up (low + i) (low + j) (omega arith) (omega arith) in
-    let first = get_or-take count (drop low docs) i 0 (omega arith) ∙ get_or-drop low docs i 0 in
-    let last = get_or-take count (drop low docs) j 0 (omega arith) ∙ get_or-drop low docs j 0 in
+    let here = get_or-take count (drop low docs) k 0 (omega arith) ∙ get_or-drop low docs k 0 in
+    let next = get_or-take count (drop low docs) (k + 1) 0 (omega arith) ∙ get_or-drop low docs (k + 1) 0 in
+    let on : low + k + 1 ≡ low + (k + 1) = omega arith in
+    let P : ℕ → Type 0 = λ n. get_or docs (low + k) 0 < get_or docs n 0 in
+    let step = subst P on (up (low + k) (omega arith)) in
     omega arith

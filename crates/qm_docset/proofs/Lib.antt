@@ -13,3 +13,4 @@ pub mod CountMembers
 pub mod ExclusionLemmas
 pub mod GallopFacts
 pub mod Plain
+pub mod PlacesLeft

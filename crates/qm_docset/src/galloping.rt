@@ -5,16 +5,22 @@ ghost use Rattle.std.specs.List.Sorted.{IsStrictlyIncreasing};
 
 use crate::numbers::DocId;
 
-// how much of the list is left to be searched when its documents are counted without a branch
-const WINDOW: usize = 32;
+// how many documents are looked at one by one, and how many blocks behind them by their last document
+const NEAR_STEPS: usize = 4;
+
+const NEAR_BLOCKS: usize = 4;
+
+// how many documents a block has: of so many those below the target are counted without a branch
+const BLOCK: usize = 8;
 
 /// The place of the first document at or past `target` in an ascending list, from the place `start`
 /// on, or the list's length where there is none.
 ///
-/// Most targets are near: the document at `start` is looked at first, and then the one behind it. The
-/// stride doubles until it reaches the target, the last stride is halved down to 32 documents, and of
-/// these those below the target are counted. So the cost is logarithmic in the distance from `start`,
-/// not in the list's length.
+/// Most targets are near: the first few documents are looked at one by one, and then a few blocks of
+/// eight by their last document; in the block that has the target the documents below it are
+/// counted. Behind these the stride doubles until it reaches the target, and the last stride is
+/// halved. So the cost is logarithmic in the distance from `start`, not in the list's length.
+#[inline]
 pub fn gallop(docs: &[DocId], start: usize, target: DocId) -> usize
     requires ascending { IsStrictlyIncreasing docs.now }
     requires within { start ≤ length docs.now }
@@ -24,8 +30,39 @@ pub fn gallop(docs: &[DocId], start: usize, target: DocId) -> usize
     ensures reached { result < length docs.now → target ≤ slice_index docs.now result }
 {
     let mut low = start;
+    // all before low are below the target
+    'steps: for _ in 0..NEAR_STEPS {
+        if low == docs.len() || docs[low] >= target {
+            return low;
+        }
+        low += 1;
+    }
+    // as before
+    'skips: for _ in 0..NEAR_BLOCKS {
+        if docs.len() - low < BLOCK {
+            break;
+        }
+        let end = low + BLOCK;
+        if docs[end - 1] >= target {
+            return low + count_below(&docs[low..end], target);
+        }
+        low = end;
+    }
+    gallop_far(docs, low, target)
+}
+
+// The same without a look at what is near.
+fn gallop_far(docs: &[DocId], start: usize, target: DocId) -> usize
+    requires ascending { IsStrictlyIncreasing docs.now }
+    requires within { start ≤ length docs.now }
+    ensures from_start { start ≤ result }
+    ensures within { result ≤ length docs.now }
+    ensures passed { (k : ℕ) → start ≤ k → k < result → slice_index docs.now k < target }
+    ensures reached { result < length docs.now → target ≤ slice_index docs.now result }
+{
+    let mut low = start;
     let mut high = docs.len();
-    let mut stride = 1;
+    let mut stride = BLOCK;
     // all before low are below the target, none from high on is
     while stride <= high - low {
         let probe = low + (stride - 1);
@@ -37,7 +74,7 @@ pub fn gallop(docs: &[DocId], start: usize, target: DocId) -> usize
         stride = stride.saturating_mul(2);
     }
     // as before
-    while high - low > WINDOW {
+    while low < high {
         let middle = low + (high - low) / 2;
         if docs[middle] < target {
             low = middle + 1;
@@ -45,12 +82,23 @@ pub fn gallop(docs: &[DocId], start: usize, target: DocId) -> usize
             high = middle;
         }
     }
+    low
+}
+
+// How many of some ascending documents are below the target, which are the first of them.
+#[inline]
+fn count_below(docs: &[DocId], target: DocId) -> usize
+    requires { IsStrictlyIncreasing docs.now }
+    ensures within { result ≤ length docs.now }
+    ensures passed { (k : ℕ) → k < result → slice_index docs.now k < target }
+    ensures reached { (k : ℕ) → result ≤ k → k < length docs.now → target ≤ slice_index docs.now k }
+{
     let mut below = 0;
-    // the first of the window are below the target, as many as were counted
-    for doc in &docs[low..high] {
+    // the first are below the target, as many as were counted
+    for doc in docs {
         if *doc < target {
             below += 1;
         }
     }
-    low + below
+    below
 }

@@ -6,4 +6,5 @@ mod bit_sets;
 mod cursors;
 mod defaults;
 mod exclusions;
+mod moves;
 mod refused_memory;

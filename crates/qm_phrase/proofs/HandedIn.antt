@@ -23,12 +23,12 @@ fold_max-le n a (x ∷ xs) h all =
     let first = All-head Fits x xs all in
     fold_max-le n (max a x) xs (omega arith) (All-tail Fits x xs all)
 
-map_twice : {X Y Z : Type 0} (g : Y → Z) (f : X → Y) (xs : List X) → map g (map f xs) ≡ map (λ x. g (f x)) xs
+pub map_twice : {X Y Z : Type 0} (g : Y → Z) (f : X → Y) (xs : List X) → map g (map f xs) ≡ map (λ x. g (f x)) xs
 map_twice g f [] = refl
 map_twice g f (x ∷ xs) = ap (λ r. g (f x) ∷ r) (map_twice g f xs)
 
 -- documents without a length id are not listed
-uncovered : (ids : List ℕ) (d : ℕ) (es : List Entry) → AreCovered ids es → length ids ≤ d → entries_of d es ≡ []
+pub uncovered : (ids : List ℕ) (d : ℕ) (es : List Entry) → AreCovered ids es → length ids ≤ d → entries_of d es ≡ []
 uncovered ids d [] covered past = entries_of-nil d
 uncovered ids d (e ∷ es) covered past =
     let Covered : Entry → Type 0 = λ e. e.document < length ids in
@@ -43,7 +43,7 @@ module _ {P : Type 0} (D : Ghosts P) where
       fold_max-le 4294967295 0 (map offset items) (omega arith) (All-map (λ x. x ≤ 4294967295) offset items all)
 
   -- split from their offsets they are terms
-  pub AreTerms-split : (items : List (ℕ × P)) (members : List P) (places : List Places) (greatest : ℕ) → 2 ≤ length items → greatest ≤ 4294967295 → All (λ pair. D.valid pair.1) items → members ≡ map (λ pair. pair.1) items → map shift_of places ≡ map (λ pair. greatest - pair.0) items → AreRoomy (bounds D members) (map room_of places) → AreTerms D members places
+  pub AreTerms-split : (items : List (ℕ × P)) (members : List P) (places : List Places) (greatest : ℕ) → 0 < length items → greatest ≤ 4294967295 → All (λ pair. D.valid pair.1) items → members ≡ map (λ pair. pair.1) items → map shift_of places ≡ map (λ pair. greatest - pair.0) items → AreRoomy (bounds D members) (map room_of places) → AreTerms D members places
   AreTerms-split items members places greatest two most valid is shifts roomy =
       let postings_of : ℕ × P → P = λ pair. pair.1 in
       let shift : ℕ × P → ℕ = λ pair. greatest - pair.0 in
@@ -55,12 +55,12 @@ module _ {P : Type 0} (D : Ghosts P) where
       }
 
   -- a document with a start has a length id
-  first_lacks : (ids : List ℕ) (d : ℕ) (items : List (ℕ × P)) → 2 ≤ length items → All (λ pair. AreCovered ids (D.entries pair.1)) items → length ids ≤ d → positions_at d (get_or (lists D (map (λ pair. pair.1) items)) 0 []) ≡ []
+  first_lacks : (ids : List ℕ) (d : ℕ) (items : List (ℕ × P)) → 0 < length items → All (λ pair. AreCovered ids (D.entries pair.1)) items → length ids ≤ d → positions_at d (get_or (lists D (map (λ pair. pair.1) items)) 0 []) ≡ []
   first_lacks ids d [] two covered past = absurd (omega arith)
   first_lacks ids d (pair ∷ items) two covered past =
       ap head_positions (uncovered ids d (D.entries pair.1) (All-head (λ (p : ℕ × P). AreCovered ids (D.entries p.1)) pair items covered) past)
 
-  pub covered-split : (ids : List ℕ) (slop d : ℕ) (items : List (ℕ × P)) (members : List P) (places : List Places) → 2 ≤ length items → All (λ pair. AreCovered ids (D.entries pair.1)) items → members ≡ map (λ pair. pair.1) items → AreTerms D members places → 0 < term_starts D slop members places d → d < length ids
+  pub covered-split : (ids : List ℕ) (slop d : ℕ) (items : List (ℕ × P)) (members : List P) (places : List Places) → 0 < length items → All (λ pair. AreCovered ids (D.entries pair.1)) items → members ≡ map (λ pair. pair.1) items → AreTerms D members places → 0 < term_starts D slop members places d → d < length ids
   covered-split ids slop d items members places two covered is terms some =
       elim (cases_lt d (length ids)) [
         | inl within ↦ within

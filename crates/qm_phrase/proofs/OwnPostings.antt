@@ -1,7 +1,8 @@
 -- A list of one entry, as a cursor goes past it.
-use Rattle.std.proofs.Common.{◌≡◌, ℕ, zero, suc, ◌<◌, ◌≤◌, [], ◌∷◌, drop, refl, ap, sym, ◌∙◌, arith}
+use Rattle.std.proofs.Common.{◌≡◌, ℕ, zero, suc, ◌+◌, ◌<◌, ◌≤◌, List, [], ◌∷◌, All, drop, refl, ap, sym, ◌∙◌, arith}
 use Rattle.std.proofs.lemmas.List.{drop_all}
-use Rattle.qm_docset.specs.Entry.{Entry, from, head_document, head_positions}
+use Rattle.std.proofs.lemmas.List.Elements.{All-cons, All-nil}
+use Rattle.qm_docset.specs.Entry.{Entry, Limits, AreEntries, from, head_document, head_positions}
 use Rattle.qm_docset.specs.EntryFacts.{from-keep, from-nil, from-skip}
 use Rattle.qm_docset.specs.declared.numbers.TheConstants.{TERMINATED}
 
@@ -23,3 +24,8 @@ one-stays (suc n) t e h = let none = drop_all (suc n) (e ∷ []) (omega arith) i
 -- and its positions are those of the entry
 pub one-positions : (n : ℕ) (e : Entry) → head_document (drop n (e ∷ [])) < TERMINATED → head_positions (drop n (e ∷ [])) ≡ e.positions
 one-positions n e h = ap (λ m. head_positions (drop m (e ∷ []))) (one-here n e h)
+
+-- every document is below the end
+pub all-below_end : (low : ℕ) (limits : Limits) (es : List Entry) → AreEntries low limits es → All (λ e. e.document < TERMINATED) es
+all-below_end low limits [] a = All-nil (λ e. e.document < TERMINATED)
+all-below_end low limits (e ∷ es) a = All-cons (λ e. e.document < TERMINATED) e es a.here.below_end (all-below_end (e.document + 1) limits es a.others)

@@ -24,7 +24,7 @@ held n = min 4294967295 n
 abbrev pub by_counts : (ℕ → ℕ → ℕ) → (ℕ → ℕ) → List Entry
 by_counts points f = listed (λ d. nat_lt 0 (held (f d))) (λ d. scored d (points d (held (f d))))
 
-kept-none : (n : ℕ) → n ≡ 0 → nat_lt 0 (held n) ≡ false
+pub kept-none : (n : ℕ) → n ≡ 0 → nat_lt 0 (held n) ≡ false
 kept-none n none = ap (λ m. nat_lt 0 (held m)) none
 
 kept-some : (n : ℕ) → 0 < n → nat_lt 0 (held n) ≡ true

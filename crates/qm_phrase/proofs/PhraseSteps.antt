@@ -17,7 +17,7 @@ use Rattle.qm_phrase.proofs.TermSteps.{get_or-shifted_each, length-shifted_each}
 
 -- What the lists say from a target on is all that counts there.
 
-positions_at-from : (t d : ℕ) (ess : List (List Entry)) → t ≤ d → map (positions_at d) (map (from t) ess) ≡ map (positions_at d) ess
+pub positions_at-from : (t d : ℕ) (ess : List (List Entry)) → t ≤ d → map (positions_at d) (map (from t) ess) ≡ map (positions_at d) ess
 positions_at-from t d [] h = refl
 positions_at-from t d (es ∷ ess) h =
     let here : positions_at d (from t es) ≡ positions_at d es = ap head_positions (entries_of-from d t es h) in
@@ -66,11 +66,11 @@ first_stands {X} Placed list d (x ∷ xs) some all =
     (0, x, omega arith, refl, omega arith)
 
 -- where a cursor stands on a document, these are its positions there
-positions_at-here : (d : ℕ) (limits : Limits) (es : List Entry) → AreEntries 0 limits es → head_document es ≡ d → d < TERMINATED → positions_at d es ≡ head_positions es
+pub positions_at-here : (d : ℕ) (limits : Limits) (es : List Entry) → AreEntries 0 limits es → head_document es ≡ d → d < TERMINATED → positions_at d es ≡ head_positions es
 positions_at-here d limits [] a h below = absurd (omega arith)
 positions_at-here d limits (e ∷ es) a h below = ap (λ n. head_positions (entries_of n (e ∷ es))) (sym h) ∙ ap head_positions (entries_of-first 0 limits e es a)
 
-positions_at-members : {X : Type 0} (valid Placed : X → Type 0) (bound : X → Limits) (list : X → List Entry) → ((x : X) → valid x → AreEntries 0 (bound x) (list x)) → (d : ℕ) (xs : List X) → d < TERMINATED → All valid xs → All (λ x. Placed x × (head_document (list x) ≡ d)) xs → map (positions_at d) (map list xs) ≡ map head_positions (map list xs)
+pub positions_at-members : {X : Type 0} (valid Placed : X → Type 0) (bound : X → Limits) (list : X → List Entry) → ((x : X) → valid x → AreEntries 0 (bound x) (list x)) → (d : ℕ) (xs : List X) → d < TERMINATED → All valid xs → All (λ x. Placed x × (head_document (list x) ≡ d)) xs → map (positions_at d) (map list xs) ≡ map head_positions (map list xs)
 positions_at-members valid Placed bound list law d [] below all here = refl
 positions_at-members {X} valid Placed bound list law d (x ∷ xs) below all here =
     let Stands : X → Type 0 = λ x. Placed x × (head_document (list x) ≡ d) in

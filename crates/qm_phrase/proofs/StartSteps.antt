@@ -14,7 +14,7 @@ use Rattle.qm_phrase.specs.Places.{Ascends, first_place, least_first, greatest_f
 abbrev pub one_if : Bool → ℕ
 one_if b = cond b 1 0
 
-count_by-same : (p q : ℕ → Bool) (a n : ℕ) → ((y : ℕ) → a ≤ y → p y ≡ q y) → count_by p (range_with_len a n) ≡ count_by q (range_with_len a n)
+pub count_by-same : (p q : ℕ → Bool) (a n : ℕ) → ((y : ℕ) → a ≤ y → p y ≡ q y) → count_by p (range_with_len a n) ≡ count_by q (range_with_len a n)
 count_by-same p q a zero same = refl
 count_by-same p q a (suc n) same =
     let ds = range_with_len (a + 1) n in
@@ -38,7 +38,7 @@ count_by-split p q x a (suc n) low high same lacks =
           omega (arith, first, second, ap one_if (same a other), rest)
     ]
 
-count_by-none : (p : ℕ → Bool) (a n : ℕ) → ((y : ℕ) → p y ≡ false) → count_by p (range_with_len a n) ≡ 0
+pub count_by-none : (p : ℕ → Bool) (a n : ℕ) → ((y : ℕ) → p y ≡ false) → count_by p (range_with_len a n) ≡ 0
 count_by-none p a zero lacks = refl
 count_by-none p a (suc n) lacks =
     omega (arith, sum_by-cons (λ y. one_if (p y)) a (range_with_len (a + 1) n), ap one_if (lacks a), count_by-none p (a + 1) n lacks)
@@ -145,14 +145,14 @@ pub All-past : (low x : ℕ) (sets : List (List ℕ)) → All (Ascends low) sets
 All-past low x sets all = All-map (Ascends low) (past x) sets (All-weaker (Ascends low) (λ s. Ascends low (past x s)) (Ascends-past low x) sets all)
 
 -- behind the place that some begin with, the same numbers are starts, but for that one
-is_start-past : (slop x : ℕ) (sets : List (List ℕ)) → All (Ascends x) sets → (y : ℕ) → y ≢ x → is_start slop sets y ≡ is_start slop (map (past x) sets) y
+pub is_start-past : (slop x : ℕ) (sets : List (List ℕ)) → All (Ascends x) sets → (y : ℕ) → y ≢ x → is_start slop sets y ≡ is_start slop (map (past x) sets) y
 is_start-past slop x sets all y other =
     elim (cases_lt y x) [
       | inl below ↦ rw (is_place-past_other y x sets other, is_place-below y x sets below all) refl
       | inr beyond ↦ rw (is_place-past_other y x sets other, near-past slop y x sets (omega arith)) refl
     ]
 
-is_start-past_here : (slop x : ℕ) (sets : List (List ℕ)) → All (Ascends x) sets → is_start slop (map (past x) sets) x ≡ false
+pub is_start-past_here : (slop x : ℕ) (sets : List (List ℕ)) → All (Ascends x) sets → is_start slop (map (past x) sets) x ≡ false
 is_start-past_here slop x sets all = rw (is_place-past_here x sets all) refl
 
 starts_below-step : (slop x n : ℕ) (sets : List (List ℕ)) → x < n → All (Ascends x) sets → starts_below slop sets n ≡ one_if (is_start slop sets x) + starts_below slop (map (past x) sets) n
@@ -213,7 +213,7 @@ pub is_start-least : (slop x : ℕ) (sets : List (List ℕ)) → x ≡ least_fir
 is_start-least slop x sets least below h all = rw (is_place-least x sets least below) (near-greatest slop x sets h all)
 
 -- where a set has no place left, there is no start
-near-empty : (slop y : ℕ) (sets : List (List ℕ)) → greatest_first sets ≡ all_places → All (Ascends 0) sets → list_all (λ s. has_near slop y s) sets ≡ false
+pub near-empty : (slop y : ℕ) (sets : List (List ℕ)) → greatest_first sets ≡ all_places → All (Ascends 0) sets → list_all (λ s. has_near slop y s) sets ≡ false
 near-empty slop y [] h all = absurd (omega arith)
 near-empty slop y ([] ∷ sets) h all = refl
 near-empty slop y ((p ∷ ps) ∷ sets) h all =
@@ -239,6 +239,22 @@ pub least_first-past : (x : ℕ) (sets : List (List ℕ)) → x < all_places →
 least_first-past x [] h all = h
 least_first-past x (s ∷ sets) h all =
     omega (arith, first_place-past x s h (All-head (Ascends x) s sets all), least_first-past x sets h (All-tail (Ascends x) s sets all))
+
+-- what is known where some set has a least place
+pub within : (sets : List (List ℕ)) (least greatest : ℕ) → 0 < length sets → least ≡ least_first sets → greatest ≡ greatest_first sets → (greatest ≡ all_places → ⊥) → All (Ascends 0) sets → (least < all_places) × (greatest_first sets < all_places) × All (Ascends least) sets
+within sets least greatest some is most here all =
+    let below : greatest_first sets < all_places = omega (arith, greatest_first-most sets all) in
+    let under : least < all_places = omega (arith, least_first-le sets some) in
+    (under, below, All-least least sets (omega arith) all)
+
+-- the place is counted exactly where the greatest is within the slop
+pub counted : (sets : List (List ℕ)) (slop least : ℕ) → least ≡ least_first sets → least < all_places → greatest_first sets < all_places → All (Ascends least) sets → (greatest_first sets ≤ least + slop → starts slop sets ≡ 1 + starts slop (map (past least) sets)) × (least + slop < greatest_first sets → starts slop sets ≡ starts slop (map (past least) sets))
+counted sets slop least is under below all =
+    let step = starts-step slop least sets under all in
+    let start = is_start-least slop least sets is under below all in (
+      (λ near. omega (arith, step, ap one_if (start ∙ le-leb (greatest_first sets) (least + slop) near))),
+      (λ far. omega (arith, step, ap one_if (start ∙ lt-leb (greatest_first sets) (least + slop) far))),
+    )
 
 -- one more set
 pub least_first-push : (sets : List (List ℕ)) (s : List ℕ) → least_first (sets ++ s ∷ []) ≡ min (first_place s) (least_first sets)

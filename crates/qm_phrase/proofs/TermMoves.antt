@@ -18,7 +18,7 @@ use Rattle.qm_phrase.proofs.PhraseSteps.{starts_at-behind, starts_at-from, start
 use Rattle.qm_phrase.proofs.TermSteps.{length-roomy}
 
 module _ {P : Type 0} (D : Ghosts P) where
-  abbrev Law : Type 0
+  abbrev pub Law : Type 0
   Law = (x : P) → D.valid x → AreEntries 0 (D.limits x) (D.entries x)
 
   pub paired : (members : List P) (places : List Places) → AreTerms D members places → length (map shift_of places) ≡ length members
@@ -60,7 +60,7 @@ module _ {P : Type 0} (D : Ghosts P) where
     pub left : map (from doc) (lists D new) ≡ map (from doc) (lists D members)
     pub bare : IsBareFrom D slop members places target doc
 
-  from_later : (t u : ℕ) (ess : List (List Entry)) → t ≤ u → map (from u) (map (from t) ess) ≡ map (from u) ess
+  pub from_later : (t u : ℕ) (ess : List (List Entry)) → t ≤ u → map (from u) (map (from t) ess) ≡ map (from u) ess
   from_later t u [] h = refl
   from_later t u (es ∷ ess) h =
       let here = from-from t u es h in

@@ -51,7 +51,7 @@ Ascends-shifted low shift (p ∷ ps) h a =
     let rest : Ascends (p + shift + 1) (shifted shift ps) = subst (λ n. Ascends n (shifted shift ps)) next (Ascends-shifted (p + 1) shift ps h a.2) in
     (omega arith, omega arith, rest)
 
-Ascends-zero : (shift : ℕ) (ps : List ℕ) → shift ≤ 4294967295 → ArePositions ps → Ascends 0 (shifted shift ps)
+pub Ascends-zero : (shift : ℕ) (ps : List ℕ) → shift ≤ 4294967295 → ArePositions ps → Ascends 0 (shifted shift ps)
 Ascends-zero shift [] h a = tt
 Ascends-zero shift (p ∷ ps) h a = let all = Ascends-shifted 0 shift (p ∷ ps) h a in (omega arith, all.1, all.2)
 

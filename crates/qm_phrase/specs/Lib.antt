@@ -4,5 +4,13 @@ pub mod Phrase
 pub mod PhraseFacts
 pub mod Terms
 pub mod PhraseScorer
+pub mod PhrasePrefix
+pub mod PhrasePrefixFacts
+pub mod PrefixTerms
+pub mod PhrasePrefixScorer
 pub mod PostingsWithOffset
 pub mod PrefixEnd
+pub mod PostingUnions
+pub mod PostingUnionFacts
+pub mod SimpleUnion
+pub mod BitSetPostingUnion

@@ -13,7 +13,7 @@ use Rattle.qm_term.specs.declared.bm25.Bm25Weight.{Bm25Weight}
 use Rattle.qm_phrase.specs.Phrase.{count_at, phrase_entries, phrase_limits, phrase_points}
 
 -- no points are above the limit
-phrase_points-le : (weight : Option Bm25Weight) (ids : List ℕ) (d count : ℕ) → phrase_points weight ids d count ≤ (phrase_limits weight).top
+pub phrase_points-le : (weight : Option Bm25Weight) (ids : List ℕ) (d count : ℕ) → phrase_points weight ids d count ≤ (phrase_limits weight).top
 phrase_points-le None ids d count = omega arith
 phrase_points-le (Some weight) ids d count = bm25-le (weighing weight) (slice_index_or ids d 0) count
 

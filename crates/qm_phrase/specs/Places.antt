@@ -8,6 +8,10 @@ use Rattle.qm_phrase.specs.declared.places.Places.{Places}
 abbrev pub places_left : Places → List ℕ
 places_left row = shifted row.shift (drop row.passed row.positions.items)
 
+-- all its places, passed or not
+abbrev pub places_of : Places → List ℕ
+places_of row = shifted row.shift row.positions.items
+
 -- how far positions are shifted
 abbrev pub shift_of : Places → ℕ
 shift_of row = row.shift

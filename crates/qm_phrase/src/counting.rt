@@ -8,7 +8,7 @@ use crate::places::{ALL_PLACES, Places};
 
 /// The least and the greatest of the first places; [`ALL_PLACES`] stands for that of a term which has
 /// none left.
-fn first_places(rows: &[Places]) -> (u64, u64)
+pub(crate) fn first_places(rows: &[Places]) -> (u64, u64)
     ensures least { result.0 ≡ least_first (map places_left rows.now) }
     ensures greatest { result.1 ≡ greatest_first (map places_left rows.now) }
 {
@@ -23,7 +23,7 @@ fn first_places(rows: &[Places]) -> (u64, u64)
 }
 
 /// Lets every term that begins with a place pass it.
-fn pass(rows: &mut [Places], place: u64)
+pub(crate) fn pass(rows: &mut [Places], place: u64)
     requires { place < ALL_PLACES }
     ensures left { map places_left rows.new ≡ map (past place) (map places_left rows.old) }
     ensures shifts { map shift_of rows.new ≡ map shift_of rows.old }

@@ -5,17 +5,25 @@
 //! says so.
 #![tactic(auto)]
 
+mod common_places;
 mod counting;
+mod full_terms;
 mod offsets;
+mod phrase_prefix_scorer;
 mod phrase_scorer;
 mod places;
 mod postings_with_offset;
 mod prefix;
+mod prefix_terms;
+mod suffixes;
 mod terms;
+mod union;
 
+pub use phrase_prefix_scorer::PhrasePrefixScorer;
 pub use phrase_scorer::PhraseScorer;
 pub use postings_with_offset::PostingsWithOffset;
 pub use prefix::prefix_end;
+pub use union::{BitSetPostingUnion, SimpleUnion};
 
 #[cfg(test)]
 mod tests;

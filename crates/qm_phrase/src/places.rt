@@ -1,9 +1,9 @@
 //! The places of one term in a document.
 
-ghost use Rattle.std.specs.Prelude.{◌≡◌, ◌<◌, ◌≤◌, IfOk};
+ghost use Rattle.std.specs.Prelude.{◌≡◌, ◌<◌, ◌≤◌, ◌++◌, ◌∷◌, [], IfOk, length, min};
 ghost use Rattle.qm_docset.specs.Entry.{head_document, head_positions};
 ghost use Rattle.qm_postings.specs.Positions.{shifted};
-ghost use Rattle.qm_phrase.specs.Places.{first_place, past, places_left, room_of, shift_of};
+ghost use Rattle.qm_phrase.specs.Places.{first_place, past, places_left, places_of, room_of, shift_of};
 
 use qm_docset::TERMINATED;
 use qm_postings::Postings;
@@ -52,12 +52,52 @@ impl Places {
     pub(crate) fn pass(&mut self, place: u64)
         requires { place < ALL_PLACES }
         ensures left { places_left self.new ≡ past place (places_left self.old) }
+        ensures all { places_of self.new ≡ places_of self.old }
         ensures shift { shift_of self.new ≡ shift_of self.old }
         ensures room { room_of self.new ≡ room_of self.old }
     {
         if self.first() == place {
             self.passed += 1;
         }
+    }
+
+    /// Begins anew with its first place.
+    pub(crate) fn rewind(&mut self)
+        ensures left { places_left self.new ≡ places_of self.old }
+        ensures all { places_of self.new ≡ places_of self.old }
+        ensures shift { shift_of self.new ≡ shift_of self.old }
+        ensures room { room_of self.new ≡ room_of self.old }
+    {
+        self.passed = 0;
+    }
+
+    /// Drops all places.
+    pub(crate) fn clear(&mut self)
+        ensures none { places_of self.new ≡ [] }
+        ensures shift { shift_of self.new ≡ shift_of self.old }
+        ensures room { room_of self.old ≤ room_of self.new }
+    {
+        self.positions.clear();
+        self.passed = 0;
+    }
+
+    /// Adds the first place of a row that is shifted alike. Takes no memory: asks for the room.
+    pub(crate) fn push_first(&mut self, row: &Places)
+        requires shift { shift_of self.old ≡ shift_of row.now }
+        requires some { first_place (places_left row.now) < ALL_PLACES }
+        requires room { length (places_of self.old) < room_of self.old }
+        ensures all { places_of self.new ≡ places_of self.old ++ first_place (places_left row.now) ∷ [] }
+        ensures shift { shift_of self.new ≡ shift_of self.old }
+        ensures room { room_of self.old ≤ room_of self.new }
+    {
+        self.positions.push(row.positions[row.passed]).unwrap();
+    }
+
+    /// How many places there are, held at 4294967295.
+    pub(crate) fn len(&self) -> u32
+        ensures { result ≡ min 4294967295 (length (places_of self.now)) }
+    {
+        self.positions.len().min(u32::MAX as usize) as u32
     }
 
     /// Reads the positions of a term in the document that it stands on, and begins anew. Takes no

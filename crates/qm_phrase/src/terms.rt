@@ -16,7 +16,7 @@ use qm_docset::{DocId, DocSet, SeekDangerResult, TERMINATED};
 use qm_postings::Postings;
 
 /// Reads the positions of every term in the document that all of them stand on. Takes no memory.
-fn read_places<P: Postings>(members: &mut [P], places: &mut [Places])
+pub(crate) fn read_places<P: Postings>(members: &mut [P], places: &mut [Places])
     requires valid { All P.valid members.old }
     requires here { All (λ m. P.placed m × (head_document (P.entries m) < TERMINATED)) members.old }
     requires roomy { AreRoomy (bounds P.DocSet members.old) (map room_of places.old) }
@@ -24,6 +24,7 @@ fn read_places<P: Postings>(members: &mut [P], places: &mut [Places])
     ensures shifts { map shift_of places.new ≡ map shift_of places.old }
     ensures roomy { AreRoomy (bounds P.DocSet members.new) (map room_of places.new) }
     ensures entries { lists P.DocSet members.new ≡ lists P.DocSet members.old }
+    ensures limits { bounds P.DocSet members.new ≡ bounds P.DocSet members.old }
     ensures valid { All P.valid members.new }
 {
     for (i, row) in places.iter_mut().enumerate() {

@@ -7,6 +7,7 @@ pub mod FoundTerms
 pub mod LengthsKept
 pub mod HeldTerms
 pub mod TermPlaces
+pub mod TermPositions
 pub mod TermRanges
 pub mod ColumnSteps
 pub mod TermChecks
@@ -17,4 +18,7 @@ pub mod Rows
 pub mod Layouts
 pub mod Pushes
 pub mod NumberedPostings
+pub mod PositionRows
+pub mod PositionBlocks
 pub mod GroupedPostings
+pub mod TermHeads

@@ -9,7 +9,7 @@ use Rattle.std.specs.Map.{keys_of}
 use Rattle.std.proofs.lemmas.Bool.{cases_eq}
 use Rattle.std.proofs.lemmas.List.{append-nil, length-map, get_or-map, get_or_append_left, get_or_push, get_or_past, length_push, ext_get_or}
 use Rattle.std.proofs.lemmas.Bool.Decides.{eqb_tells}
-use Rattle.std.proofs.lemmas.List.Elements.{All-nil, All-weaker, All-append, All-map, filter-append}
+use Rattle.std.proofs.lemmas.List.Elements.{All-nil, All-weaker, All-append, All-filter, All-map, filter-append}
 use Rattle.std.proofs.lemmas.List.FromFn.{map-range_with_len_more, length-map-range_with_len, get_or-map-range_with_len, fill_by_all}
 use Rattle.std.proofs.lemmas.List.Sorted.{Contains-permutation, IsPermutation-sym}
 use Rattle.std.proofs.lemmas.Map.Made.{IsDistinct-keys_filter}
@@ -22,7 +22,8 @@ use Rattle.qm_schema.specs.Term.{term_cmp}
 use Rattle.qm_postings.specs.Building.{IsWithRow, with_length, posting_of, postings_of_document}
 use Rattle.qm_postings.specs.Document.{Given, Draft}
 use Rattle.qm_postings.specs.Index.{AreColumns, ArePosted, Posted, held, document_from, documents_from, segment_from, terms_in}
-use Rattle.qm_postings.specs.Segment.{AscendFrom, IsGood, Segment, document_of, is_indexed, keeps_lengths, kept, length_given, no_document, with_document}
+use Rattle.qm_postings.specs.KeptPositions.{IsCounted}
+use Rattle.qm_postings.specs.Segment.{AscendFrom, IsGood, Segment, document_of, is_indexed, keeps_lengths, keeps_positions, kept, length_given, no_document, with_document}
 use Rattle.qm_postings.proofs.SameEntries.{map-map, filter-map, filter_all, filter_none, members_kept, same_entries_map}
 use Rattle.qm_postings.proofs.TermChecks.{terms_of, distinct_in_any_order}
 
@@ -86,41 +87,55 @@ module _ (schema : List FieldFacts) (n : ℕ) (ps : List Posted) (gs : List Give
   at_new =
       filter-append (λ p. p.document == n) ps (postings_of_document schema n gs)
       ∙ ap (λ l. l ++ filter (λ p. p.document == n) (postings_of_document schema n gs)) (filter_none (λ p. p.document == n) ps (All-weaker (λ p. p.document < n) (λ p. (p.document == n) ≡ false) (λ p h. differ p.document n (omega arith)) ps below))
-      ∙ filter_all (λ p. p.document == n) (postings_of_document schema n gs) (All-map (λ p. (p.document == n) ≡ true) (posting_of n) (filter (λ g. is_indexed schema g.term.field) gs) (λ k d h. same_number n))
+      ∙ filter_all (λ p. p.document == n) (postings_of_document schema n gs) (All-map (λ p. (p.document == n) ≡ true) (posting_of schema n) (filter (λ g. is_indexed schema g.term.field) gs) (λ k d h. same_number n))
 
   pub at_earlier : (d : ℕ) → d ≢ n → filter (λ p. p.document == d) (ps ++ postings_of_document schema n gs) ≡ filter (λ p. p.document == d) ps
   at_earlier d ne =
       filter-append (λ p. p.document == d) ps (postings_of_document schema n gs)
       ∙ ap (λ l. filter (λ p. p.document == d) ps ++ l) (filter_none (λ p. p.document == d) (postings_of_document schema n gs)
-      (All-map (λ p. (p.document == d) ≡ false) (posting_of n) (filter (λ g. is_indexed schema g.term.field) gs) (λ k e h. differ n d (λ i. ne (sym i)))))
+      (All-map (λ p. (p.document == d) ≡ false) (posting_of schema n) (filter (λ g. is_indexed schema g.term.field) gs) (λ k e h. differ n d (λ i. ne (sym i)))))
       ∙ append-nil _
 
 -- the terms of the indexed fields still differ
-pub distinct_kept : (schema : List FieldFacts) (gs : List Given) → IsDistinct (eq_by_cmp term_cmp) (terms_of gs) → IsDistinct (eq_by_cmp term_cmp) (keys_of (map kept (filter (λ g. is_indexed schema g.term.field) gs)))
+pub distinct_kept : (schema : List FieldFacts) (gs : List Given) → IsDistinct (eq_by_cmp term_cmp) (terms_of gs) → IsDistinct (eq_by_cmp term_cmp) (keys_of (map (kept schema) (filter (λ g. is_indexed schema g.term.field) gs)))
 distinct_kept schema gs once =
-    subst (λ es. IsDistinct (eq_by_cmp term_cmp) (keys_of es)) (filter-map (λ e. is_indexed schema e.0.field) kept gs)
-    (IsDistinct-keys_filter (eq_by_cmp term_cmp) (λ e. is_indexed schema e.0.field) (map kept gs) (subst (IsDistinct (eq_by_cmp term_cmp)) (sym (map-map (λ e. e.0) kept gs)) once))
+    subst (λ es. IsDistinct (eq_by_cmp term_cmp) (keys_of es)) (filter-map (λ e. is_indexed schema e.0.field) (kept schema) gs)
+    (IsDistinct-keys_filter (eq_by_cmp term_cmp) (λ e. is_indexed schema e.0.field) (map (kept schema) gs) (subst (IsDistinct (eq_by_cmp term_cmp)) (sym (map-map (λ e. e.0) (kept schema) gs)) once))
 
 pub posted_more : (schema : List FieldFacts) (n : ℕ) (ps : List Posted) (gs : List Given) → ArePosted n ps → IsDistinct (eq_by_cmp term_cmp) (terms_of gs) → ArePosted (n + 1) (ps ++ postings_of_document schema n gs)
 posted_more schema n ps gs are once = record {
   below = All-append (λ p. p.document < n + 1) ps (postings_of_document schema n gs)
       (All-weaker (λ p. p.document < n) (λ p. p.document < n + 1) (λ p h. omega arith) ps are.below)
-      (All-map (λ p. p.document < n + 1) (posting_of n) (filter (λ g. is_indexed schema g.term.field) gs) (λ k d h. omega arith));
+      (All-map (λ p. p.document < n + 1) (posting_of schema n) (filter (λ g. is_indexed schema g.term.field) gs) (λ k d h. omega arith));
   once = λ d. elim (cases_eq d n) [
     | inl e ↦ subst (λ m. IsDistinct (eq_by_cmp term_cmp) (terms_in (ps ++ postings_of_document schema n gs) m)) (sym e)
         (subst (λ l. IsDistinct (eq_by_cmp term_cmp) (map (λ p. p.term) l)) (sym (at_new schema n ps gs are.below))
-        (subst (IsDistinct (eq_by_cmp term_cmp)) (map-map (λ e. e.0) kept _ ∙ sym (map-map (λ p. p.term) (posting_of n) _)) (distinct_kept schema gs once)))
+        (subst (IsDistinct (eq_by_cmp term_cmp)) (map-map (λ e. e.0) (kept schema) _ ∙ sym (map-map (λ p. p.term) (posting_of schema n) _)) (distinct_kept schema gs once)))
     | inr ne ↦ subst (λ l. IsDistinct (eq_by_cmp term_cmp) (map (λ p. p.term) l)) (sym (at_earlier schema n ps gs are.below d ne)) (are.once d)
   ];
 }
 
+-- the positions that are kept of a term that a document was given
+counted_one : (schema : List FieldFacts) (n : ℕ) (g : Given) → AscendFrom 0 g.positions → IsCounted schema (posting_of schema n g)
+counted_one schema n g up = let h = go (keeps_positions schema g.term.field) in record { count = h.0; ascending = h.1 }
+  where
+    go : (b : Bool) → (length (cond b g.positions []) ≡ cond b (length g.positions) 0) × AscendFrom 0 (cond b g.positions [])
+    go true = (refl, up)
+    go false = (refl, tt)
+
+pub counted_more : (schema : List FieldFacts) (n : ℕ) (ps : List Posted) (gs : List Given) → All (IsCounted schema) ps → All (λ g. AscendFrom 0 g.positions) gs → All (IsCounted schema) (ps ++ postings_of_document schema n gs)
+counted_more schema n ps gs had up =
+    All-append (IsCounted schema) ps (postings_of_document schema n gs) had
+    (All-map (IsCounted schema) (posting_of schema n) (filter (λ g. is_indexed schema g.term.field) gs)
+    (All-filter (λ g. is_indexed schema g.term.field) (λ g. IsCounted schema (posting_of schema n g)) gs (All-weaker (λ g. AscendFrom 0 g.positions) (λ g. IsCounted schema (posting_of schema n g)) (counted_one schema n) gs up)))
+
 -- the document that is kept does not depend on the order of its terms
 pub kept_in_any_order : (schema : List FieldFacts) (terms sorted : List Given) → IsPermutation terms sorted → IsDistinct (eq_by_cmp term_cmp) (terms_of terms) → IsDistinct (eq_by_cmp term_cmp) (terms_of sorted) →
-    from_entries {R = term_cmp} (map kept (filter (λ g. is_indexed schema g.term.field) sorted)) ≡ from_entries (map kept (filter (λ g. is_indexed schema g.term.field) terms))
+    from_entries {R = term_cmp} (map (kept schema) (filter (λ g. is_indexed schema g.term.field) sorted)) ≡ from_entries (map (kept schema) (filter (λ g. is_indexed schema g.term.field) terms))
 kept_in_any_order schema terms sorted moved once again =
     same_entries_map _ _ (distinct_kept schema sorted again) (distinct_kept schema terms once)
-    (members_kept kept (λ g. is_indexed schema g.term.field) terms sorted (λ y c. Contains-permutation sorted terms y (IsPermutation-sym terms sorted moved) c))
-    (members_kept kept (λ g. is_indexed schema g.term.field) sorted terms (λ y c. Contains-permutation terms sorted y moved c))
+    (members_kept (kept schema) (λ g. is_indexed schema g.term.field) terms sorted (λ y c. Contains-permutation sorted terms y (IsPermutation-sym terms sorted moved) c))
+    (members_kept (kept schema) (λ g. is_indexed schema g.term.field) sorted terms (λ y c. Contains-permutation terms sorted y moved c))
 
 module _ (schema : List FieldFacts) (n : ℕ) (ps : List Posted) (columns grown : List (List ℕ)) (draft : Draft) (sorted : List Given) (posted : ArePosted n ps) (are : AreColumns schema n columns) (moved : IsPermutation draft.terms sorted) (good : IsGood schema draft) (row : IsWithRow schema draft.lengths columns grown) where
   again : IsDistinct (eq_by_cmp term_cmp) (terms_of sorted)
@@ -135,7 +150,7 @@ module _ (schema : List FieldFacts) (n : ℕ) (ps : List Posted) (columns grown 
   new_document : document_from (ps ++ postings_of_document schema n sorted) grown n ≡ document_of schema draft
   new_document =
       let terms = ap (λ l. from_entries {R = term_cmp} (map held l)) (at_new schema n ps sorted posted.below)
-      ∙ ap (from_entries {R = term_cmp}) (map-map held (posting_of n) (filter (λ g. is_indexed schema g.term.field) sorted))
+      ∙ ap (from_entries {R = term_cmp}) (map-map held (posting_of schema n) (filter (λ g. is_indexed schema g.term.field) sorted))
       ∙ kept_in_any_order schema draft.terms sorted moved good.once again in
       let lengths = new_row schema n columns grown draft.lengths are row in
       λ i. record { terms = terms i; lengths = lengths i }
@@ -166,6 +181,9 @@ on_err (Err e) P h = h
 none_equal : IsDistinct (eq_by_cmp term_cmp) []
 unfolding IsDistinct
 none_equal = tt
+
+pub none_counted : (schema : List FieldFacts) (ps : List Posted) → ps ≡ [] → All (IsCounted schema) ps
+none_counted schema ps e = subst (All (IsCounted schema)) (sym e) (All-nil _)
 
 pub none_posted : (ps : List Posted) → ps ≡ [] → ArePosted 0 ps
 none_posted ps e = subst (ArePosted 0) (sym e) (record { below = All-nil _; once = λ d. none_equal })

@@ -17,7 +17,8 @@ use Rattle.qm_postings.specs.FieldIndex.{FieldIndex, IsInfoOf}
 use Rattle.qm_postings.specs.Index.{IsIndex, PostingsRange, posted_of, segment_from}
 use Rattle.qm_postings.specs.Reading.{Reader}
 use Rattle.qm_postings.specs.Segment.{holders}
-use Rattle.qm_postings.specs.TermRange.{AreTermsBetween, IsBetween, IsStartOf, found_at, no_term, term_at}
+use Rattle.qm_postings.specs.TermRange.{AreTermsBetween, IsBetween, IsStartOf, found_at, held_term}
+use Rattle.qm_postings.specs.Numbering.{no_term}
 use Rattle.qm_postings.proofs.HeldTerms.{holders-none}
 use Rattle.qm_postings.proofs.SameEntries.{map-map}
 use Rattle.qm_postings.proofs.TermPlaces.{length-holders, place_of, searchable, some_holder}
@@ -47,7 +48,7 @@ partitioned rs key sorted i j d order inside e =
 
 pub start_of : (rs : List PostingsRange) (key : TermKey) (place : ℕ) → place ≤ length rs → IsPartitionPoint (λ r. is_lt (term_cmp r.term key) ≡ true) (λ r. is_lt (term_cmp r.term key) ≡ false) rs place → IsStartOf key (map (λ r. r.term) rs) place
 start_of rs key place within point =
-    let none : PostingsRange = record { term = no_term; start = 0; count = 0; most = 0 } in
+    let none : PostingsRange = record { term = no_term; start = 0; count = 0; most = 0; positions_start = 0; positions_count = 0 } in
     let here = λ (k : ℕ) (l : k < length rs). get_or-map (λ r. r.term) rs k none no_term l in
     record {
       before = λ k l. ap (λ t. term_cmp t key) (here k (omega arith)) ∙ less _ (point.0 k none (omega arith) l);
@@ -150,32 +151,32 @@ found_or_apart (r ∷ rs) t =
       ]
     ]
 
-module _ (schema : List FieldFacts) (block_len : ℕ) (columns : List (List ℕ)) (count : ℕ) (rs : List PostingsRange) (ds fs : List ℕ) (whole : IsIndex count rs ds fs) where
+module _ (schema : List FieldFacts) (block_len : ℕ) (columns : List (List ℕ)) (count : ℕ) (rs : List PostingsRange) (ds fs ps : List ℕ) (whole : IsIndex count rs ds fs) where
   abbrev reader : Reader
-  reader = record { segment = segment_from schema block_len (posted_of rs ds fs) columns count; terms = map (λ r. r.term) rs }
+  reader = record { segment = segment_from schema block_len (posted_of rs ds fs ps) columns count; terms = map (λ r. r.term) rs }
 
   abbrev of_field : ℕ → FieldIndex
   of_field field = record { reader = reader; field = field }
 
   none : PostingsRange
-  none = record { term = no_term; start = 0; count = 0; most = 0 }
+  none = record { term = no_term; start = 0; count = 0; most = 0; positions_start = 0; positions_count = 0 }
 
-  own : (i : ℕ) → i < length rs → (get_or rs i none).term ≡ term_at reader i
+  own : (i : ℕ) → i < length rs → (get_or rs i none).term ≡ held_term reader i
   own i l = sym (get_or-map (λ r. r.term) rs i none no_term l)
 
   -- what is found at the place of a range
   pub found_is : (i : ℕ) (r : PostingsRange) → i < length rs → r ≡ get_or rs i r → found_at reader i ≡ (r.term, record { doc_freq = r.count; ordinal = i })
   found_is i r l here =
-      let term : term_at reader i ≡ r.term = get_or-map (λ y. y.term) rs i r no_term l ∙ ap (λ y. y.term) (sym here) in
-      let many = ap (λ t. length (holders reader.segment t)) term ∙ length-holders schema block_len columns count rs ds fs i r r.term whole l here refl in
+      let term : held_term reader i ≡ r.term = get_or-map (λ y. y.term) rs i r no_term l ∙ ap (λ y. y.term) (sym here) in
+      let many = ap (λ t. length (holders reader.segment t)) term ∙ length-holders schema block_len columns count rs ds fs ps i r r.term whole l here refl in
       λ k. (term k, record { doc_freq = many k; ordinal = i })
 
-  info_at : (field i : ℕ) → i < length rs → (term_at reader i).field ≡ field → IsInfoOf (of_field field) (found_at reader i).0 (found_at reader i).1
+  info_at : (field i : ℕ) → i < length rs → (held_term reader i).field ≡ field → IsInfoOf (of_field field) (found_at reader i).0 (found_at reader i).1
   info_at field i l here =
       let r = get_or rs i none in
       record {
-        held = (here, some_holder schema block_len columns count rs ds fs i r (term_at reader i) whole l (same_item rs i none r l) (own i l));
-        place = place_of rs (term_at reader i) i r l (same_item rs i none r l) (own i l);
+        held = (here, some_holder schema block_len columns count rs ds fs ps i r (held_term reader i) whole l (same_item rs i none r l) (own i l));
+        place = place_of rs (held_term reader i) i r l (same_item rs i none r l) (own i l);
         count = refl;
       }
 
@@ -183,14 +184,14 @@ module _ (schema : List FieldFacts) (block_len : ℕ) (columns : List (List ℕ)
   terms_between field ge lt next end first within from to =
       let long : length reader.terms ≡ length rs = length-map rs (λ r. r.term) in
       let n = end - next in
-      let found = λ (i : ℕ) (l : next ≤ i) (h : i < next + n). inside field ge lt (term_at reader i) (from.others i l (omega arith)) (to.before i (omega arith)) in
+      let found = λ (i : ℕ) (l : next ≤ i) (h : i < next + n). inside field ge lt (held_term reader i) (from.others i l (omega arith)) (to.before i (omega arith)) in
       let texts = map-map (λ pair. pair.0) (found_at reader) (range_with_len next n) in
       record {
         ascending = subst (IsStrictlySortedBy term_cmp) (sym texts) (ascending reader.terms whole.terms next n (omega arith));
         between = All-places (found_at reader) (λ pair. IsBetween ge lt pair.0.bytes) next n (λ i l h. (found i l h).1);
         infos = All-places (found_at reader) (λ pair. IsInfoOf (of_field field) pair.0 pair.1) next n (λ i l h. info_at field i (omega arith) (found i l h).0);
         whole = λ t held h. elim (found_or_apart rs t) [
-          | inr apart ↦ absurd (held.1 (holders-none schema block_len columns count rs ds fs t apart))
+          | inr apart ↦ absurd (held.1 (holders-none schema block_len columns count rs ds fs ps t apart))
           | inl place ↦
               let k = place.0 in
               let at_start : next ≤ k = elim (cases_lt k next) [
@@ -201,6 +202,6 @@ module _ (schema : List FieldFacts) (block_len : ℕ) (columns : List (List ℕ)
                 | inl early ↦ early
                 | inr late ↦ absurd (to.others k late (omega (arith, place.1)) (ap (λ u. term_cmp u (end_key field lt)) place.2 ∙ ahead_of_end field ge lt t held.0 h))
               ] in
-              subst (λ ts. Contains ts t) (sym texts) (Contains-place (term_at reader) next n k t at_start (omega arith) place.2)
+              subst (λ ts. Contains ts t) (sym texts) (Contains-place (held_term reader) next n k t at_start (omega arith) place.2)
         ];
       }

@@ -8,6 +8,7 @@ pub mod FieldIndex
 pub mod Stored
 pub mod StoredFacts
 pub mod TermArrays
+pub mod KeptPositions
 pub mod SegmentPostings
 pub mod Statistics
 pub mod SegmentPostingsFacts
@@ -18,3 +19,4 @@ pub mod Positions
 pub mod PositionsFacts
 pub mod TermRange
 pub mod Address
+pub mod TermHead

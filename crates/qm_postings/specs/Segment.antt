@@ -13,7 +13,7 @@ use Rattle.qm_schema.specs.declared.schema.option.IndexRecordOption.{IndexRecord
 use Rattle.qm_docset.specs.Entry.{Entry}
 use Rattle.qm_postings.specs.Document.{Given, Draft}
 
--- how often a document holds a term, and those of its positions that are kept: none as yet
+-- how often a document holds a term, and its positions, where the term's field keeps them
 pub record Occurrences : Type 0 where
   pub frequency : ℕ
   pub positions : List ℕ
@@ -55,6 +55,10 @@ keeps_lengths schema field = option_map_or (λ facts. facts.lengths) (slice_get 
 abbrev pub is_indexed : List FieldFacts → ℕ → Bool
 is_indexed schema field = is_some (field_option schema field)
 
+-- whether a field keeps the positions of its terms
+abbrev pub keeps_positions : List FieldFacts → ℕ → Bool
+keeps_positions schema field = option_map_or has_positions (field_option schema field) false
+
 abbrev pub no_document : Document
 no_document = record { terms = empty; lengths = [] }
 
@@ -75,7 +79,7 @@ abbrev pub reads_freq : List FieldFacts → IndexRecordOption → ℕ → Bool
 reads_freq schema option field = has_freq option && option_map_or has_freq (field_option schema field) false
 
 abbrev pub reads_positions : List FieldFacts → IndexRecordOption → ℕ → Bool
-reads_positions schema option field = has_positions option && option_map_or has_positions (field_option schema field) false
+reads_positions schema option field = has_positions option && keeps_positions schema field
 
 -- how often document d holds the term, and 1 where frequencies aren't there to be read
 abbrev pub frequency : Segment → IndexRecordOption → TermKey → ℕ → ℕ
@@ -104,14 +108,19 @@ length_given_after id field (l ∷ ls) = length_given_after (if l.0 == field the
 abbrev pub length_given : ℕ → List (ℕ × ℕ) → ℕ
 length_given field lengths = length_given_after 0 field lengths
 
--- what a document keeps of a term that it was given
-abbrev pub kept : Given → TermKey × Occurrences
-kept given = (given.term, record { frequency = length given.positions; positions = [] })
+-- the positions that are kept of a term that a document was given
+abbrev pub kept_positions : List FieldFacts → Given → List ℕ
+kept_positions schema given = if keeps_positions schema given.term.field then given.positions else []
+
+-- what a document keeps of a term that it was given: how many positions it has, and where its field
+-- keeps positions these
+abbrev pub kept : List FieldFacts → Given → TermKey × Occurrences
+kept schema given = (given.term, record { frequency = length given.positions; positions = kept_positions schema given })
 
 -- the document that a segment keeps of what it is handed
 abbrev pub document_of : List FieldFacts → Draft → Document
 document_of schema draft = record {
-  terms = from_entries (map kept (filter (λ g. is_indexed schema g.term.field) draft.terms));
+  terms = from_entries (map (kept schema) (filter (λ g. is_indexed schema g.term.field) draft.terms));
   lengths = map (λ f. if keeps_lengths schema f then length_given f draft.lengths else 0) (range_with_len 0 (length schema));
 }
 

@@ -1,7 +1,7 @@
 -- What a cursor over the postings of a term shows.
 use Rattle.std.specs.Prelude.{◌≡◌, ◌≤◌, ◌<◌, List, length, drop, sum, take}
 use Rattle.qm_docset.specs.Entry.{Entry, Limits}
-use Rattle.qm_postings.specs.TermArrays.{AreArrays, stored}
+use Rattle.qm_postings.specs.TermArrays.{AreArrays, array_limits, stored}
 use Rattle.qm_postings.specs.declared.freq_reading_option.FreqReadingOption.{FreqReadingOption}
 use Rattle.qm_postings.specs.declared.segment_postings.SegmentPostings.{SegmentPostings}
 
@@ -10,7 +10,7 @@ abbrev pub postings_left : SegmentPostings → List Entry
 postings_left s = drop s.cursor (stored s.reading s.arrays)
 
 abbrev pub postings_limits : SegmentPostings → Limits
-postings_limits s = record { top = 0; room = s.arrays.max_term_freq }
+postings_limits s = array_limits s.arrays
 
 -- what it reads of the frequencies
 abbrev pub reads : SegmentPostings → FreqReadingOption

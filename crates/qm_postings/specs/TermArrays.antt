@@ -1,7 +1,7 @@
 -- What a segment keeps of the postings of a term, as it is read.
 use Rattle.std.specs.Prelude.{◌≡◌, ℕ, ◌*◌, ◌<◌, ◌≤◌, List, All, length, slice_index_or, sum, take}
 use Rattle.qm_docset.specs.Documents.{AreDocuments}
-use Rattle.qm_docset.specs.Entry.{Entry}
+use Rattle.qm_docset.specs.Entry.{Entry, Limits}
 use Rattle.qm_postings.specs.Positions.{ArePositions}
 use Rattle.qm_postings.specs.Stored.{stored_entries}
 use Rattle.qm_postings.specs.declared.freq_reading_option.FreqReadingOption.{FreqReadingOption}
@@ -12,6 +12,10 @@ use Rattle.qm_postings.specs.declared.term_arrays.TermArrays.{TermArrays}
 -- all postings in a term's arrays
 abbrev pub stored : FreqReadingOption → TermArrays → List Entry
 stored reading a = stored_entries reading a.documents.now a.frequencies.now a.positions.now
+
+-- the limits of a cursor over them
+abbrev pub array_limits : TermArrays → Limits
+array_limits a = record { top = 0; room = a.max_term_freq }
 
 -- each block of so many postings knows how many positions come before it
 abbrev pub AreBlocks : ℕ → List BlockInfo → List ℕ → Type 0

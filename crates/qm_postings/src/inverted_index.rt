@@ -1,21 +1,24 @@
 //! The terms of a field, and their postings.
 
-ghost use Rattle.std.specs.Prelude.{◌≡◌, IsSome, IfSome, ◌↔◌};
+ghost use Rattle.std.specs.Prelude.{◌≡◌, ◌≤◌, ◌+◌, [], if◌then◌else◌, length, IsSome, IfSome, ◌↔◌};
 ghost use Rattle.qm_schema.specs.Term.{TermKey, term_cmp};
-ghost use Rattle.qm_postings.specs.FieldIndex.{IsHeld, IsInfoOf, greatest_frequency, reading, shown};
-ghost use Rattle.qm_postings.specs.Segment.{postings_of};
+ghost use Rattle.qm_postings.specs.FieldIndex.{AreCounted, IsHeld, IsInfoOf, ListsInfo, ListsPostings, reading, shown};
+ghost use Rattle.qm_postings.specs.Index.{positions_in};
 ghost use Rattle.std.specs.Option.{option_copied};
 ghost use Rattle.qm_postings.specs.TermRange.{AreTermsBetween, terms_left};
-ghost use Rattle.qm_postings.specs.SegmentPostings.{IsPostings, postings_left, postings_limits, reads};
+ghost use Rattle.qm_postings.specs.SegmentPostings.{postings_left, reads};
 
+mod sought_term;
 mod term_order;
 mod term_range;
 
 use crate::freq_reading_option::FreqReadingOption;
 use crate::segment_postings::SegmentPostings;
-use crate::segment_reader::SegmentReader;
+use crate::segment_reader::{SegmentReader, TermEntry};
 use crate::term_arrays::TermArrays;
+use qm_docset::DocSet;
 use qm_schema::{Field, IndexRecordOption, Term};
+use sought_term::SoughtTerm;
 use term_order::terms_before;
 pub use term_range::TermRange;
 
@@ -51,10 +54,11 @@ impl<'a> InvertedIndex<'a> {
             return None;
         }
         let reader = self.reader;
+        let sought = SoughtTerm::new(term);
         let place = reader.terms.binary_search_by(
             |entry|
-                ensures { result ≡ term_cmp entry.now.term term.entry.now }
-            { entry.term.cmp(term) },
+                ensures { result ≡ term_cmp entry.now.term sought.entry.term.now }
+            { sought.compare(entry) },
         );
         let Ok(ordinal) = place else {
             return None;
@@ -66,7 +70,8 @@ impl<'a> InvertedIndex<'a> {
     }
 
     /// The postings of a term: exactly the documents that hold it, each with its frequency, where
-    /// the field keeps frequencies and they are asked for, and else with 1. Their `max_term_freq` is
+    /// the field keeps frequencies and they are asked for, and else with 1, and with its positions,
+    /// where the field keeps positions and they are asked for, and else with none. Their `max_term_freq` is
     /// the greatest frequency of the term in the segment, whatever was asked for. `None` exactly where no
     /// document holds the term, or it is of another field. Costs the logarithm of the number of the
     /// segment's terms; copies nothing and takes no memory.
@@ -76,9 +81,8 @@ impl<'a> InvertedIndex<'a> {
         option: IndexRecordOption,
     ) -> Option<SegmentPostings<'a>>
         ensures held { IsSome result ↔ IsHeld (shown self.now) term.now }
-        ensures entries { IfSome result (λ p. postings_left p ≡ postings_of (shown self.now).reader.segment option term.now) }
-        ensures limits { IfSome result (λ p. postings_limits p ≡ record { top = 0; room = greatest_frequency (shown self.now).reader.segment term.now }) }
-        ensures valid { IfSome result IsPostings }
+        ensures lists { IfSome result (ListsPostings ⟦<SegmentPostings<'a> as DocSet>⟧ (shown self.now).reader.segment option term.now) }
+        ensures counted { IfSome result (λ p. AreCounted (shown self.now).reader.segment option term.now.field (postings_left p)) }
         ensures reading { IfSome result (λ p. reads p ≡ reading (shown self.now).reader.segment.schema option (shown self.now).field) }
     {
         let info = self.get_term_info(term)?;
@@ -94,9 +98,8 @@ impl<'a> InvertedIndex<'a> {
         option: IndexRecordOption,
     ) -> SegmentPostings<'a>
         requires { (term : TermKey) × IsInfoOf (shown self.now) term info.now }
-        ensures entries { (term : TermKey) → IsInfoOf (shown self.now) term info.now → postings_left result ≡ postings_of (shown self.now).reader.segment option term }
-        ensures limits { (term : TermKey) → IsInfoOf (shown self.now) term info.now → postings_limits result ≡ record { top = 0; room = greatest_frequency (shown self.now).reader.segment term } }
-        ensures valid { IsPostings result }
+        ensures lists { ListsInfo ⟦<SegmentPostings<'a> as DocSet>⟧ (shown self.now) option info.now result }
+        ensures counted { AreCounted (shown self.now).reader.segment option (shown self.now).field (postings_left result) }
         ensures reading { reads result ≡ reading (shown self.now).reader.segment.schema option (shown self.now).field }
     {
         let reader = self.reader;
@@ -105,9 +108,9 @@ impl<'a> InvertedIndex<'a> {
         let arrays = TermArrays {
             documents: &reader.documents[entry.start..end],
             frequencies: &reader.frequencies[entry.start..end],
-            positions: &[],
-            blocks: &[],
-            block_len: 1,
+            positions: positions_asked(&reader.positions, entry, option.has_positions()),
+            blocks: &reader.blocks[reader.block_starts[info.ordinal]..],
+            block_len: reader.block_len as usize,
             max_term_freq: entry.max_term_freq,
         };
         SegmentPostings::new(arrays, self.freq_reading(option))
@@ -147,4 +150,16 @@ impl<'a> InvertedIndex<'a> {
             (true, true) => FreqReadingOption::ReadFreq,
         }
     }
+}
+
+// The positions of a term, where they are asked for.
+fn positions_asked<'a>(positions: &'a [u32], entry: &TermEntry, are_asked: bool) -> &'a [u32]
+    requires { entry.now.positions_start + entry.now.positions_count ≤ length positions.now }
+    ensures { result.now ≡ (if are_asked then positions_in entry.now positions.now else []) }
+{
+    if !are_asked {
+        return &[];
+    }
+    let end = entry.positions_start + entry.positions_count;
+    &positions[entry.positions_start..end]
 }

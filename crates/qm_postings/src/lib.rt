@@ -17,6 +17,7 @@ mod segment_postings;
 mod segment_reader;
 mod statistics;
 mod term_arrays;
+mod term_head;
 
 pub use address::DocAddress;
 pub use document::PlainDoc;

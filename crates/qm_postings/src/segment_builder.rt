@@ -16,6 +16,8 @@ mod checks;
 mod columns;
 mod entering;
 mod grouping;
+mod position_blocks;
+mod position_rows;
 mod posting;
 mod term_numbers;
 
@@ -31,29 +33,34 @@ pub struct SegmentBuilder {
     block_len: u32,
     terms: TermNumbers,
     postings: Vec<Posting>,
+    positions: Vec<u32>,
     lengths: Vec<Vec<u8>>,
     max_doc: DocId,
 }
 
 impl Model for SegmentBuilder {
-    ghost use Rattle.std.specs.Prelude.{◌≤◌, length, map};
+    ghost use Rattle.std.specs.Prelude.{◌≡◌, ◌≤◌, ◌<◌, All, length, map};
     ghost use Rattle.qm_docset.specs.declared.numbers.TheConstants.{TERMINATED};
-    ghost use Rattle.qm_postings.specs.Building.{posted_by};
+    ghost use Rattle.qm_postings.specs.Building.{kept_count, posted_by};
     ghost use Rattle.qm_postings.specs.Grouping.{AreNumbered};
     ghost use Rattle.qm_postings.specs.Index.{AreColumns, ArePosted, segment_from};
+    ghost use Rattle.qm_postings.specs.KeptPositions.{IsCounted};
     ghost use Rattle.qm_postings.specs.Segment.{Segment, segment_code};
 
     ghost Value = { Segment };
 
     ghost coded = { segment_code };
 
-    ghost view = { λ b. segment_from b.schema b.block_len (posted_by b.terms b.postings.items) (map (λ c. c.items) b.lengths.items) b.max_doc };
+    ghost view = { λ b. segment_from b.schema b.block_len (posted_by b.terms b.positions.items 0 b.postings.items) (map (λ c. c.items) b.lengths.items) b.max_doc };
 
     ghost invariant = { λ b. (b.max_doc ≤ TERMINATED)
         × (length b.schema ≤ 4294967295)
         × AreNumbered b.terms b.postings.items
-        × ArePosted b.max_doc (posted_by b.terms b.postings.items)
-        × AreColumns b.schema b.max_doc (map (λ c. c.items) b.lengths.items) };
+        × ArePosted b.max_doc (posted_by b.terms b.positions.items 0 b.postings.items)
+        × AreColumns b.schema b.max_doc (map (λ c. c.items) b.lengths.items)
+        × (length b.positions.items ≡ kept_count b.postings.items)
+        × All (IsCounted b.schema) (posted_by b.terms b.positions.items 0 b.postings.items)
+        × (0 < b.block_len) };
 }
 
 impl SegmentBuilder {
@@ -77,6 +84,7 @@ impl SegmentBuilder {
             block_len,
             terms: TermNumbers::new(alloc),
             postings: Vec::new(alloc),
+            positions: Vec::new(alloc),
             lengths,
             max_doc: 0,
         })
@@ -114,6 +122,7 @@ impl SegmentBuilder {
             &self.schema,
             &mut self.terms,
             &mut self.postings,
+            &mut self.positions,
             terms,
             doc,
         )?;

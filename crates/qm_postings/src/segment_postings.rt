@@ -2,10 +2,11 @@
 
 ghost use Rattle.std.specs.Prelude.{◌≡◌, ◌+◌, ◌≤◌, ◌<◌, ◌++◌, All, [], drop, length, min, take, vec_capacity, vec_len};
 ghost use Rattle.qm_docset.specs.Entry.{documents, from, head_document, head_frequency, head_positions};
+ghost use Rattle.qm_docset.specs.Lists.{Lists};
 ghost use Rattle.qm_postings.specs.Positions.{HasAdded, shifted};
 ghost use Rattle.qm_postings.specs.SegmentPostingsFacts.{AreEntries-postings, ArePositions-postings};
 ghost use Rattle.qm_postings.specs.SegmentPostings.{IsPostings, postings_left, postings_limits, reads};
-ghost use Rattle.qm_postings.specs.TermArrays.{AreArrays, stored};
+ghost use Rattle.qm_postings.specs.TermArrays.{AreArrays, array_limits, stored};
 
 use crate::freq_reading_option::FreqReadingOption;
 use crate::postings::Postings;
@@ -28,9 +29,7 @@ pub struct SegmentPostings<'a> {
 impl<'a> SegmentPostings<'a> {
     pub(crate) fn new(arrays: TermArrays<'a>, reading: FreqReadingOption) -> SegmentPostings<'a>
         requires { AreArrays reading arrays }
-        ensures entries { postings_left result ≡ stored reading arrays.entry }
-        ensures limits { postings_limits result ≡ record { top = 0; room = arrays.entry.max_term_freq } }
-        ensures valid { IsPostings result }
+        ensures lists { Lists ⟦<SegmentPostings<'a> as DocSet>⟧ result (stored reading arrays.entry) (array_limits arrays.entry) }
         ensures reading { reads result ≡ reading }
     {
         SegmentPostings {

@@ -6,33 +6,50 @@ ghost use Rattle.qm_postings.specs.Segment.{keeps_lengths, length_id};
 
 use crate::fieldnorm::FieldNormReader;
 use crate::inverted_index::InvertedIndex;
+use crate::term_arrays::BlockInfo;
 use qm_docset::{DocId, TERMINATED};
 use qm_schema::{Field, Schema, Term};
 use std::marker::Model;
 
-/// A term of an index, and the range of its postings in the arrays of all postings.
+/// A term of an index, the head of its text, the range of its postings in the arrays of all postings,
+/// and that of its positions in the array of all positions.
 #[derive(Debug, Drop)]
 pub(crate) struct TermEntry {
     pub(crate) term: Term,
+    pub(crate) head: u64,
     pub(crate) start: usize,
     pub(crate) doc_freq: u32,
     pub(crate) max_term_freq: u32,
+    pub(crate) positions_start: usize,
+    pub(crate) positions_count: usize,
 }
 
 impl Model for TermEntry {
     ghost use Rattle.qm_postings.specs.Index.{PostingsRange, range_code};
+    ghost use Rattle.qm_postings.specs.TermHead.{IsHeadOf};
 
     ghost Value = { PostingsRange };
 
     ghost coded = { range_code };
 
-    ghost view = { λ e. record { term = e.term; start = e.start; count = e.doc_freq; most = e.max_term_freq } };
+    ghost view = { λ e. record {
+      term = e.term;
+      start = e.start;
+      count = e.doc_freq;
+      most = e.max_term_freq;
+      positions_start = e.positions_start;
+      positions_count = e.positions_count;
+    } };
+
+    ghost invariant = { λ e. IsHeadOf e.term.bytes e.head };
 }
 
 /// A segment, to be read: a list of documents, numbered from 0 up.
 ///
 /// It keeps its terms in their order, and for each a range of two arrays of all postings, one of
-/// documents and one of frequencies: 8 bytes a posting.
+/// documents and one of frequencies: 8 bytes a posting. Where a field keeps positions, its terms have
+/// a range of an array of positions too, 4 bytes a position, and for each block of `block_len`
+/// postings 8 bytes that say where its positions begin.
 ///
 /// Contracts see it as its documents, its schema, and the terms that it has postings for.
 #[derive(Debug, Drop)]
@@ -42,14 +59,18 @@ pub struct SegmentReader {
     pub(crate) terms: Vec<TermEntry>,
     pub(crate) documents: Vec<DocId>,
     pub(crate) frequencies: Vec<u32>,
+    pub(crate) positions: Vec<u32>,
+    pub(crate) block_starts: Vec<usize>,
+    pub(crate) blocks: Vec<BlockInfo>,
     pub(crate) lengths: Vec<Vec<u8>>,
     pub(crate) max_doc: DocId,
 }
 
 impl Model for SegmentReader {
-    ghost use Rattle.std.specs.Prelude.{◌≤◌, map};
+    ghost use Rattle.std.specs.Prelude.{◌≤◌, ◌<◌, map};
     ghost use Rattle.qm_docset.specs.declared.numbers.TheConstants.{TERMINATED};
     ghost use Rattle.qm_postings.specs.Index.{AreColumns, IsIndex, posted_of, segment_from};
+    ghost use Rattle.qm_postings.specs.KeptPositions.{HaveBlocks, HavePositions};
     ghost use Rattle.qm_postings.specs.Reading.{Reader, reader_code};
 
     ghost Value = { Reader };
@@ -57,13 +78,16 @@ impl Model for SegmentReader {
     ghost coded = { reader_code };
 
     ghost view = { λ r. record {
-      segment = segment_from r.schema r.block_len (posted_of r.terms.items r.documents.items r.frequencies.items) (map (λ c. c.items) r.lengths.items) r.max_doc;
+      segment = segment_from r.schema r.block_len (posted_of r.terms.items r.documents.items r.frequencies.items r.positions.items) (map (λ c. c.items) r.lengths.items) r.max_doc;
       terms = map (λ e. e.term) r.terms.items;
     } };
 
     ghost invariant = { λ r. (r.max_doc ≤ TERMINATED)
         × IsIndex r.max_doc r.terms.items r.documents.items r.frequencies.items
-        × AreColumns r.schema r.max_doc (map (λ c. c.items) r.lengths.items) };
+        × AreColumns r.schema r.max_doc (map (λ c. c.items) r.lengths.items)
+        × HavePositions r.schema r.terms.items r.documents.items r.frequencies.items r.positions.items
+        × HaveBlocks r.block_len r.terms.items r.frequencies.items r.block_starts.items r.blocks.items
+        × (0 < r.block_len) };
 }
 
 impl SegmentReader {

@@ -45,7 +45,7 @@ impl<'a> TermArrays<'a> {
     }
 }
 
-fn sum_of(frequencies: &[u32]) -> usize
+pub(crate) fn sum_of(frequencies: &[u32]) -> usize
     requires { sum frequencies.now ≤ usize.MAX }
     ensures { result ≡ sum frequencies.now }
 {

@@ -1,5 +1,5 @@
 -- Segments of texts: one text more, and a document handed to a builder.
-use Rattle.std.proofs.Common.{◌≡◌, ℕ, List, [], ◌∷◌, ◌++◌, length, map, min, ap, sym, ◌∙◌, refl, drop, take, ◌≤◌, ◌<◌, ◌↔◌, ◌⊎◌, inl, inr, subst, Result, Err, String, string_bytes}
+use Rattle.std.proofs.Common.{◌≡◌, arith, ℕ, List, [], ◌∷◌, ◌++◌, length, map, min, ap, sym, ◌∙◌, refl, drop, take, ◌≤◌, ◌<◌, ◌↔◌, ◌⊎◌, inl, inr, subst, Result, Err, String, string_bytes}
 use Rattle.std.specs.Global.{Global}
 use Rattle.std.proofs.lemmas.List.{drop-append-le, map-append, take-append-le}
 use Rattle.qm_postings.specs.Document.{Draft, Given, text_terms, words_of}
@@ -37,3 +37,10 @@ text_refusal Memory segment text draft is few full bad memory = inl refl
 text_refusal TooManyDocuments segment text draft is few full bad memory = inr (full.0 refl)
 text_refusal BadDocument segment text draft is few full bad memory = inr (λ good. (bad.0 refl).1 (subst (IsGood segment.schema) (sym is) good))
 text_refusal e segment text draft is few full bad memory = absurd (let unlike : failed e ≡ failed BadDocument = bad.1 (few, λ good. let no : e ≡ Memory = memory few good in cc) in cc)
+
+-- a segment that is not full, and has the same fields, refuses a text for the same reason
+pub same_refusal : (e : QueryError) (segment other : Segment) (text : List ℕ) → length segment.documents < TERMINATED → segment.schema ≡ other.schema → (e ≡ Memory) ⊎ IsTextRefusal segment text e → (e ≡ Memory) ⊎ IsTextRefusal other text e
+same_refusal e segment other text few same (inl memory) = inl memory
+same_refusal TooManyDocuments segment other text few same (inr full) = absurd (omega (arith, few, full))
+same_refusal BadDocument segment other text few same (inr bad) = inr (subst (λ schema. ¬ IsGood schema (text_draft text)) same bad)
+same_refusal e segment other text few same (inr none) = absurd none

@@ -4,11 +4,10 @@ ghost use Rattle.std.specs.Prelude.{◌≡◌, ◌≤◌, IfOk, IsOkUnless, leng
 ghost use Rattle.qm_postings.specs.Segment.{holders};
 ghost use Rattle.qm_search.specs.Trees.{common_holders, matching, word_term};
 
-use crate::left::documents_left;
 use crate::terms::{common_postings, word_postings};
 use crate::tree::Tree;
 use qm_combine::Intersection;
-use qm_docset::DocId;
+use qm_docset::{DocId, documents_left};
 use qm_postings::SegmentReader;
 use qm_schema::QueryError;
 use std::alloc::Global;

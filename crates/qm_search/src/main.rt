@@ -6,7 +6,6 @@ mod answer;
 mod corpus;
 mod docs;
 mod documents;
-mod left;
 mod lines;
 mod listing;
 mod parse;

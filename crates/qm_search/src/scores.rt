@@ -6,10 +6,9 @@ ghost use Rattle.qm_search.specs.Scores.{IsScoreRefusal, score_bound, scored_com
 ghost use Rattle.qm_search.specs.Trees.{word_term};
 ghost use Rattle.qm_search.specs.WordScorers.{AreWordScorers};
 
-use crate::left::scores_left;
 use crate::tree::Tree;
 use crate::word_scorer::word_scorer;
-use qm_combine::{AllScorer, Intersection};
+use qm_combine::{AllScorer, Intersection, scores_left};
 use qm_docset::{DocId, Score};
 use qm_postings::{Searcher, SegmentReader};
 use qm_schema::QueryError;

@@ -6,3 +6,5 @@ pub mod ExplainedFacts
 pub mod TermScorer
 pub mod TermScorerFacts
 pub mod TermEntries
+pub mod Runs
+pub mod RunsFacts

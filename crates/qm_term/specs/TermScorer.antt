@@ -2,9 +2,12 @@
 use Rattle.std.specs.Prelude.{ℕ, ◌<◌, List, All, length, slice_index_or}
 use Rattle.qm_combine.specs.Rescored.{rescored, limited}
 use Rattle.qm_docset.specs.Entry.{Entry, Limits}
+use Rattle.qm_docset.specs.Lists.{Lists}
+use Rattle.qm_docset.specs.declared.docset.DocSet.{Ghosts}
 use Rattle.qm_postings.specs.FieldNorms.{norm_ids}
 use Rattle.qm_postings.specs.SegmentPostings.{IsPostings, postings_left, postings_limits, reads}
 use Rattle.qm_postings.specs.declared.freq_reading_option.FreqReadingOption.{FreqReadingOption}
+use Rattle.qm_postings.specs.declared.segment_postings.SegmentPostings.{SegmentPostings}
 use Rattle.qm_term.specs.Bm25.{Weighing, bm25, bm25_bound}
 use Rattle.qm_term.specs.Bm25Weight.{weighing}
 use Rattle.qm_term.specs.declared.term_scorer.TermScorer.{TermScorer}
@@ -12,6 +15,11 @@ use Rattle.qm_term.specs.declared.term_scorer.TermScorer.{TermScorer}
 -- postings, each with the score that its frequency has at its document's length id
 abbrev pub scored_postings : Weighing → List ℕ → List Entry → List Entry
 scored_postings weighing ids es = rescored (λ e. bm25 weighing (slice_index_or ids e.document 0) e.frequency) es
+
+-- a cursor that lists what postings have left, each scored by its frequency and its length id
+abbrev pub ListsScored : {S : Type 0} → Ghosts S → Weighing → List ℕ → SegmentPostings → S → Type 0
+ListsScored D weighing ids postings s =
+    Lists D s (scored_postings weighing ids (postings_left postings)) (limited (bm25_bound weighing) (postings_limits postings))
 
 -- each of the documents has a length id
 abbrev pub AreCovered : List ℕ → List Entry → Type 0

@@ -4,12 +4,11 @@ use Rattle.std.proofs.Common.{arith, refl, sym, subst, ap, ◌∙◌}
 use Rattle.std.proofs.lemmas.List.Elements.{All-drop, All-filter}
 use Rattle.std.proofs.lemmas.Option.{get_or_from_slice_get}
 use Rattle.qm_combine.specs.Rescored.{rescored}
-use Rattle.qm_combine.specs.RescoredFacts.{AreEntries-rescored, documents-rescored, drop-rescored, rescored-nil, take-rescored, head_document-rescored, head_score-rescored, rescoring}
+use Rattle.qm_combine.specs.RescoredFacts.{AreEntries-rescored, head_document-rescored, head_score-rescored, rescoring}
 use Rattle.qm_docset.specs.Entry.{Entry, AreEntries, documents, from, head_document, head_frequency}
 use Rattle.qm_docset.specs.declared.numbers.TheConstants.{TERMINATED}
 use Rattle.qm_postings.specs.FieldNorms.{norm_ids}
-use Rattle.qm_postings.specs.SegmentPostings.{IsPostings, postings_left, postings_limits}
-use Rattle.qm_postings.specs.declared.segment_postings.SegmentPostings.{SegmentPostings}
+use Rattle.qm_postings.specs.SegmentPostings.{postings_left, postings_limits}
 use Rattle.qm_postings.specs.SegmentPostingsFacts.{AreEntries-postings}
 use Rattle.qm_term.specs.Bm25.{bm25_bound}
 use Rattle.qm_term.specs.Bm25Facts.{bm25-le}
@@ -20,25 +19,6 @@ use Rattle.qm_term.specs.declared.term_scorer.TermScorer.{TermScorer}
 pub AreEntries-scored : (s : TermScorer) → IsTermScorer s → AreEntries 0 (scored_limits s) (scored_left s)
 AreEntries-scored s h =
     AreEntries-rescored _ (bm25_bound (weighing s.similarity_weight)) 0 (postings_limits s.postings) (postings_left s.postings) (λ e within. bm25-le (weighing s.similarity_weight) (slice_index_or (norm_ids s.fieldnorm_reader) e.document 0) e.frequency) (AreEntries-postings s.postings h.postings)
-
--- an entry keeps its frequency
-pub head_frequency-rescored : (given : Entry → ℕ) (es : List Entry) → head_frequency (rescored given es) ≡ head_frequency es
-unfolding rescored
-head_frequency-rescored given [] = refl
-head_frequency-rescored given (e ∷ es) = refl
-
--- what a step, a full buffer and a count leave
-pub rescored-step : (given : Entry → ℕ) (es left : List Entry) → left ≡ drop 1 es → rescored given left ≡ drop 1 (rescored given es)
-rescored-step given es left are = ap (rescored given) are ∙ sym (drop-rescored given 1 es)
-
-pub rescored-block : (given : Entry → ℕ) (es left : List Entry) → left ≡ drop 64 es → rescored given left ≡ drop 64 (rescored given es)
-rescored-block given es left are = ap (rescored given) are ∙ sym (drop-rescored given 64 es)
-
-pub rescored-end : (given : Entry → ℕ) (left : List Entry) → left ≡ [] → rescored given left ≡ []
-rescored-end given left are = ap (rescored given) are ∙ rescored-nil given
-
-pub documents-block : (given : Entry → ℕ) (es : List Entry) (ds : List ℕ) → ds ≡ documents (take 64 es) → ds ≡ documents (take 64 (rescored given es))
-documents-block given es ds are = are ∙ sym (documents-rescored given (take 64 es)) ∙ ap documents (sym (take-rescored given 64 es))
 
 pub AreCovered-drop : (ids : List ℕ) (n : ℕ) (es : List Entry) → AreCovered ids es → AreCovered ids (drop n es)
 AreCovered-drop ids n es h = All-drop (λ e. e.document < length ids) n es h
@@ -65,4 +45,4 @@ scored-within s h here =
     let Q : ℕ → Type 0 = λ d. d < TERMINATED in
     subst P (sym same) (covered-head (norm_ids s.fieldnorm_reader) (postings_left s.postings) h.covered (subst Q same here))
 
-pub ruleset scoring = (rescoring, rescored-step, rescored-block, rescored-end, documents-block, head_frequency-rescored, AreCovered-drop, AreCovered-from, AreCovered-nil, covered-head, get_or_from_slice_get)
+pub ruleset scoring = (rescoring, AreCovered-drop, AreCovered-from, AreCovered-nil, covered-head, get_or_from_slice_get)

@@ -1,13 +1,11 @@
 //! The scorer over the postings of a term.
 
 ghost use Rattle.std.specs.Prelude.{◌≡◌, ◌<◌, ◌↔◌, [], pos, slice_get, IfOk, IfSome, IsOkUnless, IsSome, Some};
-ghost use Rattle.qm_combine.specs.Rescored.{limited};
 ghost use Rattle.qm_docset.specs.Entry.{head_document, head_frequency, head_score};
-ghost use Rattle.qm_docset.specs.Lists.{Lists};
 ghost use Rattle.qm_postings.specs.FieldIndex.{reading};
 ghost use Rattle.qm_postings.specs.FieldNorms.{norm_ids};
 ghost use Rattle.qm_postings.specs.Segment.{holders};
-ghost use Rattle.qm_postings.specs.SegmentPostings.{IsPostings, postings_left, postings_limits, reads};
+ghost use Rattle.qm_postings.specs.SegmentPostings.{IsPostings, postings_left, reads};
 ghost use Rattle.qm_term.specs.TermEntries.{length_ids};
 
 use crate::bm25::Bm25Weight;
@@ -32,11 +30,10 @@ pub struct TermScorer<'a> {
 }
 
 impl<'a> TermScorer<'a> {
-    ghost use Rattle.qm_term.specs.Bm25.{bm25_bound};
     ghost use Rattle.qm_term.specs.Bm25Weight.{weighing};
     ghost use Rattle.qm_term.specs.Explained.{value_of};
-    ghost use Rattle.qm_term.specs.TermEntries.{term_entries};
-    ghost use Rattle.qm_term.specs.TermScorer.{AreCovered, IsTermScorer, scored_ids, scored_left, scored_limits, scored_reads, scored_postings};
+    ghost use Rattle.qm_term.specs.TermEntries.{ListsTerm};
+    ghost use Rattle.qm_term.specs.TermScorer.{AreCovered, IsTermScorer, ListsScored, scored_ids, scored_left, scored_limits, scored_reads};
 
     /// A scorer over what postings have left. It scores each document by its frequency there, and by
     /// the length id that the reader gives it. Asks that the reader has a length id for each of
@@ -48,9 +45,7 @@ impl<'a> TermScorer<'a> {
     ) -> TermScorer<'a>
         requires postings { IsPostings postings }
         requires covered { AreCovered (norm_ids fieldnorm_reader) (postings_left postings) }
-        ensures lists { Lists ⟦<TermScorer<'a> as DocSet>⟧ result
-            (scored_postings (weighing similarity_weight) (norm_ids fieldnorm_reader.entry) (postings_left postings.entry))
-            (limited (bm25_bound (weighing similarity_weight)) (postings_limits postings.entry)) }
+        ensures lists { ListsScored ⟦<TermScorer<'a> as DocSet>⟧ (weighing similarity_weight) (norm_ids fieldnorm_reader.entry) postings.entry result }
         ensures ids { scored_ids result ≡ norm_ids fieldnorm_reader.entry }
         ensures reads { scored_reads result ≡ reads postings.entry }
     {
@@ -74,11 +69,9 @@ impl<'a> TermScorer<'a> {
         weight: &Bm25Weight,
     ) -> Option<TermScorer<'a>>
         ensures present { IsSome result ↔ ¬ (holders segment.now.segment term.now ≡ []) }
-        ensures entries { IfSome result (λ s. scored_left s ≡ term_entries segment.now.segment option term.now (weighing weight.now)) }
-        ensures top { IfSome result (λ s. (scored_limits s).top ≡ bm25_bound (weighing weight.now)) }
+        ensures lists { IfSome result (ListsTerm ⟦<TermScorer<'a> as DocSet>⟧ segment.now.segment option term.now (weighing weight.now)) }
         ensures ids { IfSome result (λ s. scored_ids s ≡ length_ids segment.now.segment term.now.field) }
         ensures reads { IfSome result (λ s. scored_reads s ≡ reading segment.now.segment.schema option term.now.field) }
-        ensures valid { IfSome result IsTermScorer }
     {
         let field = term.field();
         let postings = segment.inverted_index(field).read_postings(term, option)?;

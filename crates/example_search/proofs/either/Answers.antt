@@ -5,4 +5,4 @@ use Rattle.example_search.proofs.either.Goals as goal
 
 pub loop-term-preserved : goal.loop-term-preserved
 loop-term-preserved c =
-    rw c.in_ok-push.ensures.items (All-push IsTermScorer c.loop-term.members.items c.in-Some.scorer c.loop-term.invariant c.in-Some.ensures.valid)
+    rw c.in_ok-push.ensures.items (All-push IsTermScorer c.loop-term.members.items c.in-Some.scorer c.loop-term.invariant c.in-Some.ensures.lists.valid)

@@ -3,9 +3,10 @@ ghost use Rattle.qm_docset.specs.BitSetDocSet.{IsBitSetCursor, IsOnMember};
 
 use crate::tests::bit_sets::bit_set;
 use crate::tests::cursors::cursor;
+use crate::tests::moves::{Move, goes, seeks_as_steps_lead};
 use crate::{
     AliveBitSet, BitSetDocSet, COLLECT_BLOCK_BUFFER_LEN, DocId, DocSet, SeekDangerResult,
-    TERMINATED, seek_by_steps,
+    TERMINATED,
 };
 use std::alloc::Global;
 use std::process::Abort;
@@ -26,37 +27,36 @@ pub fn bit_set_cursor(
 }
 
 #[test]
-fn seeks_members_and_stays_at_the_end(rt: HostRuntime) -> Result<(), Fail> {
-    let mut docs = bit_set_cursor(&rt, rt.alloc(), &[1, 5, 6, 7, 5112], 10_000)?;
-    assert_eq!(rt; docs.seek(7), 7);
-    assert_eq!(rt; docs.advance(), 5112);
-    assert_eq!(rt; docs.seek(10_000), TERMINATED);
-    assert_eq!(rt; docs.advance(), TERMINATED);
-    assert_eq!(rt; docs.seek(0), TERMINATED);
-    Ok(())
-}
-
-#[test]
-fn seeks_between_members_and_steps_on(rt: HostRuntime) -> Result<(), Fail> {
-    let members = [1, 5, 6, 7, 5112, 5513, 6666];
-    let mut docs = bit_set_cursor(&rt, rt.alloc(), &members, 10_000)?;
-    assert_eq!(rt; docs.doc(), 1);
-    assert_eq!(rt; docs.seek(5111), 5112);
-    assert_eq!(rt; docs.advance(), 5513);
-    assert_eq!(rt; docs.advance(), 6666);
-    assert_eq!(rt; docs.advance(), TERMINATED);
-    assert_eq!(rt; docs.doc(), TERMINATED);
-    Ok(())
-}
-
-#[test]
-fn an_empty_set_is_at_its_end(rt: HostRuntime) -> Result<(), Fail> {
-    let mut docs = bit_set_cursor(&rt, rt.alloc(), &[], 1000)?;
-    assert_eq!(rt; docs.seek(TERMINATED), TERMINATED);
-    let mut docs = bit_set_cursor(&rt, rt.alloc(), &[], 0)?;
-    assert_eq!(rt; docs.doc(), TERMINATED);
-    assert_eq!(rt; docs.advance(), TERMINATED);
-    assert_eq!(rt; docs.count_including_deleted(), 0);
+fn goes_through_members_and_stays_at_the_end(rt: HostRuntime) -> Result<(), Fail> {
+    const MEMBERS: &[DocId] = &[1, 5, 6, 7, 5112, 5513];
+    const WITHIN: &[(Move, DocId)] = &[
+        (Move::To(0), 1),
+        (Move::To(7), 7),
+        (Move::Step, 5112),
+        (Move::To(5113), 5513),
+        (Move::To(10_000), TERMINATED),
+        (Move::Step, TERMINATED),
+        (Move::To(0), TERMINATED),
+    ];
+    const FAR: &[(Move, DocId)] = &[
+        (Move::To(0), 3),
+        (Move::Step, 999_999),
+        (Move::Step, TERMINATED),
+    ];
+    const ENDED: &[(Move, DocId)] = &[(Move::To(0), TERMINATED), (Move::Step, TERMINATED)];
+    let rows: [(&[DocId], u32, &[(Move, DocId)]); 4] = [
+        (MEMBERS, 10_000, WITHIN),
+        (&[3, 999_999], 1_000_000, FAR),
+        (&[], 1000, ENDED),
+        (&[], 0, ENDED),
+    ];
+    for (members, max_value, moves) in rows {
+        let mut docs = bit_set_cursor(&rt, rt.alloc(), members, max_value)?;
+        assert_eq!(rt; docs.size_hint() as usize, members.len());
+        goes(&rt, &mut docs, moves);
+        assert_eq!(rt; docs.doc(), TERMINATED);
+        assert_eq!(rt; docs.count_including_deleted(), 0);
+    }
     Ok(())
 }
 
@@ -64,26 +64,10 @@ fn an_empty_set_is_at_its_end(rt: HostRuntime) -> Result<(), Fail> {
 fn every_seek_is_steps(rt: HostRuntime) -> Result<(), Fail> {
     let members = [0, 1, 62, 63, 64, 127, 128, 191, 200, 256];
     for target in 0..300 {
-        let mut seeks = bit_set_cursor(&rt, rt.alloc(), &members, 257)?;
-        let mut steps = bit_set_cursor(&rt, rt.alloc(), &members, 257)?;
-        assert_eq!(rt;
-            seeks.seek(target),
-            seek_by_steps(&mut steps, target),
-            "to {target}"
-        );
-        assert_eq!(rt; seeks.advance(), steps.advance(), "behind {target}");
+        let mut seeking = bit_set_cursor(&rt, rt.alloc(), &members, 257)?;
+        let mut stepping = bit_set_cursor(&rt, rt.alloc(), &members, 257)?;
+        seeks_as_steps_lead(&rt, &mut seeking, &mut stepping, target);
     }
-    Ok(())
-}
-
-#[test]
-fn a_million_numbers_have_two_members(rt: HostRuntime) -> Result<(), Fail> {
-    let mut docs = bit_set_cursor(&rt, rt.alloc(), &[3, 999_999], 1_000_000)?;
-    assert_eq!(rt; docs.doc(), 3);
-    assert_eq!(rt; docs.size_hint(), 2);
-    assert!(rt; docs.cost() > 0);
-    assert_eq!(rt; docs.advance(), 999_999);
-    assert_eq!(rt; docs.advance(), TERMINATED);
     Ok(())
 }
 

@@ -1,9 +1,10 @@
 ghost use Rattle.std.specs.Prelude.{IfOk};
 ghost use Rattle.qm_docset.specs.VecDocSet.{IsVecCursor};
 
+use crate::tests::moves::{Move, goes, seeks_as_steps_lead};
 use crate::{
     COLLECT_BLOCK_BUFFER_LEN, DocId, DocSet, HasLen, SeekDangerResult, TERMINATED, VecDocSet,
-    are_documents, documents_left, seek_by_steps,
+    are_documents, documents_left,
 };
 use std::alloc::Global;
 use std::process::Abort;
@@ -34,16 +35,36 @@ fn multiples(rt: &impl Abort, alloc: Global, step: u32, end: u32) -> Result<VecD
 
 #[test]
 fn goes_through_multiples_of_three(rt: HostRuntime) -> Result<(), Fail> {
+    let near = [
+        (Move::To(0), 0),
+        (Move::Step, 3),
+        (Move::To(14), 15),
+        (Move::To(300), 300),
+        (Move::To(10), 300),
+        (Move::To(6000), TERMINATED),
+        (Move::Step, TERMINATED),
+    ];
+    let far = [
+        (Move::To(1), 3),
+        (Move::To(77_777), 77_778),
+        (Move::To(99_999), 99_999),
+        (Move::Step, TERMINATED),
+    ];
     let mut docs = multiples(&rt, rt.alloc(), 3, 3070)?;
-    assert_eq!(rt; docs.doc(), 0);
-    assert_eq!(rt; docs.advance(), 3);
-    assert_eq!(rt; docs.seek(14), 15);
-    assert_eq!(rt; docs.seek(300), 300);
-    assert_eq!(rt; docs.seek(10), 300);
-    assert_eq!(rt; docs.seek(6000), TERMINATED);
-    assert_eq!(rt; docs.advance(), TERMINATED);
+    goes(&rt, &mut docs, &near);
     assert_eq!(rt; docs.len(), 1024);
     assert!(rt; !docs.is_empty());
+    goes(&rt, &mut multiples(&rt, rt.alloc(), 3, 100_000)?, &far);
+    Ok(())
+}
+
+#[test]
+fn steps_to_where_a_seek_goes(rt: HostRuntime) -> Result<(), Fail> {
+    for target in 0..300 {
+        let mut seeking = multiples(&rt, rt.alloc(), 7, 290)?;
+        let mut stepping = multiples(&rt, rt.alloc(), 7, 290)?;
+        seeks_as_steps_lead(&rt, &mut seeking, &mut stepping, target);
+    }
     Ok(())
 }
 
@@ -115,27 +136,6 @@ fn counts_what_is_left(rt: HostRuntime) -> Result<(), Fail> {
 }
 
 #[test]
-fn steps_to_where_a_seek_goes(rt: HostRuntime) -> Result<(), Fail> {
-    for target in 0..300 {
-        let mut seeking = multiples(&rt, rt.alloc(), 7, 290)?;
-        let mut stepping = multiples(&rt, rt.alloc(), 7, 290)?;
-        assert_eq!(rt; seek_by_steps(&mut stepping, target), seeking.seek(target));
-        assert_eq!(rt; stepping.advance(), seeking.advance());
-    }
-    Ok(())
-}
-
-#[test]
-fn seeks_past_long_stretches(rt: HostRuntime) -> Result<(), Fail> {
-    let mut docs = multiples(&rt, rt.alloc(), 3, 100_000)?;
-    assert_eq!(rt; docs.seek(1), 3);
-    assert_eq!(rt; docs.seek(77_777), 77_778);
-    assert_eq!(rt; docs.seek(99_999), 99_999);
-    assert_eq!(rt; docs.advance(), TERMINATED);
-    Ok(())
-}
-
-#[test]
 fn tells_lists_that_ascend(rt: HostRuntime) {
     assert!(rt; are_documents(&[]));
     assert!(rt; are_documents(&[0, 2_147_483_646]));
@@ -155,9 +155,12 @@ fn compares_and_prints_answers(rt: HostRuntime) -> Result<(), Fail> {
 #[test]
 fn goes_through_a_box(rt: HostRuntime) -> Result<(), Fail> {
     let mut docs = Box::new(rt.alloc(), cursor(&rt, rt.alloc(), &[2, 4, 6, 8])?)?;
-    assert_eq!(rt; docs.doc(), 2);
-    assert_eq!(rt; docs.advance(), 4);
-    assert_eq!(rt; docs.seek(5), 6);
+    goes(
+        &rt,
+        &mut docs,
+        &[(Move::To(0), 2), (Move::Step, 4), (Move::To(5), 6)],
+    );
+    assert_eq!(rt; docs.doc(), 6);
     assert_eq!(rt; docs.seek_danger(6), SeekDangerResult::Found);
     assert_eq!(rt; docs.size_hint(), 2);
     assert_eq!(rt; docs.cost(), 2);
@@ -165,6 +168,5 @@ fn goes_through_a_box(rt: HostRuntime) -> Result<(), Fail> {
     assert_eq!(rt; docs.fill_buffer(&mut buffer), 2);
     assert_eq!(rt; buffer[1], 8);
     assert_eq!(rt; docs.count_including_deleted(), 0);
-    assert_eq!(rt; seek_by_steps(&mut docs, 3), TERMINATED);
     Ok(())
 }

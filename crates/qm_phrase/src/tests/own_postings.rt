@@ -19,7 +19,7 @@ pub(crate) struct Posting {
 }
 
 /// Whether positions ascend strictly and are below 4294967295.
-fn are_positions(positions: &[u32]) -> bool
+pub(crate) fn are_positions(positions: &[u32]) -> bool
     ensures { IsTrue result → ArePositions positions.now }
 {
     let mut next = 0;
@@ -36,7 +36,10 @@ fn are_positions(positions: &[u32]) -> bool
 pub(crate) const DOCUMENT: DocId = 6;
 
 /// A term that stands at these positions of the document, and in no other.
-fn posting_at(rt: &(impl Abort + AllocGlobal), positions: &[u32]) -> Result<Posting, Fail>
+pub(crate) fn posting_at(
+    rt: &(impl Abort + AllocGlobal),
+    positions: &[u32],
+) -> Result<Posting, Fail>
     ensures valid { IfOk result ⟦<Posting as DocSet>⟧.valid }
 {
     assert!(rt; positions.len() <= 1000000);

@@ -207,7 +207,7 @@ fn counts_as_the_definition_does(rt: HostRuntime) -> Result<(), Fail> {
         for second in &lists {
             for slop in [0, 1, 2, 7] {
                 let terms: [(usize, &[u32]); 2] = [(0, first), (1, second)];
-                assert_counts(&rt, &terms, slop, plain_count(&terms, slop))?;
+                assert_eq!(rt; counted(&rt, &terms, slop)?, plain_count(&terms, slop));
             }
             for third in &lists {
                 let terms: [(usize, &[u32]); 3] = [(2, first), (0, second), (3, third)];
@@ -229,6 +229,19 @@ fn counts_ten_thousand_starts(rt: HostRuntime) -> Result<(), Fail> {
     assert_counts(&rt, &[(0, &first), (1, &second)], 0, 10000)?;
     assert_counts(&rt, &[(0, &first), (1, &second)], 1, 10000)?;
     assert_counts(&rt, &[(0, &second), (1, &first)], 2, 10000)
+}
+
+#[test]
+fn scores_by_the_count_and_the_length(rt: HostRuntime) -> Result<(), Fail> {
+    // a b in "a a b d a b c" and in " a b", of the length ids 7 and 2
+    let rows: [(Row, u8, Score); 2] = [(ROWS[0], 7, 444), (ROWS[1], 2, 666)];
+    for ((terms, slop, count), length_id, score) in rows {
+        let mut scorer = phrase(&rt, terms, Some(weight(&rt, 2000)?), length_id, slop)?;
+        assert!(rt; scorer.doc() < TERMINATED);
+        assert_eq!(rt; scorer.phrase_count(), count);
+        assert_eq!(rt; scorer.score(), score);
+    }
+    Ok(())
 }
 
 #[test]

@@ -3,7 +3,8 @@
 
 use crate::tests::searchers::weights;
 use crate::tests::segments::{entries, length_id, listed, notes, schema, segment, title};
-use crate::{PlainDoc, Searcher, SegmentBuilder};
+use crate::{PlainDoc, Postings, Searcher, SegmentBuilder};
+use qm_docset::{DocSet, TERMINATED};
 use qm_schema::{IndexRecordOption, QueryError, Term};
 use std::alloc::Global;
 use std::env;
@@ -231,14 +232,22 @@ fn lookups_ask_for_no_memory(rt: HostRuntime) -> Result<(), Fail> {
     }
     let reader = segment(rt.alloc(), &[("a b", "c"), ("b", ""), ("b a a", "c")])?;
     let term = Term::from_field_text(rt.alloc(), title(), "a")?;
+    let mut first: Vec<u32> = Vec::with_capacity(rt.alloc(), 4)?;
     refuse_all(rt.alloc());
     let index = reader.inverted_index(title());
     let info = index.get_term_info(&term);
-    let postings = index.read_postings(&term, IndexRecordOption::WithFreqs);
+    let option = IndexRecordOption::WithFreqsAndPositions;
+    let postings = index.read_postings(&term, option);
+    if let Some(mut postings) = postings {
+        if postings.max_term_freq() <= 4 && postings.doc() < TERMINATED {
+            postings.positions(&mut first);
+        }
+    }
     let length = length_id(&reader, title(), 2);
     let is_refused = Vec::<u8>::with_capacity(rt.alloc(), 1).is_err();
     refuse(rt.alloc(), 0);
     assert!(rt; is_refused);
+    assert_eq!(rt; first.as_slice(), [0].as_slice());
     assert_eq!(rt; info.map(|info| info.doc_freq), Some(2));
     assert_eq!(rt; length, Some(3));
     let found = listed(rt.alloc(), postings.ok_or("no postings")?)?;

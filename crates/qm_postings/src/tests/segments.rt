@@ -20,10 +20,11 @@ pub fn notes() -> Field {
     Field::from_field_id(2)
 }
 
-/// Titles with frequencies and lengths, bodies without either, and notes with lengths alone.
+/// Titles with positions and lengths, bodies without either, and notes with lengths alone.
 pub fn schema(alloc: Global) -> Result<Schema, Fail> {
     let mut builder = Schema::builder(alloc);
-    builder.add_text_field("title", Some(IndexRecordOption::WithFreqs), true)?;
+    let with_positions = IndexRecordOption::WithFreqsAndPositions;
+    builder.add_text_field("title", Some(with_positions), true)?;
     builder.add_text_field("body", Some(IndexRecordOption::Basic), false)?;
     builder.add_text_field("notes", None, true)?;
     Ok(builder.build())

@@ -1,28 +1,11 @@
 -- The least of the first places is counted where it is a start, and passed.
-use Rattle.std.proofs.Common.{◌≡◌, ◌+◌, ◌<◌, ◌≤◌, All, List, ℕ, length, map, arith, ap, subst, sym, ◌∙◌}
-use Rattle.std.proofs.lemmas.Bool.{le-leb, lt-leb}
+use Rattle.std.proofs.Common.{All, map, arith, ap, subst, sym, ◌∙◌}
 use Rattle.std.proofs.lemmas.List.{length-map}
-use Rattle.qm_phrase.specs.Places.{Ascends, greatest_first, least_first, past, places_left}
-use Rattle.qm_phrase.specs.Starts.{all_places, starts}
-use Rattle.qm_phrase.proofs.StartSteps.{All-least, All-past, greatest_first-most, is_start-least, least_first-le, least_first-past, one_if, starts-ended, starts-step}
+use Rattle.qm_phrase.specs.Places.{Ascends, least_first, places_left}
+use Rattle.qm_phrase.specs.Starts.{starts}
+use Rattle.qm_phrase.proofs.StartSteps.{All-past, counted, least_first-past, starts-ended, within}
 use Rattle.qm_phrase.proofs.counting.count_starts.Goals as goal
 use Rattle.qm_phrase.proofs.counting.count_starts.Goals.{then-greatest-least, else-greatest-least}
-
--- what is known where some set has a least place
-within : (sets : List (List ℕ)) (least greatest : ℕ) → 0 < length sets → least ≡ least_first sets → greatest ≡ greatest_first sets → (greatest ≡ all_places → ⊥) → All (Ascends 0) sets → (least < all_places) × (greatest_first sets < all_places) × All (Ascends least) sets
-within sets least greatest some is most here all =
-    let below : greatest_first sets < all_places = omega (arith, greatest_first-most sets all) in
-    let under : least < all_places = omega (arith, least_first-le sets some) in
-    (under, below, All-least least sets (omega arith) all)
-
--- the place is counted exactly where the greatest is within the slop
-counted : (sets : List (List ℕ)) (slop least : ℕ) → least ≡ least_first sets → least < all_places → greatest_first sets < all_places → All (Ascends least) sets → (greatest_first sets ≤ least + slop → starts slop sets ≡ 1 + starts slop (map (past least) sets)) × (least + slop < greatest_first sets → starts slop sets ≡ starts slop (map (past least) sets))
-counted sets slop least is under below all =
-    let step = starts-step slop least sets under all in
-    let start = is_start-least slop least sets is under below all in (
-      (λ near. omega (arith, step, ap one_if (start ∙ le-leb (greatest_first sets) (least + slop) near))),
-      (λ far. omega (arith, step, ap one_if (start ∙ lt-leb (greatest_first sets) (least + slop) far))),
-    )
 
 pub pass-requires : goal.pass-requires
 pass-requires c =

@@ -23,6 +23,7 @@ loop-i-init g c =
       shifts = refl;
       roomy = c.requires.roomy;
       entries = refl;
+      limits = refl;
       valid = c.requires.valid;
       here = c.requires.here;
     }
@@ -75,6 +76,7 @@ loop-i-preserved g c =
       shifts = map-set_same shift_of places i read row under c.read.ensures.shift ∙ c.loop-i.invariant.shifts;
       roomy = rw bounds_same (AreRoomy-set room_of (bounds g.P.DocSet members) places i read row under c.read.ensures.room c.loop-i.invariant.roomy);
       entries = map-set_same g.P.DocSet.entries members i moved member below c.read.ensures.entries ∙ same_lists;
+      limits = bounds_same ∙ c.loop-i.invariant.limits;
       valid = All-set g.P.DocSet.valid members i moved c.read.ensures.valid c.loop-i.invariant.valid;
       here = All-set Here members i moved (c.read.ensures.placed, still) c.loop-i.invariant.here;
     }

@@ -14,6 +14,7 @@ invariant-loop-i g l = record {
   shifts : map shift_of l.places ≡ map shift_of l.fn.places;
   roomy : AreRoomy (bounds g.P.DocSet l.members) (map room_of l.places);
   entries : lists g.P.DocSet l.members ≡ lists g.P.DocSet l.fn.members;
+  limits : bounds g.P.DocSet l.members ≡ bounds g.P.DocSet l.fn.members;
   valid : All g.P.DocSet.valid l.members;
   here : All (λ m. g.P.DocSet.placed m × (head_document (g.P.DocSet.entries m) < TERMINATED)) l.members;
 }

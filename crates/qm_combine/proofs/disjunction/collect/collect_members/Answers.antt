@@ -32,4 +32,4 @@ returns-clause-given g c =
     let run = run_of_exit g.I.IntoIter.Iterator.next_gives c.into_iter-scorer-iterator.result c.loop-scorer.yielded c.loop-scorer.scorer-iterator c.loop-scorer.yielded_by c.next.new.self c.in-None.ensures.steps in
     let fits : total_top (bounds g.S.DocSet c.loop-scorer.yielded) ≤ greatest_score = omega (arith, c.loop-scorer.invariant.summed, c.if-sum.false) in
     let sum : to_z w64 c.loop-scorer.sum ≡ pos (total_top (bounds g.S.DocSet c.loop-scorer.yielded)) = omega (arith, ints, c.loop-scorer.invariant.summed) in
-    (c.loop-scorer.yielded, (c.into_iter-docsets.result, c.into_iter-docsets.ensures.into_iter_gives, (run.0, run.1 ∙ c.into_iter-scorer-iterator.ensures.into_iter_gives, run.2, run.3.0)), (((λ refused. absurd (none_refused _ ScoreBound refused)), (λ over. absurd (omega arith))), (c.loop-scorer.invariant.row c.if-not-has_room.false, sum, fits)))
+    (c.loop-scorer.yielded, (c.into_iter-docsets.result, c.into_iter-docsets.ensures.into_iter_gives, (run.0, run.1 ∙ c.into_iter-scorer-iterator.ensures.into_iter_gives, run.2, run.3.0)), (((λ refused. absurd (none_refused _ ScoreBound refused)), (λ over. absurd (omega arith))), record { all = c.loop-scorer.invariant.row c.if-not-has_room.false; added = sum; fits = fits }))

@@ -17,15 +17,15 @@ same_room has_room a b x y p q h = subst (λ s. has_room s x) (sym p) (subst (ha
 
 pub update-requires-clause-room : goal.update-requires-clause-room
 update-requires-clause-room g c =
-    let start = c.requires.valid.4.0 in
-    same_room g.C.ScoreCombiner.has_room _ (g.C.ScoreCombiner.cleared start) _ _ c.requires.valid.4.1 refl (g.met.C.ScoreCombiner.room start [] _ (omega arith))
+    let start = c.requires.valid.start.start in
+    same_room g.C.ScoreCombiner.has_room _ (g.C.ScoreCombiner.cleared start) _ _ c.requires.valid.start.is refl (g.met.C.ScoreCombiner.room start [] _ (omega arith))
 
 pub add_optional-requires-clause-room : goal.add_optional-requires-clause-room
 add_optional-requires-clause-room g c =
-    let start = c.requires.valid.4.0 in
+    let start = c.requires.valid.start.start in
     let own = head_score (g.R.DocSet.entries c.args.self.now.required) in
-    let most = head_score-le 0 _ _ (g.met.R.DocSet.ascending c.args.self.now.required c.requires.valid.0) in
-    let taken = c.update.ensures.state ∙ ap (λ s. g.C.ScoreCombiner.step s own) c.requires.valid.4.1 in
+    let most = head_score-le 0 _ _ (g.met.R.DocSet.ascending c.args.self.now.required c.requires.valid.valid) in
+    let taken = c.update.ensures.state ∙ ap (λ s. g.C.ScoreCombiner.step s own) c.requires.valid.start.is in
     same_room g.C.ScoreCombiner.has_room _ _ _ _ taken refl (g.met.C.ScoreCombiner.room start (own ∷ []) _ (omega arith))
 
 pub returns-clause-score : goal.returns-clause-score
@@ -37,7 +37,7 @@ returns-clause-score g c =
     let fits : FitsSigned w64 c.score.result = search rules in
     let taken = c.add_optional.ensures.state ∙ ap (λ s. fold g.C.ScoreCombiner.step s (scores_at c.doc-doc.result (os ∷ []))) c.update.ensures.state in
     to_z-of_z w64 c.score.result fits ∙ c.score.ensures ∙ ap (λ s. pos (g.C.ScoreCombiner.value s)) taken
-    ∙ ap pos (value-fold g.C.ScoreCombiner g.met.C.ScoreCombiner.combines g.met.C.ScoreCombiner.clear_keeps _ c.args.self.now.combiner c.requires.valid.4.1 (head_score rs ∷ scores_at c.doc-doc.result (os ∷ [])))
+    ∙ ap pos (value-fold g.C.ScoreCombiner g.met.C.ScoreCombiner.combines g.met.C.ScoreCombiner.clear_keeps _ c.args.self.now.combiner c.requires.valid.start.is (head_score rs ∷ scores_at c.doc-doc.result (os ∷ [])))
     ∙ ap (λ d. pos (combined (head_score rs ∷ scores_at d (os ∷ [])))) c.doc-doc.ensures
     ∙ ap pos (sym (head_score-rescored (λ e. combined (e.score ∷ scores_at e.document (os ∷ []))) rs here))
 
@@ -46,5 +46,5 @@ returns-clause-entries g c =
     let rs = g.R.DocSet.entries c.args.self.now.required in
     let os = g.O.DocSet.entries c.args.self.now.optional in
     let combined = g.C.ScoreCombiner.combined c.args.self.now.combiner in
-    let ascends = g.met.R.DocSet.ascending c.args.self.now.required c.requires.valid.0 in
+    let ascends = g.met.R.DocSet.ascending c.args.self.now.required c.requires.valid.valid in
     (λ i. with_optional combined (c.update.ensures.entries i) (c.add_optional.ensures.left.entries i)) ∙ with_optional-reached combined c.doc-doc.result _ rs os c.doc-doc.ensures ascends

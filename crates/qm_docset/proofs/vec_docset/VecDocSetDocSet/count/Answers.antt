@@ -4,7 +4,7 @@ use Rattle.std.proofs.lemmas.List.{drop_all, length-map}
 use Rattle.qm_docset.specs.AliveBitSet.{alive_entries}
 use Rattle.qm_docset.specs.Entry.{plain}
 use Rattle.qm_docset.proofs.AliveLemmas.{alive_next, deleted_next, alive_entries-nil, length-alive_entries}
-use Rattle.qm_docset.proofs.Plain.{few}
+use Rattle.qm_docset.proofs.PlacesLeft.{few}
 use Rattle.qm_docset.proofs.vec_docset.VecDocSetDocSet.count.Goals as goal
 use Rattle.qm_docset.proofs.vec_docset.VecDocSetDocSet.count.Goals.{After-deref, then-is_alive, else-is_alive}
 

@@ -1,5 +1,5 @@
 use Rattle.std.proofs.Common.{arith}
-use Rattle.qm_docset.proofs.Plain.{few}
+use Rattle.qm_docset.proofs.PlacesLeft.{few}
 use Rattle.qm_docset.proofs.vec_docset.VecDocSetDocSet.count_including_deleted.Goals as goal
 
 pub overflow_cast-count : goal.overflow_cast-count

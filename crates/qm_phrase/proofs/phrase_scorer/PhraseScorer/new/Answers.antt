@@ -1,5 +1,5 @@
 -- The terms as they are handed in, moved to the first document with a start.
-use Rattle.std.proofs.Common.{◌≡◌, ℕ, ◌-◌, ◌≤◌, fold, length, map, max, ap, ◌∙◌, arith}
+use Rattle.std.proofs.Common.{◌≡◌, ℕ, ◌-◌, ◌<◌, ◌≤◌, fold, length, map, max, ap, ◌∙◌, arith}
 use Rattle.qm_docset.specs.EntryFacts.{from-all}
 use Rattle.qm_docset.specs.Lists.{lists}
 use Rattle.qm_postings.specs.FieldNorms.{norm_ids}
@@ -23,11 +23,11 @@ seek-requires-clause-valid g c =
     let greatest = c.greatest_offset-greatest.result in
     let offset : ℕ × g.row.P.Denot → ℕ = λ pair. pair.0 in
     let most : greatest ≤ 4294967295 = omega (arith, c.greatest_offset-greatest.ensures, ap (λ r. fold max 0 (map offset r)) c.deref.ensures.value, greatest-le g.P.DocSet items c.requires.offsets) in
-    let two : 2 ≤ length items = omega (arith, c.requires.two, c.args.term_postings.ok.0) in
-    let terms = AreTerms-split g.P.DocSet items members places greatest two most c.requires.valid c.in_ok-members.ensures.members c.in_ok-members.ensures.shifts c.in_ok-members.ensures.roomy in
+    let filled : 0 < length items = omega (arith, c.requires.two, c.args.term_postings.ok.0) in
+    let terms = AreTerms-split g.P.DocSet items members places greatest filled most c.requires.valid c.in_ok-members.ensures.members c.in_ok-members.ensures.shifts c.in_ok-members.ensures.roomy in
     record {
       terms = terms;
-      covered = λ d some. covered-split g.P.DocSet (norm_ids c.args.fieldnorm_reader) c.args.slop d items members places two c.requires.covered c.in_ok-members.ensures.members terms some;
+      covered = λ d some. covered-split g.P.DocSet (norm_ids c.args.fieldnorm_reader) c.args.slop d items members places filled c.requires.covered c.in_ok-members.ensures.members terms some;
     }
 
 pub returns-clause-lists : goal.returns-clause-lists

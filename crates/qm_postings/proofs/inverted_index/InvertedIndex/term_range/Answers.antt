@@ -28,7 +28,7 @@ returns c =
         rw (w.end-is, w.in-None.is) (subst (λ ts. IsStartOf (record { field = field + 1; bytes = [] }) (map (λ r. r.term) ts) w.terms_before-end-in-None.result) value w.terms_before-end-in-None.ensures.point),
       )
     ] in
-    let found = terms_between inside.schema inside.block_len (map (λ c. c.items) inside.lengths.items) inside.max_doc rs inside.documents.items inside.frequencies.items c.reader.invariant.1 field ge lt start.result c.match-lt.end first end.0
+    let found = terms_between inside.schema inside.block_len (map (λ c. c.items) inside.lengths.items) inside.max_doc rs inside.documents.items inside.frequencies.items inside.positions.items c.reader.invariant.1 field ge lt start.result c.match-lt.end first end.0
     (subst (λ ts. IsStartOf (record { field = field; bytes = ge }) (map (λ r. r.term) ts) start.result) value start.ensures.point) end.1 in
     let Found : Reader → Type 0 = λ v. AreTermsBetween (record { reader = v; field = field }) ge lt (map (found_at v) (range_with_len start.result (c.match-lt.end - start.result))) in
     let same : field ≡ c.args.self.now.field = c.from-field.ensures ∙ c.field_id.ensures in

@@ -1,14 +1,16 @@
-use Rattle.std.proofs.Common.{◌≡◌, ◌≤◌, ◌++◌, length, map, ◌+◌, sym, refl, ap, subst, ◌∙◌, arith}
+use Rattle.std.proofs.Common.{◌≡◌, ◌≤◌, length, map, ◌+◌, sym, refl, ap, subst, ◌∙◌, arith}
+use Rattle.std.specs.Prelude.{All}
 use Rattle.std.specs.List.Sorted.{IsPermutation}
 use Rattle.std.specs.Result.{IsErrAnd}
 use Rattle.std.proofs.lemmas.List.Elements.{All-weaker}
 use Rattle.std.proofs.lemmas.List.Sorted.{All-permutation}
-use Rattle.qm_postings.specs.Building.{IsWithRow, posted_by}
+use Rattle.qm_postings.specs.Building.{IsWithRow, kept_count, posted_by}
 use Rattle.qm_postings.specs.Document.{Draft}
 use Rattle.qm_postings.specs.Index.{AreColumns, ArePosted, segment_from}
+use Rattle.qm_postings.specs.KeptPositions.{IsCounted}
 use Rattle.qm_postings.specs.Segment.{AscendFrom, IsGood}
-use Rattle.qm_postings.proofs.SegmentGrowth.{ascend_count, columns_more, counted, not_too_many, on_err, posted_more, segment_more}
-use Rattle.qm_postings.proofs.NumberedPostings.{numbered_after, numbered_grown, posted_after, posted_grown}
+use Rattle.qm_postings.proofs.SegmentGrowth.{ascend_count, columns_more, counted, counted_more, not_too_many, on_err, posted_more, segment_more}
+use Rattle.qm_postings.proofs.NumberedPostings.{numbered_after, numbered_grown, posted_after, posted_grown, whole_after}
 use Rattle.qm_postings.proofs.TermChecks.{distinct_in_any_order}
 use Rattle.qm_postings.proofs.segment_builder.SegmentBuilder.add_document.Goals as goal
 
@@ -64,12 +66,17 @@ pub invariant_of-self-in_err-push_postings : goal.invariant_of-self-in_err-push_
 invariant_of-self-in_err-push_postings c =
     let inside = c.self.inside in
     let grown = c.in_err-push_postings.ensures.grown in
-    let same = c.in_err-push_postings.ensures.unchanged in (
+    let same = c.in_err-push_postings.ensures.unchanged in
+    let row = c.in_err-push_postings.ensures.row in
+    let posts = posted_grown inside.terms c.push_postings.new.terms grown.0 inside.postings.items c.push_postings.new.postings.items inside.positions.items c.push_postings.new.positions.items grown.1 same row c.self.invariant.2 in (
       c.self.invariant.0,
       c.self.invariant.1,
       numbered_grown inside.terms c.push_postings.new.terms grown.0 inside.postings.items c.push_postings.new.postings.items grown.1 same c.self.invariant.2,
-      subst (ArePosted inside.max_doc) (sym (posted_grown inside.terms c.push_postings.new.terms grown.0 inside.postings.items c.push_postings.new.postings.items grown.1 same c.self.invariant.2)) c.self.invariant.3,
+      subst (ArePosted inside.max_doc) (sym posts) c.self.invariant.3,
       subst (AreColumns inside.schema inside.max_doc) (sym c.reserve.ensures.kept) c.self.invariant.4,
+      ap length row ∙ c.self.invariant.5 ∙ ap kept_count (sym same),
+      subst (All (IsCounted inside.schema)) (sym posts) c.self.invariant.6,
+      c.self.invariant.7,
     )
 
 pub returns-in_err-push_postings-clause-unchanged : goal.returns-in_err-push_postings-clause-unchanged
@@ -77,7 +84,8 @@ returns-in_err-push_postings-clause-unchanged c =
     let inside = c.self.inside in
     let grown = c.in_err-push_postings.ensures.grown in
     let same = c.in_err-push_postings.ensures.unchanged in
-    let posts = posted_grown inside.terms c.push_postings.new.terms grown.0 inside.postings.items c.push_postings.new.postings.items grown.1 same c.self.invariant.2 in
+    let row = c.in_err-push_postings.ensures.row in
+    let posts = posted_grown inside.terms c.push_postings.new.terms grown.0 inside.postings.items c.push_postings.new.postings.items inside.positions.items c.push_postings.new.positions.items grown.1 same row c.self.invariant.2 in
     let stays = (λ i. segment_from inside.schema inside.block_len (posts i) (c.reserve.ensures.kept i) inside.max_doc) ∙ c.self.view_is in
     on_err c.from_residual-in_err-push_postings.result _ stays
 
@@ -98,13 +106,16 @@ invariant_of-self-2 c =
     let once = (distinct_in_any_order _ _ sorted).0 good.once in
     let grown = c.in_ok-push_postings.ensures.grown in
     let pushed = c.in_ok-push_postings.ensures.pushed in
-    let posts = posted_after inside.schema inside.max_doc c.document-2.inside.terms.items inside.terms c.push_postings.new.terms grown.0 inside.postings.items c.push_postings.new.postings.items grown.1 pushed c.self.invariant.2 c.self.invariant.3 (omega arith) once in (
+    let posts = posted_after inside.schema inside.max_doc c.document-2.inside.terms.items inside.terms c.push_postings.new.terms grown.0 inside.postings.items c.push_postings.new.postings.items inside.positions.items c.push_postings.new.positions.items grown.1 pushed c.self.invariant.2 c.self.invariant.5 c.self.invariant.3 (omega arith) once in (
       omega arith,
       c.self.invariant.1,
-      numbered_after inside.schema inside.max_doc c.document-2.inside.terms.items inside.terms c.push_postings.new.terms grown.0 inside.postings.items c.push_postings.new.postings.items grown.1 pushed c.self.invariant.2 c.self.invariant.3 (omega arith) once,
-      subst (ArePosted (inside.max_doc + 1)) (sym posts) (posted_more inside.schema inside.max_doc (posted_by inside.terms inside.postings.items) c.document-2.inside.terms.items c.self.invariant.3 once),
+      numbered_after inside.schema inside.max_doc c.document-2.inside.terms.items inside.terms c.push_postings.new.terms grown.0 inside.postings.items c.push_postings.new.postings.items inside.positions.items c.push_postings.new.positions.items grown.1 pushed c.self.invariant.2 c.self.invariant.5 c.self.invariant.3 (omega arith) once,
+      subst (ArePosted (inside.max_doc + 1)) (sym posts) (posted_more inside.schema inside.max_doc (posted_by inside.terms inside.positions.items 0 inside.postings.items) c.document-2.inside.terms.items c.self.invariant.3 once),
       columns_more inside.schema inside.max_doc (map (λ v. v.items) inside.lengths.items) _ c.as_slice.result.now c.self.invariant.4
           (subst (λ old. IsWithRow inside.schema c.as_slice.result.now old (map (λ v. v.items) c.push.new.columns.items)) c.reserve.ensures.kept c.push.ensures),
+      whole_after inside.schema inside.max_doc c.document-2.inside.terms.items inside.terms c.push_postings.new.terms grown.0 inside.postings.items c.push_postings.new.postings.items inside.positions.items c.push_postings.new.positions.items grown.1 pushed c.self.invariant.2 c.self.invariant.5 c.self.invariant.3 (omega arith) once,
+      subst (All (IsCounted inside.schema)) (sym posts) (counted_more inside.schema inside.max_doc _ c.document-2.inside.terms.items c.self.invariant.6 (All-permutation (λ g. AscendFrom 0 g.positions) _ _ sorted good.ascending)),
+      c.self.invariant.7,
     )
 
 pub returns-clause-number : goal.returns-clause-number
@@ -119,12 +130,12 @@ returns-clause-added c =
     let once = (distinct_in_any_order _ _ sorted).0 good.once in
     let grown = c.in_ok-push_postings.ensures.grown in
     let pushed = c.in_ok-push_postings.ensures.pushed in
-    let posts = posted_after inside.schema inside.max_doc c.document-2.inside.terms.items inside.terms c.push_postings.new.terms grown.0 inside.postings.items c.push_postings.new.postings.items grown.1 pushed c.self.invariant.2 c.self.invariant.3 (omega arith) once in
+    let posts = posted_after inside.schema inside.max_doc c.document-2.inside.terms.items inside.terms c.push_postings.new.terms grown.0 inside.postings.items c.push_postings.new.postings.items inside.positions.items c.push_postings.new.positions.items grown.1 pushed c.self.invariant.2 c.self.invariant.5 c.self.invariant.3 (omega arith) once in
     let lengths = c.as_slice.ensures.value ∙ ap (λ (d : Draft). d.lengths) c.document-2.view_is ∙ c.is_good.ensures.lengths in
     let row = subst (λ given. IsWithRow inside.schema given (map (λ v. v.items) inside.lengths.items) (map (λ v. v.items) c.push.new.columns.items)) lengths
     (subst (λ old. IsWithRow inside.schema c.as_slice.result.now old (map (λ v. v.items) c.push.new.columns.items)) c.reserve.ensures.kept c.push.ensures) in
     ap (λ ps. segment_from inside.schema inside.block_len ps (map (λ v. v.items) c.push.new.columns.items) (inside.max_doc + 1)) posts
-    ∙ segment_more inside.schema inside.max_doc (posted_by inside.terms inside.postings.items) (map (λ v. v.items) inside.lengths.items) (map (λ v. v.items) c.push.new.columns.items) c.args.document
+    ∙ segment_more inside.schema inside.max_doc (posted_by inside.terms inside.positions.items 0 inside.postings.items) (map (λ v. v.items) inside.lengths.items) (map (λ v. v.items) c.push.new.columns.items) c.args.document
     c.document-2.inside.terms.items c.self.invariant.3 c.self.invariant.4 sorted good row inside.block_len c.args.self.now c.self.view_is
 
 pub returns-clause-full : goal.returns-clause-full

@@ -6,7 +6,8 @@ use Rattle.qm_postings.specs.SegmentPostings.{IsPostings, postings_left}
 use Rattle.qm_postings.specs.StoredFacts.{no_positions, positions_at}
 use Rattle.qm_postings.specs.TermArrays.{stored}
 use Rattle.qm_postings.specs.declared.segment_postings.SegmentPostings.{SegmentPostings}
-use Rattle.qm_postings.proofs.PostingsLeft.{named, within}
+use Rattle.qm_docset.proofs.PlacesLeft.{within}
+use Rattle.qm_postings.proofs.PostingsLeft.{named}
 use Rattle.qm_postings.proofs.segment_postings.SegmentPostings.positions_here.Goals as goal
 
 inside : (s : SegmentPostings) → IsPostings s → head_document (postings_left s) < TERMINATED → s.cursor < length s.arrays.documents.now

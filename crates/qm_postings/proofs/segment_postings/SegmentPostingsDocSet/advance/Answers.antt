@@ -1,7 +1,8 @@
 -- One document fewer is left; none where the cursor was at its end.
 use Rattle.std.proofs.Common.{drop, arith, ap, sym, ◌∙◌}
 use Rattle.qm_postings.specs.TermArrays.{stored}
-use Rattle.qm_postings.proofs.PostingsLeft.{left_on, named, none_left}
+use Rattle.qm_docset.proofs.PlacesLeft.{left_on, none_left}
+use Rattle.qm_postings.proofs.PostingsLeft.{named}
 use Rattle.qm_postings.proofs.segment_postings.SegmentPostingsDocSet.advance.Goals as goal
 use Rattle.qm_postings.proofs.segment_postings.SegmentPostingsDocSet.advance.Goals.{then-self, else-self}
 

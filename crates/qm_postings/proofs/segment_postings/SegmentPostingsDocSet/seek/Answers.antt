@@ -1,7 +1,8 @@
 use Rattle.qm_postings.specs.SegmentPostings.{postings_limits}
 use Rattle.qm_postings.specs.StoredFacts.{AreEntries-stored}
 use Rattle.qm_postings.specs.TermArrays.{stored}
-use Rattle.qm_postings.proofs.PostingsLeft.{left_from, named}
+use Rattle.qm_docset.proofs.PlacesLeft.{left_from}
+use Rattle.qm_postings.proofs.PostingsLeft.{named}
 use Rattle.qm_postings.proofs.segment_postings.SegmentPostingsDocSet.seek.Goals as goal
 
 pub returns-clause-entries : goal.returns-clause-entries

@@ -3,7 +3,8 @@ use Rattle.std.proofs.Common.{◌≡◌, arith, ap, sym, ◌∙◌, get_or, inl,
 use Rattle.qm_postings.specs.Stored.{frequency_read}
 use Rattle.qm_postings.specs.StoredFacts.{frequency_at}
 use Rattle.qm_postings.specs.TermArrays.{stored}
-use Rattle.qm_postings.proofs.PostingsLeft.{named, within}
+use Rattle.qm_docset.proofs.PlacesLeft.{within}
+use Rattle.qm_postings.proofs.PostingsLeft.{named}
 use Rattle.qm_postings.proofs.segment_postings.SegmentPostingsPostings.term_freq.Goals as goal
 
 pub bounds-self-self : goal.bounds-self-self

@@ -25,5 +25,5 @@ returns-clause-ids c =
     let own : column ≡ get_or vectors field column = c.index-ids.ensures ∙ ap (λ n. get_or vectors n column) c.field_id.ensures in
     let is_column : column.items ≡ get_or columns field [] = ap (λ c. c.items) own ∙ sym (get_or-map (λ c. c.items) vectors field column [] has_column) in
     c.new.ensures.ids ∙ c.as_slice.ensures.value ∙ is_column
-    ∙ length_ids-column inside.schema inside.block_len (posted_of inside.terms.items inside.documents.items inside.frequencies.items) columns inside.max_doc field kept known keeps_them
+    ∙ length_ids-column inside.schema inside.block_len (posted_of inside.terms.items inside.documents.items inside.frequencies.items inside.positions.items) columns inside.max_doc field kept known keeps_them
     ∙ ap (λ v. map (length_id v.segment field) (range_with_len 0 (length v.segment.documents))) c.self.view_is

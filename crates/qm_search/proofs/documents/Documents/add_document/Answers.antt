@@ -1,10 +1,12 @@
-use Rattle.std.proofs.Common.{◌≡◌, ◌+◌, ◌≤◌, ◌<◌, [], ◌∷◌, ◌++◌, All, ap, sym, ◌∙◌, subst, arith, drop, take, length, vec_len, string_bytes, IsOk, rules}
-use Rattle.std.proofs.lemmas.List.{drop-append-le, take-append-le}
+use Rattle.std.proofs.Common.{◌≡◌, ◌+◌, ◌≤◌, ◌<◌, ◌⊎◌, [], ◌∷◌, ◌++◌, All, ap, sym, ◌∙◌, subst, arith, drop, take, length, vec_len, string_bytes, IsOk, rules}
+use Rattle.std.proofs.lemmas.List.{drop-append-le, length-drop, length-map, take-append-le}
+use Rattle.std.proofs.lemmas.Result.{err_from_is_err_and}
 use Rattle.std.proofs.lemmas.List.Elements.{All-push}
 use Rattle.qm_docset.specs.declared.numbers.TheConstants.{TERMINATED}
-use Rattle.qm_postings.specs.Segment.{IsGood}
-use Rattle.qm_search.specs.TextSegments.{IsBadText, segment_of, text_draft, with_text}
-use Rattle.qm_search.proofs.SegmentTexts.{segment_of-push}
+use Rattle.qm_postings.specs.Segment.{IsGood, Segment}
+use Rattle.qm_schema.specs.declared.error.QueryError.TheVariants.{Memory}
+use Rattle.qm_search.specs.TextSegments.{IsBadText, IsTextRefusal, segment_of, text_document, text_draft, with_text}
+use Rattle.qm_search.proofs.SegmentTexts.{same_refusal, segment_of-push}
 use Rattle.qm_search.proofs.documents.Documents.add_document.Goals as goal
 
 pub invariant_of-self-2 : goal.invariant_of-self-2
@@ -37,3 +39,16 @@ invariant_of-self-2 c =
       building = λ x h. let one : c.add_text-added.new.builder ≡ x = cc in sym one ∙ grown;
       good = subst (λ ts. All (λ t. ¬ IsBadText taken.schema (string_bytes t)) ts) (sym pushed) (All-push (λ t. ¬ IsBadText taken.schema (string_bytes t)) texts text taken.good (λ bad. bad good));
     }
+
+pub returns-in_err-added-clause-refused : goal.returns-in_err-added-clause-refused
+returns-in_err-added-clause-refused c =
+    let e = c.in_err-added.field-0.0 in
+    let documents = c.args.self.now in
+    let current : Segment = segment_of documents.schema documents.texts.items in
+    let rest = drop documents.built c.reserve.new.self.items in
+    let builder : c.in_ok-builder.builder ≡ segment_of documents.schema rest = c.in_ok-builder.ensures.builder in
+    let many : length c.in_ok-builder.builder.documents ≡ length rest = ap (λ s. length s.documents) builder ∙ length-map rest (λ t. text_document documents.schema (string_bytes t)) in
+    let few : length c.in_ok-builder.builder.documents < TERMINATED = omega (arith, many, length-drop documents.built c.reserve.new.self.items, ap length c.reserve.ensures.items, documents.texts.ok.0, c.len.ensures, c.if-len.false) in
+    let why = subst (λ bytes. (e ≡ Memory) ⊎ IsTextRefusal c.in_ok-builder.builder bytes e) c.as_str.ensures.value c.in_err-added.ensures.refused in
+    let p = err_from_is_err_and c.from_residual-in_err-added.result c.from_residual-in_err-added.ensures.1 in
+    rw (p.1, p.2) (same_refusal e c.in_ok-builder.builder current (string_bytes c.args.text) few (ap (λ s. s.schema) builder) why)

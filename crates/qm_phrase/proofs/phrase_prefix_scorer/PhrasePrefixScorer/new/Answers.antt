@@ -1,0 +1,34 @@
+-- The terms as they are handed in, moved to the first document that counts.
+use Rattle.std.proofs.Common.{◌<◌, length, ap, subst, ◌∙◌, arith}
+use Rattle.qm_docset.specs.EntryFacts.{from-all}
+use Rattle.qm_postings.specs.FieldNorms.{norm_ids}
+use Rattle.qm_phrase.specs.PhrasePrefix.{has_several, prefix_count, prefix_entries, prefix_limits}
+use Rattle.qm_phrase.specs.PhrasePrefixFacts.{AreEntries-prefix}
+use Rattle.qm_phrase.specs.PrefixTerms.{lists_of}
+use Rattle.qm_phrase.proofs.PrefixMoves.{prefix-covered}
+use Rattle.qm_phrase.proofs.phrase_prefix_scorer.PhrasePrefixScorer.new.Goals as goal
+
+pub seek-requires-clause-valid : goal.seek-requires-clause-valid
+seek-requires-clause-valid g c =
+    let items = c.args.term_postings.items in
+    let few : 0 < length items = omega (arith, c.requires.some, c.args.term_postings.ok.0) in
+    record {
+      terms = c.in_ok-terms.ensures.valid;
+      covered = λ d some. prefix-covered g.P.DocSet (norm_ids c.args.fieldnorm_reader) d items c.args.suffix_pos c.args.suffixes.items few c.requires.covered (subst (λ t. 0 < prefix_count t d) c.in_ok-terms.ensures.lists some);
+    }
+
+pub returns-clause-lists : goal.returns-clause-lists
+returns-clause-lists g c =
+    let weight = c.args.similarity_weight in
+    let ids = norm_ids c.args.fieldnorm_reader in
+    let t = lists_of g.P.DocSet c.in_ok-terms.terms in
+    record {
+      entries = c.seek.ensures.entries ∙ from-all 0 0 (prefix_limits weight (has_several t)) (prefix_entries weight ids t) (omega arith) (AreEntries-prefix weight ids t) ∙ ap (prefix_entries weight ids) c.in_ok-terms.ensures.lists;
+      limits = c.seek.ensures.limits ∙ ap (λ u. prefix_limits weight (has_several u)) c.in_ok-terms.ensures.lists;
+      valid = c.seek.ensures.valid;
+      placed = c.seek.ensures.placed;
+    }
+
+pub returns-clause-counts : goal.returns-clause-counts
+returns-clause-counts g c d =
+    c.seek.ensures.counts d (omega arith) ∙ ap (λ u. prefix_count u d) c.in_ok-terms.ensures.lists

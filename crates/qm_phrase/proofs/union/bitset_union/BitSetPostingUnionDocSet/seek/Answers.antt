@@ -1,0 +1,21 @@
+-- The set goes to its target, and the members below its document follow.
+use Rattle.std.proofs.Common.{map, length, ap, ◌∙◌}
+use Rattle.qm_combine.proofs.Leading.{whole}
+use Rattle.qm_docset.specs.BitSetDocSet.{remaining_members}
+use Rattle.qm_docset.specs.BitSetDocSetFacts.{AreEntries-remaining}
+use Rattle.qm_docset.specs.Entry.{from, no_limits}
+use Rattle.qm_docset.specs.Lists.{lists}
+use Rattle.qm_phrase.specs.PostingUnions.{united_over}
+use Rattle.qm_phrase.proofs.UnitedOver.{from-over, over-moved}
+use Rattle.qm_phrase.proofs.union.bitset_union.BitSetPostingUnionDocSet.seek.Goals as goal
+
+pub returns-clause-entries : goal.returns-clause-entries
+returns-clause-entries g c =
+    let members = c.args.self.now.members in
+    let step = c.seek_below in
+    let set = remaining_members c.seek-doc.new.self in
+    let old = lists g.D.DocSet members.items in
+    let same = whole members.len step.new.members members.items (step.auto.members ∙ ap length c.deref_mut.ensures.value) members.ok.0 in
+    let left = step.ensures.entries ∙ ap (λ xs. map (from c.seek-doc.result) (lists g.D.DocSet xs)) c.deref_mut.ensures.value in
+    let moved = over-moved no_limits set old (lists g.D.DocSet step.new.members) (AreEntries-remaining c.seek-doc.new.self c.seek-doc.ensures.valid) (rw c.seek-doc.ensures.head at left) in
+    rw same (moved ∙ ap (λ r. united_over r old) c.seek-doc.ensures.entries ∙ from-over c.args.target (remaining_members c.args.self.now.bitset) old)

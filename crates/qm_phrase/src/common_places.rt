@@ -1,0 +1,66 @@
+//! The places that all of some terms have in a document.
+
+ghost use Rattle.std.specs.Prelude.{◌≡◌, ◌∷◌, ◌≤◌, [], All, length, map, min, slice_index_or};
+ghost use Rattle.qm_phrase.specs.PhrasePrefix.{IsCommonOf, common_count};
+ghost use Rattle.qm_phrase.specs.Places.{Ascends, places_left, places_of, room_of, shift_of};
+
+use crate::counting::{first_places, pass};
+use crate::places::{ALL_PLACES, Places};
+
+/// Leaves in `common` the places that all rows have.
+///
+/// One pass: the least of the first places is common exactly where it is the greatest of them too,
+/// and then every row that begins with it passes it. So it takes at most the number of places times
+/// the number of rows. Asks that `common` is shifted as the first row, and has room for its places.
+pub(crate) fn collect_common(rows: &mut [Places], common: &mut Places)
+    requires some { 1 ≤ length rows.old }
+    requires rows { All (Ascends 0) (map places_left rows.old) }
+    requires shift { shift_of common.old ≡ slice_index_or (map shift_of rows.old) 0 0 }
+    requires room { length (slice_index_or (map places_left rows.old) 0 []) ≤ room_of common.old }
+    ensures common { IsCommonOf (map places_left rows.old) (places_of common.new) }
+    ensures shift { shift_of common.new ≡ shift_of common.old }
+    ensures room { room_of common.old ≤ room_of common.new }
+    ensures shifts { map shift_of rows.new ≡ map shift_of rows.old }
+    ensures rooms { map room_of rows.new ≡ map room_of rows.old }
+{
+    common.clear();
+    loop {
+        let (least, greatest) = first_places(rows);
+        if greatest == ALL_PLACES {
+            return;
+        }
+        if least == greatest {
+            common.push_first(&rows[0]);
+        }
+        pass(rows, least);
+    }
+}
+
+/// How many places of a row are among the common ones, held at 4294967295. The two are merged: it
+/// takes at most the number of their places.
+pub(crate) fn count_shared(common: &mut Places, row: &mut Places) -> u32
+    requires common { Ascends 0 (places_of common.old) }
+    requires row { Ascends 0 (places_left row.old) }
+    ensures count { result ≡ min 4294967295 (common_count (places_left row.old ∷ places_of common.old ∷ [])) }
+    ensures common { places_of common.new ≡ places_of common.old }
+    ensures common_shift { shift_of common.new ≡ shift_of common.old }
+    ensures common_room { room_of common.new ≡ room_of common.old }
+    ensures shift { shift_of row.new ≡ shift_of row.old }
+    ensures room { room_of row.new ≡ room_of row.old }
+{
+    common.rewind();
+    let mut count = 0;
+    while count < u32::MAX {
+        let (place, other) = (row.first(), common.first());
+        if place.max(other) == ALL_PLACES {
+            break;
+        }
+        if place == other {
+            count += 1;
+        }
+        let least = place.min(other);
+        row.pass(least);
+        common.pass(least);
+    }
+    count
+}

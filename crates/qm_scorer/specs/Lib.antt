@@ -1,0 +1,7 @@
+pub mod AnyCombiner
+pub mod AnyCombinerFacts
+pub mod Bare
+pub mod BareFacts
+pub mod Tree
+pub mod MoveFacts
+pub mod TreeFacts

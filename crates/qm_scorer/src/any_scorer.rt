@@ -1,0 +1,261 @@
+//! The tree of scorers.
+
+ghost use Rattle.std.specs.Prelude.{◌≡◌, ◌≤◌, ◌<◌, pos};
+ghost use Rattle.qm_docset.specs.Cursor.{IsSeekAnswer, OnFound};
+ghost use Rattle.qm_docset.specs.Entry.{from, greatest_score, head_document, head_score};
+ghost use Rattle.qm_scorer.specs.Tree.{IsTree, IsTreePlaced, tree_entries, tree_head, tree_limits, tree_top};
+ghost use Rattle.qm_scorer.specs.TreeFacts.{tree-ascends};
+ghost use Rattle.qm_scorer.specs.declared.any_scorer.AnyScorer.{size-AnyScorer};
+
+use crate::boost_node::{BoostNode, danger_boost, score_boost, seek_boost};
+use crate::const_node::{ConstNode, danger_const, score_const, seek_const};
+use crate::exclude_node::{ExcludeNode, danger_exclude, score_exclude, seek_exclude};
+use crate::optional_node::{OptionalNode, danger_optional, score_optional, seek_optional};
+use qm_combine::{AllScorer, ConstScorer, EmptyScorer, Scorer};
+use qm_docset::{BitSetDocSet, DocId, DocSet, Score, SeekDangerResult, TERMINATED};
+use qm_phrase::PhraseScorer;
+use qm_postings::SegmentPostings;
+use qm_term::TermScorer;
+
+/// A scorer of a query: a leaf, or a node over other such scorers. It borrows from the segment whose
+/// terms it goes through, and its leaves may be scorers of the caller's own type `S`.
+///
+/// A call costs what that of the same combinator of `qm_combine` does, and the choice of the variant;
+/// none takes memory.
+#[cycle(any)]
+#[derive(Drop)]
+pub enum AnyScorer<'a, S> {
+    /// No document.
+    Empty(EmptyScorer),
+    /// Every document, with the score 1.
+    All(AllScorer),
+    /// What a scorer of the caller's own lists.
+    Own(S),
+    /// The documents that hold a term.
+    Term(Box<TermScorer<'a>>),
+    /// The members of a bit set, each with one score.
+    BitSet(Box<ConstScorer<BitSetDocSet>>),
+    /// The documents where a phrase stands.
+    Phrase(Box<PhraseScorer<'a, SegmentPostings<'a>>>),
+    /// The documents of another scorer, with their scores times a whole number.
+    Boost(Box<BoostNode<'a, S>>),
+    /// The documents of another scorer, each with one score.
+    Const(Box<ConstNode<'a, S>>),
+    /// The documents of one scorer, with the scores that another adds to.
+    RequiredOptional(Box<OptionalNode<'a, S>>),
+    /// The documents of one scorer that another does not have.
+    Exclude(Box<ExcludeNode<'a, S>>),
+}
+
+// The document that a placed tree stands on.
+#[tactic(auto, using(crate::specs::MoveFacts::moves))]
+pub(crate) fn doc_tree<'a, S: Scorer>(scorer: &AnyScorer<'a, S>) -> DocId
+    requires valid { IsTree S.DocSet scorer.now }
+    requires placed { IsTreePlaced S.DocSet scorer.now }
+    ensures { result ≡ tree_head S.DocSet scorer.now }
+{
+    match scorer {
+        AnyScorer::Empty(leaf) => leaf.doc(),
+        AnyScorer::All(leaf) => leaf.doc(),
+        AnyScorer::Own(leaf) => leaf.doc(),
+        AnyScorer::Term(leaf) => leaf.doc(),
+        AnyScorer::BitSet(leaf) => leaf.doc(),
+        AnyScorer::Phrase(leaf) => leaf.doc(),
+        AnyScorer::Boost(node) => doc_tree(&node.inner),
+        AnyScorer::Const(node) => doc_tree(&node.inner),
+        AnyScorer::RequiredOptional(node) => doc_tree(&node.required),
+        AnyScorer::Exclude(node) => doc_tree(&node.inner),
+    }
+}
+
+// Moves a tree to its first document at or past the target.
+#[cycle(moves)]
+#[tactic(auto, using(crate::specs::MoveFacts::moves))]
+pub(crate) fn seek_tree<'a, S: Scorer>(scorer: &mut AnyScorer<'a, S>, target: DocId) -> DocId
+    requires valid { IsTree S.DocSet scorer.old }
+    requires target { target ≤ TERMINATED }
+    ensures head { result ≡ head_document (tree_entries S.DocSet scorer.new) }
+    ensures entries { tree_entries S.DocSet scorer.new ≡ from target (tree_entries S.DocSet scorer.old) }
+    ensures top { tree_top S.DocSet scorer.new ≡ tree_top S.DocSet scorer.old }
+    ensures valid { IsTree S.DocSet scorer.new }
+    ensures placed { IsTreePlaced S.DocSet scorer.new }
+    ensures depth { size-AnyScorer _ scorer.new ≤ size-AnyScorer _ scorer.old }
+{
+    match scorer {
+        AnyScorer::Empty(leaf) => leaf.seek(target),
+        AnyScorer::All(leaf) => leaf.seek(target),
+        AnyScorer::Own(leaf) => leaf.seek(target),
+        AnyScorer::Term(leaf) => leaf.seek(target),
+        AnyScorer::BitSet(leaf) => leaf.seek(target),
+        AnyScorer::Phrase(leaf) => leaf.seek(target),
+        AnyScorer::Boost(node) => seek_boost(node, target),
+        AnyScorer::Const(node) => seek_const(node, target),
+        AnyScorer::RequiredOptional(node) => seek_optional(node, target),
+        AnyScorer::Exclude(node) => seek_exclude(node, target),
+    }
+}
+
+// The same of a placed tree, which is not sent where it stands there already.
+#[tactic(auto, using(crate::specs::MoveFacts::moves))]
+pub(crate) fn reach_tree<'a, S: Scorer>(scorer: &mut AnyScorer<'a, S>, target: DocId) -> DocId
+    requires valid { IsTree S.DocSet scorer.old }
+    requires placed { IsTreePlaced S.DocSet scorer.old }
+    requires target { target ≤ TERMINATED }
+    ensures head { result ≡ head_document (tree_entries S.DocSet scorer.new) }
+    ensures stands { tree_head S.DocSet scorer.new ≡ result }
+    ensures entries { tree_entries S.DocSet scorer.new ≡ from target (tree_entries S.DocSet scorer.old) }
+    ensures top { tree_top S.DocSet scorer.new ≡ tree_top S.DocSet scorer.old }
+    ensures valid { IsTree S.DocSet scorer.new }
+    ensures placed { IsTreePlaced S.DocSet scorer.new }
+    ensures depth { size-AnyScorer _ scorer.new ≤ size-AnyScorer _ scorer.old }
+{
+    let doc = doc_tree(scorer);
+    if doc < target {
+        seek_tree(scorer, target)
+    } else {
+        doc
+    }
+}
+
+// Drops what lies below the target, and says whether the target is the first that is left; where it is
+// not, the tree may stand nowhere.
+#[cycle(asks)]
+#[tactic(auto, using(crate::specs::MoveFacts::moves))]
+pub(crate) fn danger_tree<'a, S: Scorer>(
+    scorer: &mut AnyScorer<'a, S>,
+    target: DocId,
+) -> SeekDangerResult
+    requires valid { IsTree S.DocSet scorer.old }
+    requires target { target ≤ TERMINATED }
+    ensures answer { IsSeekAnswer target (tree_entries S.DocSet scorer.new) result }
+    ensures entries { tree_entries S.DocSet scorer.new ≡ from target (tree_entries S.DocSet scorer.old) }
+    ensures top { tree_top S.DocSet scorer.new ≡ tree_top S.DocSet scorer.old }
+    ensures valid { IsTree S.DocSet scorer.new }
+    ensures placed { OnFound result (IsTreePlaced S.DocSet scorer.new) }
+    ensures depth { size-AnyScorer _ scorer.new ≤ size-AnyScorer _ scorer.old }
+{
+    match scorer {
+        AnyScorer::Empty(leaf) => leaf.seek_danger(target),
+        AnyScorer::All(leaf) => leaf.seek_danger(target),
+        AnyScorer::Own(leaf) => leaf.seek_danger(target),
+        AnyScorer::Term(leaf) => leaf.seek_danger(target),
+        AnyScorer::BitSet(leaf) => leaf.seek_danger(target),
+        AnyScorer::Phrase(leaf) => leaf.seek_danger(target),
+        AnyScorer::Boost(node) => danger_boost(node, target),
+        AnyScorer::Const(node) => danger_const(node, target),
+        AnyScorer::RequiredOptional(node) => danger_optional(node, target),
+        AnyScorer::Exclude(node) => danger_exclude(node, target),
+    }
+}
+
+// The score of the document that a tree stands on.
+#[cycle(scores)]
+#[tactic(auto, using(crate::specs::MoveFacts::scores))]
+pub(crate) fn score_tree<'a, S: Scorer>(scorer: &mut AnyScorer<'a, S>) -> u64
+    requires valid { IsTree S.DocSet scorer.old }
+    requires placed { IsTreePlaced S.DocSet scorer.old }
+    requires here { tree_head S.DocSet scorer.old < TERMINATED }
+    ensures score { result ≡ head_score (tree_entries S.DocSet scorer.old) }
+    ensures fits { result ≤ greatest_score }
+    ensures entries { tree_entries S.DocSet scorer.new ≡ tree_entries S.DocSet scorer.old }
+    ensures top { tree_top S.DocSet scorer.new ≡ tree_top S.DocSet scorer.old }
+    ensures valid { IsTree S.DocSet scorer.new }
+    ensures placed { IsTreePlaced S.DocSet scorer.new }
+    ensures head { tree_head S.DocSet scorer.new ≡ tree_head S.DocSet scorer.old }
+    ensures depth { size-AnyScorer _ scorer.new ≤ size-AnyScorer _ scorer.old }
+{
+    match scorer {
+        AnyScorer::Empty(leaf) => leaf.score() as u64,
+        AnyScorer::All(leaf) => leaf.score() as u64,
+        AnyScorer::Own(leaf) => leaf.score() as u64,
+        AnyScorer::Term(leaf) => leaf.score() as u64,
+        AnyScorer::BitSet(leaf) => leaf.score() as u64,
+        AnyScorer::Phrase(leaf) => leaf.score() as u64,
+        AnyScorer::Boost(node) => score_boost(node),
+        AnyScorer::Const(node) => score_const(node),
+        AnyScorer::RequiredOptional(node) => score_optional(node),
+        AnyScorer::Exclude(node) => score_exclude(node),
+    }
+}
+
+impl<'a, S: Scorer> AnyScorer<'a, S> {
+    // The bound on its scores.
+    fn top(&self) -> Score
+        requires valid { IsTree S.DocSet self.now }
+        ensures { result ≡ pos (tree_top S.DocSet self.now) }
+    {
+        match self {
+            AnyScorer::Empty(leaf) => leaf.max_score(),
+            AnyScorer::All(leaf) => leaf.max_score(),
+            AnyScorer::Own(leaf) => leaf.max_score(),
+            AnyScorer::Term(leaf) => Scorer::max_score(leaf),
+            AnyScorer::BitSet(leaf) => leaf.max_score(),
+            AnyScorer::Phrase(leaf) => leaf.max_score(),
+            AnyScorer::Boost(node) => node.top as Score,
+            AnyScorer::Const(node) => node.score as Score,
+            AnyScorer::RequiredOptional(node) => node.top as Score,
+            AnyScorer::Exclude(node) => node.top as Score,
+        }
+    }
+
+    // About how many documents remain.
+    fn hint(&self) -> u32
+        requires valid { IsTree S.DocSet self.now }
+    {
+        match self {
+            AnyScorer::Empty(leaf) => leaf.size_hint(),
+            AnyScorer::All(leaf) => leaf.size_hint(),
+            AnyScorer::Own(leaf) => leaf.size_hint(),
+            AnyScorer::Term(leaf) => leaf.size_hint(),
+            AnyScorer::BitSet(leaf) => leaf.size_hint(),
+            AnyScorer::Phrase(leaf) => leaf.size_hint(),
+            AnyScorer::Boost(node) => node.inner.hint(),
+            AnyScorer::Const(node) => node.inner.hint(),
+            AnyScorer::RequiredOptional(node) => node.required.hint(),
+            AnyScorer::Exclude(node) => node.inner.hint(),
+        }
+    }
+}
+
+impl<'a, S: Scorer> DocSet for AnyScorer<'a, S> {
+    ghost entries = { λ x. tree_entries S.DocSet x };
+
+    ghost limits = { λ x. tree_limits S.DocSet x };
+
+    ghost placed = { λ x. IsTreePlaced S.DocSet x };
+
+    ghost valid = { λ x. IsTree S.DocSet x };
+
+    fn doc(&self) -> DocId {
+        doc_tree(self)
+    }
+
+    fn advance(&mut self) -> DocId {
+        let next = (doc_tree(self) + 1).min(TERMINATED);
+        seek_tree(self, next)
+    }
+
+    fn seek(&mut self, target: DocId) -> DocId {
+        seek_tree(self, target)
+    }
+
+    fn seek_danger(&mut self, target: DocId) -> SeekDangerResult {
+        danger_tree(self, target)
+    }
+
+    fn size_hint(&self) -> u32 {
+        self.hint()
+    }
+
+    ghost ascending = { λ x h. tree-ascends _ S.ascending x h };
+}
+
+impl<'a, S: Scorer> Scorer for AnyScorer<'a, S> {
+    fn score(&mut self) -> Score {
+        score_tree(self) as Score
+    }
+
+    fn max_score(&self) -> Score {
+        self.top()
+    }
+}

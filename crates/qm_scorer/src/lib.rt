@@ -1,0 +1,23 @@
+//! One type for every cursor that a query is made of: a tree whose leaves are terms, phrases, sets and
+//! a caller's own scorers, and whose nodes combine what stands below them.
+#![tactic(auto)]
+
+mod any_combiner;
+mod any_scorer;
+mod boost_node;
+mod bounds;
+mod builders;
+mod const_node;
+mod exclude_node;
+mod optional_node;
+
+pub use any_combiner::AnyCombiner;
+pub use any_scorer::AnyScorer;
+pub use boost_node::BoostNode;
+pub use builders::{boost, constant, exclude, required_optional};
+pub use const_node::ConstNode;
+pub use exclude_node::ExcludeNode;
+pub use optional_node::OptionalNode;
+
+#[cfg(test)]
+mod tests;

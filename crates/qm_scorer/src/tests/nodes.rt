@@ -1,0 +1,93 @@
+//! Nodes over leaves of a caller's own.
+
+ghost use Rattle.std.specs.Prelude.{IfOk};
+ghost use Rattle.qm_docset.specs.Lists.{IsPlaced};
+
+use super::own::{OwnScorer, own};
+use crate::{AnyScorer, boost, constant, exclude, required_optional};
+use qm_combine::{Scorer, scores_left};
+use qm_docset::{DocSet, SeekDangerResult, TERMINATED};
+use qm_schema::QueryError;
+use std::alloc::Global;
+use std::process::Abort;
+use std::test::Fail;
+
+#[test]
+fn lists_each_document_with_its_score(rt: HostRuntime) -> Result<(), Fail> {
+    let alloc = rt.alloc();
+    let required = boost(alloc, own(&rt, alloc, &[1, 3, 7], 2)?, 3)?;
+    let optional = constant(alloc, own(&rt, alloc, &[2, 3, 9], 5)?, 10)?;
+    let both = required_optional(alloc, required, optional)?;
+    assert_eq!(rt; both.max_score(), 16);
+    let found = scores_left(alloc, both)?;
+    assert_eq!(rt; found.as_slice(), [(1, 6), (3, 16), (7, 6)].as_slice());
+    Ok(())
+}
+
+#[test]
+fn seeks_at_once_and_by_steps(rt: HostRuntime) -> Result<(), Fail> {
+    let alloc = rt.alloc();
+    let mut tree = constant(alloc, boost(alloc, own(&rt, alloc, &[1, 3, 70], 2)?, 3)?, 0)?;
+    assert_eq!(rt; tree.max_score(), 0);
+    assert_eq!(rt; tree.seek(2), 3);
+    assert_eq!(rt; tree.seek(0), 3);
+    assert_eq!(rt; tree.seek_danger(4) == SeekDangerResult::Found, false);
+    assert_eq!(rt; tree.seek_danger(70) == SeekDangerResult::Found, true);
+    assert_eq!(rt; tree.doc(), 70);
+    assert_eq!(rt; tree.score(), 0);
+    assert_eq!(rt; tree.advance(), TERMINATED);
+    assert_eq!(rt; tree.advance(), TERMINATED);
+    Ok(())
+}
+
+#[test]
+fn refuses_a_product_past_the_greatest_score(rt: HostRuntime) -> Result<(), Fail> {
+    let alloc = rt.alloc();
+    let most = i64::MAX;
+    let whole = boost(alloc, own(&rt, alloc, &[4], most)?, 1)?;
+    assert_eq!(rt; whole.max_score(), most);
+    let twice = boost(alloc, whole, 2);
+    assert!(rt; matches!(twice, Err(QueryError::ScoreBound)));
+    let one = own(&rt, alloc, &[4], 1)?;
+    let sum = required_optional(alloc, own(&rt, alloc, &[4], most)?, one);
+    assert!(rt; matches!(sum, Err(QueryError::ScoreBound)));
+    Ok(())
+}
+
+/// A leaf below so many nodes.
+fn nested(rt: &impl Abort, alloc: Global, depth: u32) -> Result<AnyScorer<'static, OwnScorer>, Fail>
+    ensures placed { IfOk result (λ s. IsPlaced ⟦<AnyScorer<'static, OwnScorer> as DocSet>⟧ s) }
+{
+    if depth == 0 {
+        return own(rt, alloc, &[1, 5, 9], 2);
+    }
+    Ok(boost(alloc, nested(rt, alloc, depth - 1)?, 1)?)
+}
+
+#[test]
+fn goes_through_500_nodes(rt: HostRuntime) -> Result<(), Fail> {
+    let mut tree = nested(&rt, rt.alloc(), 500)?;
+    assert_eq!(rt; tree.seek(2), 5);
+    assert_eq!(rt; tree.score(), 2);
+    assert_eq!(rt; tree.advance(), 9);
+    assert_eq!(rt; tree.count_including_deleted(), 1);
+    Ok(())
+}
+
+#[test]
+fn leaves_out_what_any_of_the_others_has(rt: HostRuntime) -> Result<(), Fail> {
+    let alloc = rt.alloc();
+    let scorer = own(&rt, alloc, &[1, 2, 5, 8, 10, 15, 24], 4)?;
+    let low = own(&rt, alloc, &[1, 2, 3], 1)?;
+    let high = own(&rt, alloc, &[10, 16, 24], 1)?;
+    let mut kept = exclude(alloc, scorer, vec![in alloc; low, high]?)?;
+    assert_eq!(rt; kept.max_score(), 4);
+    assert_eq!(rt; kept.doc(), 5);
+    assert_eq!(rt; kept.seek(6), 8);
+    assert_eq!(rt; kept.score(), 4);
+    assert_eq!(rt; kept.seek_danger(10) == SeekDangerResult::Found, false);
+    assert_eq!(rt; kept.seek(0), 15);
+    let found = scores_left(alloc, kept)?;
+    assert_eq!(rt; found.as_slice(), [(15, 4)].as_slice());
+    Ok(())
+}

@@ -1,0 +1,2 @@
+pub mod SliceSteps
+mod WorkedTrees

@@ -1,0 +1,4 @@
+pub mod Callers
+pub mod Tree
+pub mod TreeFacts
+pub mod BoostFacts

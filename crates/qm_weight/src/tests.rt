@@ -1,0 +1,6 @@
+//! Callers of the runs, and worked runs.
+
+mod callers;
+mod plain_runs;
+mod pruned_runs;
+mod scorers;

@@ -1,0 +1,103 @@
+//! The plain runs: calls of a callback for the documents that a cursor has left.
+
+ghost use Rattle.std.specs.Fn.{CalledAt, TakesAt};
+ghost use Rattle.std.specs.Prelude.{ℤ, ◌<ℤ◌, List, []};
+ghost use Rattle.qm_docset.specs.Entry.{documents};
+ghost use Rattle.qm_docset.specs.Lists.{IsPlaced, Lists};
+ghost use Rattle.qm_term.specs.Runs.{CallsAt, CallsEach, InRange, MayCallAt, MayCallEach, MayPrune, Plain, Turn, slices};
+
+use qm_combine::Scorer;
+use qm_docset::{COLLECT_BLOCK_BUFFER_LEN, DocId, DocSet, Score, TERMINATED};
+
+/// Calls `callback` once for each document that the scorer has left, ascending, with its score, and
+/// leaves none. Takes no memory and is never refused. Costs a `score` and an `advance` a document.
+///
+/// Asks that the callback may be called so, whatever the calls before left of it.
+pub fn for_each_scorer<S: Scorer, F: FnMut(DocId, Score)>(scorer: &mut S, callback: &mut F)
+    requires placed { IsPlaced S.DocSet scorer.old }
+    requires allowed { MayCallEach (CallsAt F.step) (MayCallAt F.pre) callback.old (S.entries scorer.old) }
+    ensures calls { CallsEach (CallsAt F.step) callback.old (S.entries scorer.old) callback.new }
+    ensures left { Lists S.DocSet scorer.new [] (S.limits scorer.old) }
+{
+    let mut doc = scorer.doc();
+    // the calls for what the scorer has left are those that are still to come
+    while doc != TERMINATED {
+        callback(doc, scorer.score());
+        doc = scorer.advance();
+    }
+}
+
+/// Calls `callback` with the documents that the cursor has left, ascending, in slices of
+/// [`COLLECT_BLOCK_BUFFER_LEN`] and then one shorter slice, which is empty where their number is a
+/// multiple of that; leaves none. Takes no memory and is never refused. Costs a `fill_buffer` a slice.
+///
+/// Asks that the callback may be called so, whatever the calls before left of it. What stood in the
+/// buffer is of no consequence.
+pub fn for_each_docset_buffered<D: DocSet, F: FnMut(&[DocId])>(
+    docset: &mut D,
+    buffer: &mut [DocId; COLLECT_BLOCK_BUFFER_LEN],
+    callback: &mut F,
+)
+    requires placed { IsPlaced D.DocSet docset.old }
+    requires allowed { MayCallEach (λ f xs g. CalledAt F.FnMut f xs tt g) (TakesAt F.FnMut) callback.old (slices (documents (D.entries docset.old))) }
+    ensures calls { CallsEach (λ f xs g. CalledAt F.FnMut f xs tt g) callback.old (slices (documents (D.entries docset.old))) callback.new }
+    ensures left { Lists D.DocSet docset.new [] (D.limits docset.old) }
+{
+    // the slices of what the cursor has left are those that are still to come
+    loop {
+        let count = docset.fill_buffer(buffer);
+        call_with(&buffer[..count], callback);
+        if count < COLLECT_BLOCK_BUFFER_LEN {
+            return;
+        }
+    }
+}
+
+// One call, with these documents.
+fn call_with<F: FnMut(&[DocId])>(documents: &[DocId], callback: &mut F)
+    requires { TakesAt F.FnMut callback.old documents.now }
+    ensures { CalledAt F.FnMut callback.old documents.now tt callback.new }
+{
+    callback(documents);
+}
+
+/// Goes through the documents that the scorer has left, ascending, and calls `callback` for each that
+/// scores above the threshold, which its answer then replaces, whether it is higher or lower; leaves
+/// none. Takes no memory and is never refused. Costs a `score` and an `advance` a document.
+///
+/// Asks that the callback may be called so, whatever the calls before answered and left of it.
+pub fn for_each_pruning_scorer<S: Scorer, F: FnMut(DocId, Score) -> Score>(
+    scorer: &mut S,
+    mut threshold: Score,
+    callback: &mut F,
+)
+    requires placed { IsPlaced S.DocSet scorer.old }
+    requires allowed { MayPrune (InRange F.step) F.pre threshold callback.old (S.entries scorer.old) }
+    ensures calls { (ths : List ℤ) × (last : ℤ) × Plain (InRange F.step) threshold callback.old (S.entries scorer.old) ths last callback.new }
+    ensures left { Lists S.DocSet scorer.new [] (S.limits scorer.old) }
+{
+    let mut doc = scorer.doc();
+    // the run over what the scorer has left, from this threshold on, is what is still to come
+    while doc != TERMINATED {
+        threshold = turn(threshold, doc, scorer.score(), callback);
+        doc = scorer.advance();
+    }
+}
+
+// What becomes of one document: a call where it scores above the threshold. Answers the threshold
+// after it.
+fn turn<F: FnMut(DocId, Score) -> Score>(
+    threshold: Score,
+    doc: DocId,
+    score: Score,
+    callback: &mut F,
+) -> Score
+    requires { threshold <ℤ score → F.pre callback.old doc score }
+    ensures { Turn (InRange F.step) threshold callback.old doc score result callback.new }
+{
+    if score > threshold {
+        callback(doc, score)
+    } else {
+        threshold
+    }
+}
