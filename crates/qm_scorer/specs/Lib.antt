@@ -5,3 +5,4 @@ pub mod BareFacts
 pub mod Tree
 pub mod MoveFacts
 pub mod TreeFacts
+pub mod PassingFacts

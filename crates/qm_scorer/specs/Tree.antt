@@ -14,10 +14,11 @@ use Rattle.qm_combine.specs.Constant.{IsConstant, IsConstantPlaced, constant_lef
 use Rattle.qm_combine.specs.Rescored.{rescored, with_optional}
 use Rattle.qm_combine.specs.Without.{without}
 use Rattle.qm_combine.specs.WithoutFacts.{IsKept}
+use Rattle.qm_phrase.specs.PhrasePrefixScorer.{IsOnPhrasePrefix, IsPhrasePrefix, phrase_prefix_left, phrase_prefix_scorer_limits}
 use Rattle.qm_phrase.specs.PhraseScorer.{IsOnPhrase, IsPhrase, phrase_left, phrase_scorer_limits}
 use Rattle.qm_term.specs.TermScorer.{IsTermScorer, scored_left, scored_limits}
 use Rattle.qm_scorer.specs.Bare.{IsBounded, bare, scores_to}
-use Rattle.qm_scorer.specs.declared.any_scorer.AnyScorer.{AnyScorer, All, BitSet, Boost', Const', Empty, Exclude', Own, Phrase, RequiredOptional', Term}
+use Rattle.qm_scorer.specs.declared.any_scorer.AnyScorer.{AnyScorer, All, BitSet, Boost', Const', Empty, Exclude', Own, Phrase, PhrasePrefix, RequiredOptional', Term}
 
 -- ---- the ghost members of the cursors below the leaves
 
@@ -36,6 +37,7 @@ module _ {S : Type 0} (D : Ghosts S) where
   tree_entries (Term s) = bare (scored_left s.value)
   tree_entries (BitSet s) = bare (constant_left set_cursors s.value)
   tree_entries (Phrase s) = bare (phrase_left postings_cursors s.value)
+  tree_entries (PhrasePrefix s) = bare (phrase_prefix_left postings_cursors s.value)
   tree_entries (Boost' p inner boost top) = rescored (λ e. e.score * boost) (tree_entries inner)
   tree_entries (Const' p inner score) = rescored (λ _. score) (tree_entries inner)
   tree_entries (RequiredOptional' p required optional top) = with_optional sum (tree_entries required) (tree_entries optional)
@@ -60,6 +62,7 @@ module _ {S : Type 0} (D : Ghosts S) where
   tree_top (Term s) = (scored_limits s.value).top
   tree_top (BitSet s) = (constant_limits set_cursors s.value).top
   tree_top (Phrase s) = (phrase_scorer_limits postings_cursors s.value).top
+  tree_top (PhrasePrefix s) = (phrase_prefix_scorer_limits postings_cursors s.value).top
   tree_top (Boost' p inner boost top) = top
   tree_top (Const' p inner score) = score
   tree_top (RequiredOptional' p required optional top) = top
@@ -76,6 +79,7 @@ module _ {S : Type 0} (D : Ghosts S) where
   tree_head (Term s) = head_document (scored_left s.value)
   tree_head (BitSet s) = head_document (constant_left set_cursors s.value)
   tree_head (Phrase s) = head_document (phrase_left postings_cursors s.value)
+  tree_head (PhrasePrefix s) = head_document (phrase_prefix_left postings_cursors s.value)
   tree_head (Boost' p inner boost top) = tree_head inner
   tree_head (Const' p inner score) = tree_head inner
   tree_head (RequiredOptional' p required optional top) = tree_head required
@@ -89,6 +93,7 @@ module _ {S : Type 0} (D : Ghosts S) where
   IsTreePlaced (Term s) = Unit {0}
   IsTreePlaced (BitSet s) = IsConstantPlaced set_cursors s.value
   IsTreePlaced (Phrase s) = IsOnPhrase postings_cursors s.value
+  IsTreePlaced (PhrasePrefix s) = IsOnPhrasePrefix postings_cursors s.value
   IsTreePlaced (Boost' p inner boost top) = IsTreePlaced inner
   IsTreePlaced (Const' p inner score) = IsTreePlaced inner
   IsTreePlaced (RequiredOptional' p required optional top) = IsTreePlaced required
@@ -102,6 +107,7 @@ module _ {S : Type 0} (D : Ghosts S) where
   IsTree (Term s) = IsTermScorer s.value
   IsTree (BitSet s) = IsConstant set_cursors s.value
   IsTree (Phrase s) = IsPhrase postings_cursors s.value
+  IsTree (PhrasePrefix s) = IsPhrasePrefix postings_cursors s.value
   IsTree (Boost' p inner boost top) = IsTree inner × IsBounded top (rescored (λ e. e.score * boost) (tree_entries inner))
   IsTree (Const' p inner score) = IsTree inner × IsBounded score (rescored (λ _. score) (tree_entries inner))
   IsTree (RequiredOptional' p required optional top) = IsTree required × IsTree optional × IsTreePlaced optional × IsBounded top (with_optional sum (tree_entries required) (tree_entries optional))

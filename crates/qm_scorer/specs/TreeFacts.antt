@@ -10,12 +10,15 @@ use Rattle.qm_combine.specs.AllDocumentsFacts.{AreEntries-all_from}
 use Rattle.qm_combine.specs.RescoredFacts.{AreEntries-rescored, head_document-rescored}
 use Rattle.qm_combine.specs.WithoutFacts.{head_document-without}
 use Rattle.qm_term.specs.TermScorerFacts.{AreEntries-scored}
+use Rattle.qm_postings.specs.FieldNorms.{norm_ids}
 use Rattle.qm_phrase.specs.PhraseFacts.{AreEntries-phrase}
+use Rattle.qm_phrase.specs.PhrasePrefixFacts.{AreEntries-prefix}
+use Rattle.qm_phrase.specs.PhrasePrefixScorer.{prefix_lists}
 use Rattle.qm_scorer.specs.Bare.{IsBounded}
 use Rattle.qm_scorer.specs.BareFacts.{AreEntries-bare, head_document-bare}
 use Rattle.qm_scorer.specs.MoveFacts.{product-fits}
-use Rattle.qm_scorer.specs.Tree.{IsTree, IsTreePlaced, tree_entries, tree_head, tree_limits}
-use Rattle.qm_scorer.specs.declared.any_scorer.AnyScorer.{AnyScorer, All, BitSet, Boost', Const', Empty, Exclude', Own, Phrase, RequiredOptional', Term}
+use Rattle.qm_scorer.specs.Tree.{IsTree, IsTreePlaced, postings_cursors, tree_entries, tree_head, tree_limits}
+use Rattle.qm_scorer.specs.declared.any_scorer.AnyScorer.{AnyScorer, All, BitSet, Boost', Const', Empty, Exclude', Own, Phrase, PhrasePrefix, RequiredOptional', Term}
 
 module _ {S : Type 0} (D : Ghosts S) where
   -- the law of cursors, by that of the caller's own
@@ -26,6 +29,7 @@ module _ {S : Type 0} (D : Ghosts S) where
   tree-ascends own (Term s) h = AreEntries-bare 0 _ _ (AreEntries-scored s.value h)
   tree-ascends own (BitSet s) h = AreEntries-bare 0 _ _ (AreEntries-rescored _ _ 0 _ _ (λ _ _. omega arith) (AreEntries-remaining _ h.0))
   tree-ascends own (Phrase s) h = AreEntries-bare 0 _ _ (AreEntries-phrase _ _ _ _ _)
+  tree-ascends own (PhrasePrefix s) h = AreEntries-bare 0 _ _ (AreEntries-prefix s.value.similarity_weight (norm_ids s.value.fieldnorm_reader) (prefix_lists postings_cursors s.value))
   tree-ascends own (Boost' p inner boost top) h = h.1.entries
   tree-ascends own (Const' p inner score) h = h.1.entries
   tree-ascends own (RequiredOptional' p required optional top) h = h.3.entries
@@ -39,6 +43,7 @@ module _ {S : Type 0} (D : Ghosts S) where
   tree-head own (Term s) h here = sym (head_document-bare _)
   tree-head own (BitSet s) h here = sym (head_document-bare _)
   tree-head own (Phrase s) h here = sym (head_document-bare _)
+  tree-head own (PhrasePrefix s) h here = sym (head_document-bare _)
   tree-head own (Boost' p inner boost top) h here = tree-head own inner h.0 here ∙ sym (head_document-rescored _ _)
   tree-head own (Const' p inner score) h here = tree-head own inner h.0 here ∙ sym (head_document-rescored _ _)
   tree-head own (RequiredOptional' p required optional top) h here = tree-head own required h.0 here ∙ sym (head_document-rescored _ _)

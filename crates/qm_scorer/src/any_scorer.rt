@@ -11,9 +11,13 @@ use crate::boost_node::{BoostNode, danger_boost, score_boost, seek_boost};
 use crate::const_node::{ConstNode, danger_const, score_const, seek_const};
 use crate::exclude_node::{ExcludeNode, danger_exclude, score_exclude, seek_exclude};
 use crate::optional_node::{OptionalNode, danger_optional, score_optional, seek_optional};
+use crate::passing::{advance_tree, count_tree, fill_tree, total_tree};
 use qm_combine::{AllScorer, ConstScorer, EmptyScorer, Scorer};
-use qm_docset::{BitSetDocSet, DocId, DocSet, Score, SeekDangerResult, TERMINATED};
-use qm_phrase::PhraseScorer;
+use qm_docset::{
+    AliveBitSet, BitSetDocSet, COLLECT_BLOCK_BUFFER_LEN, DocId, DocSet, Score, SeekDangerResult,
+    TERMINATED,
+};
+use qm_phrase::{PhrasePrefixScorer, PhraseScorer};
 use qm_postings::SegmentPostings;
 use qm_term::TermScorer;
 
@@ -37,6 +41,8 @@ pub enum AnyScorer<'a, S> {
     BitSet(Box<ConstScorer<BitSetDocSet>>),
     /// The documents where a phrase stands.
     Phrase(Box<PhraseScorer<'a, SegmentPostings<'a>>>),
+    /// The documents where a phrase stands whose last term begins with a prefix.
+    PhrasePrefix(Box<PhrasePrefixScorer<'a, SegmentPostings<'a>>>),
     /// The documents of another scorer, with their scores times a whole number.
     Boost(Box<BoostNode<'a, S>>),
     /// The documents of another scorer, each with one score.
@@ -61,6 +67,7 @@ pub(crate) fn doc_tree<'a, S: Scorer>(scorer: &AnyScorer<'a, S>) -> DocId
         AnyScorer::Term(leaf) => leaf.doc(),
         AnyScorer::BitSet(leaf) => leaf.doc(),
         AnyScorer::Phrase(leaf) => leaf.doc(),
+        AnyScorer::PhrasePrefix(leaf) => leaf.doc(),
         AnyScorer::Boost(node) => doc_tree(&node.inner),
         AnyScorer::Const(node) => doc_tree(&node.inner),
         AnyScorer::RequiredOptional(node) => doc_tree(&node.required),
@@ -88,6 +95,7 @@ pub(crate) fn seek_tree<'a, S: Scorer>(scorer: &mut AnyScorer<'a, S>, target: Do
         AnyScorer::Term(leaf) => leaf.seek(target),
         AnyScorer::BitSet(leaf) => leaf.seek(target),
         AnyScorer::Phrase(leaf) => leaf.seek(target),
+        AnyScorer::PhrasePrefix(leaf) => leaf.seek(target),
         AnyScorer::Boost(node) => seek_boost(node, target),
         AnyScorer::Const(node) => seek_const(node, target),
         AnyScorer::RequiredOptional(node) => seek_optional(node, target),
@@ -141,6 +149,7 @@ pub(crate) fn danger_tree<'a, S: Scorer>(
         AnyScorer::Term(leaf) => leaf.seek_danger(target),
         AnyScorer::BitSet(leaf) => leaf.seek_danger(target),
         AnyScorer::Phrase(leaf) => leaf.seek_danger(target),
+        AnyScorer::PhrasePrefix(leaf) => leaf.seek_danger(target),
         AnyScorer::Boost(node) => danger_boost(node, target),
         AnyScorer::Const(node) => danger_const(node, target),
         AnyScorer::RequiredOptional(node) => danger_optional(node, target),
@@ -171,6 +180,7 @@ pub(crate) fn score_tree<'a, S: Scorer>(scorer: &mut AnyScorer<'a, S>) -> u64
         AnyScorer::Term(leaf) => leaf.score() as u64,
         AnyScorer::BitSet(leaf) => leaf.score() as u64,
         AnyScorer::Phrase(leaf) => leaf.score() as u64,
+        AnyScorer::PhrasePrefix(leaf) => leaf.score() as u64,
         AnyScorer::Boost(node) => score_boost(node),
         AnyScorer::Const(node) => score_const(node),
         AnyScorer::RequiredOptional(node) => score_optional(node),
@@ -191,6 +201,7 @@ impl<'a, S: Scorer> AnyScorer<'a, S> {
             AnyScorer::Term(leaf) => Scorer::max_score(leaf),
             AnyScorer::BitSet(leaf) => leaf.max_score(),
             AnyScorer::Phrase(leaf) => leaf.max_score(),
+            AnyScorer::PhrasePrefix(leaf) => leaf.max_score(),
             AnyScorer::Boost(node) => node.top as Score,
             AnyScorer::Const(node) => node.score as Score,
             AnyScorer::RequiredOptional(node) => node.top as Score,
@@ -209,6 +220,7 @@ impl<'a, S: Scorer> AnyScorer<'a, S> {
             AnyScorer::Term(leaf) => leaf.size_hint(),
             AnyScorer::BitSet(leaf) => leaf.size_hint(),
             AnyScorer::Phrase(leaf) => leaf.size_hint(),
+            AnyScorer::PhrasePrefix(leaf) => leaf.size_hint(),
             AnyScorer::Boost(node) => node.inner.hint(),
             AnyScorer::Const(node) => node.inner.hint(),
             AnyScorer::RequiredOptional(node) => node.required.hint(),
@@ -231,8 +243,7 @@ impl<'a, S: Scorer> DocSet for AnyScorer<'a, S> {
     }
 
     fn advance(&mut self) -> DocId {
-        let next = (doc_tree(self) + 1).min(TERMINATED);
-        seek_tree(self, next)
+        advance_tree(self)
     }
 
     fn seek(&mut self, target: DocId) -> DocId {
@@ -243,8 +254,20 @@ impl<'a, S: Scorer> DocSet for AnyScorer<'a, S> {
         danger_tree(self, target)
     }
 
+    fn fill_buffer(&mut self, buffer: &mut [DocId; COLLECT_BLOCK_BUFFER_LEN]) -> usize {
+        fill_tree(self, buffer)
+    }
+
     fn size_hint(&self) -> u32 {
         self.hint()
+    }
+
+    fn count(&mut self, alive: &AliveBitSet) -> u32 {
+        count_tree(self, alive)
+    }
+
+    fn count_including_deleted(&mut self) -> u32 {
+        total_tree(self)
     }
 
     ghost ascending = { λ x h. tree-ascends _ S.ascending x h };

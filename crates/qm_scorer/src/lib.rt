@@ -10,6 +10,7 @@ mod builders;
 mod const_node;
 mod exclude_node;
 mod optional_node;
+mod passing;
 
 pub use any_combiner::AnyCombiner;
 pub use any_scorer::AnyScorer;

@@ -1,5 +1,5 @@
 -- What is answered where something was listed, or was not.
-use Rattle.std.proofs.Common.{◌≡◌, ℕ, ◌+◌, List, [], ◌∷◌, ◌++◌, Option, None, Some, Result, Ok, Err, IsSome, IfErr, OnOk, map, length, refl, ap, sym, ◌∙◌, subst, arith, inl, inr}
+use Rattle.std.proofs.Common.{◌≡◌, ℕ, ◌+◌, List, [], ◌∷◌, ◌++◌, Option, None, Some, Result, Ok, Err, IsSome, IfErr, OnOk, map, length, refl, ap, sym, ◌∙◌, subst, arith, inl}
 use Rattle.std.specs.FinMap.{empty}
 use Rattle.std.specs.List.{range_with_len}
 use Rattle.qm_postings.specs.Segment.{Segment}

@@ -1,11 +1,9 @@
 -- What the cursors of some words have in common: the documents that hold all of the words.
-use Rattle.std.proofs.Common.{◌≡◌, ℕ, ◌+◌, ◌-◌, ◌<◌, ◌≤◌, Bool, true, false, cond, List, [], ◌∷◌, length, map, filter, refl, ap, sym, ◌∙◌, arith, suc, zero, inl, inr, nat_le, ◌==◌, ◌||◌, ◌&&◌, length-append, zero-add, String, string_bytes}
+use Rattle.std.proofs.Common.{◌≡◌, ℕ, ◌+◌, ◌<◌, ◌≤◌, Bool, false, List, [], ◌∷◌, length, map, filter, refl, ap, sym, ◌∙◌, arith, nat_le, ◌==◌, ◌&&◌, String, string_bytes}
 use Rattle.std.specs.Global.{Global}
 use Rattle.std.specs.List.{list_any, list_all, range_with_len}
-use Rattle.std.proofs.lemmas.Bool.{cases_eq, eq-eqb, ne_eqb}
-use Rattle.std.proofs.lemmas.Bool.Decides.{nat_tests}
 use Rattle.std.proofs.lemmas.List.Folds.{list_all-map}
-use Rattle.qm_docset.specs.Entry.{Entry, Limits, AreEntries, documents}
+use Rattle.qm_docset.specs.Entry.{Entry, Limits, documents}
 use Rattle.qm_docset.specs.Exclusion.{all_have_document, has_document}
 use Rattle.qm_docset.specs.Gather.{scores_at, documents_below, common_entries, AreMembers}
 use Rattle.qm_docset.specs.HasFacts.{all_have_document-scores_at, documents-gather}

@@ -11,3 +11,7 @@ mod WordEntries
 mod OverParts
 mod SegmentTexts
 mod Answering
+mod Reading
+mod Numbers
+mod WordLemmas
+mod ServedLemmas

@@ -1,12 +1,12 @@
 -- Segments of texts: one text more, and a document handed to a builder.
-use Rattle.std.proofs.Common.{◌≡◌, arith, ℕ, List, [], ◌∷◌, ◌++◌, length, map, min, ap, sym, ◌∙◌, refl, drop, take, ◌≤◌, ◌<◌, ◌↔◌, ◌⊎◌, inl, inr, subst, Result, Err, String, string_bytes}
+use Rattle.std.proofs.Common.{◌≡◌, arith, ℕ, List, [], ◌∷◌, ◌++◌, length, min, ap, sym, ◌∙◌, refl, ◌<◌, ◌↔◌, ◌⊎◌, inl, inr, subst, Result, Err, String, string_bytes}
 use Rattle.std.specs.Global.{Global}
-use Rattle.std.proofs.lemmas.List.{drop-append-le, map-append, take-append-le}
+use Rattle.std.proofs.lemmas.List.{map-append}
 use Rattle.qm_postings.specs.Document.{Draft, Given, text_terms, words_of}
 use Rattle.qm_docset.specs.declared.numbers.TheConstants.{TERMINATED}
 use Rattle.qm_schema.specs.declared.error.QueryError.{QueryError}
 use Rattle.qm_schema.specs.declared.error.QueryError.TheVariants.{BadDocument, Memory, TooManyDocuments}
-use Rattle.qm_postings.specs.Segment.{Document, IsGood, Segment, document_of, with_document}
+use Rattle.qm_postings.specs.Segment.{IsGood, Segment, document_of, with_document}
 use Rattle.qm_schema.specs.Schema.{FieldFacts}
 use Rattle.qm_search.specs.TextSegments.{IsTextRefusal, segment_of, text_document, text_draft, with_text}
 use Rattle.qm_search.specs.declared.documents.TheConstants.{BLOCK_LEN}

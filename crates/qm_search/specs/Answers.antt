@@ -1,11 +1,14 @@
 -- What the program answers to a line, what it leaves, and the text of each answer.
-use Rattle.std.specs.Prelude.{◌≡◌, ℕ, ◌<◌, ◌⊎◌, Option, None, Some, Result, Ok, Err, List, [], ◌∷◌, ◌++◌, codes, length, string_bytes}
+use Rattle.std.specs.Prelude.{◌≡◌, ℕ, ◌<◌, ◌⊎◌, Option, None, Some, Result, Ok, Err, List, [], ◌∷◌, ◌++◌, codes, length, string_bytes, false}
 use Rattle.std.specs.Fmt.{decimal}
 use Rattle.qm_docset.specs.Entry.{greatest_score}
 use Rattle.qm_postings.specs.Statistics.{Searched}
 use Rattle.qm_search.specs.AllSegments.{all_listed}
 use Rattle.qm_search.specs.Scores.{score_bound}
 use Rattle.qm_search.specs.ScriptSegments.{Script, all_segments, with_document_of, with_segment_ended}
+use Rattle.qm_search.specs.Script.{Query}
+use Rattle.qm_search.specs.Served.{is_served, query_of_tree}
+use Rattle.qm_search.specs.Spelled.{query_of}
 use Rattle.qm_search.specs.Text.{listing_text}
 use Rattle.qm_search.specs.TextSegments.{IsTextRefusal}
 use Rattle.qm_search.specs.declared.corpus.TheConstants.{MAX_SEGMENTS}
@@ -61,6 +64,16 @@ abbrev pub IsListingAnswer : Result (Unit {0}) QueryError → Answer → Type 0
 IsListingAnswer (Ok done) answer = answer ≡ Listing
 IsListingAnswer (Err error) answer = answer ≡ Refused (refusal_number error)
 
+-- a line that lists what a query matches: not understood where the program does not run the query
+abbrev pub ListsQuery : (Tree → Type 0) → Query → Answer → Type 0
+ListsQuery lists q answer = ((tree : Tree) × (query_of_tree tree ≡ q) × lists tree) ⊎ ((is_served q ≡ false) × (answer ≡ NotUnderstood))
+
+abbrev pub AnswersDocuments : Query → Script → Answer → List ℕ → Type 0
+AnswersDocuments q s answer text = ListsQuery (λ tree. ListsMatches None tree s answer text) q answer
+
+abbrev pub AnswersScores : Query → Script → Answer → List ℕ → Type 0
+AnswersScores q s answer text = ListsQuery (λ tree. ListsScores tree s answer text) q answer
+
 -- A line's answer, what it lists, and the script that it leaves, by the script before it and what it
 -- asks for: None where it isn't understood.
 abbrev pub Step : Script → Option Command → Answer → List ℕ → Script → Type 0
@@ -69,8 +82,8 @@ Step s (Some Nothing) answer text t = (answer ≡ Silence) × (t ≡ s)
 Step s (Some (AddDocument words)) answer text t = AddsDocument (string_bytes words) s answer t
 Step s (Some (SetWeight word weight)) answer text t = (answer ≡ Silence) × (t ≡ s)
 Step s (Some EndSegment) answer text t = (answer ≡ Silence) × (t ≡ with_segment_ended s)
-Step s (Some (ListDocuments tree)) answer text t = ListsMatches None tree s answer text × (t ≡ s)
-Step s (Some (ListScores tree)) answer text t = ListsScores tree s answer text × (t ≡ s)
+Step s (Some (ListDocuments q)) answer text t = AnswersDocuments (query_of q) s answer text × (t ≡ s)
+Step s (Some (ListScores q)) answer text t = AnswersScores (query_of q) s answer text × (t ≡ s)
 
 -- the exit status of a script in which no other line is answered worse than this
 abbrev pub status_of : Answer → ℕ

@@ -8,3 +8,8 @@ pub mod AllSegments
 pub mod Parts
 pub mod ScriptSegments
 pub mod TextSegments
+pub mod Script
+pub mod Spelled
+pub mod Requests
+pub mod Cursor
+pub mod Served

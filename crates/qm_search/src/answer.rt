@@ -1,12 +1,15 @@
 //! What the program answers to a line.
 
 ghost use Rattle.std.specs.Prelude.{◌≡◌, IfOk, OnOk, length, string_bytes};
-ghost use Rattle.qm_search.specs.Answers.{IsChangeAnswer, IsListingAnswer, ListsMatches, ListsScores, Step, answer_text, status_of};
+ghost use Rattle.qm_search.specs.Answers.{AnswersDocuments, AnswersScores, IsChangeAnswer, IsListingAnswer, ListsMatches, ListsScores, Step, answer_text, status_of};
 ghost use Rattle.qm_search.specs.ScriptSegments.{script};
+ghost use Rattle.qm_search.specs.Spelled.{query_of};
 
 use crate::corpus::Corpus;
 use crate::listing::write_listing;
 use crate::parse::Command;
+use crate::served::served_tree;
+use crate::spelled_query::SpelledQuery;
 use crate::tree::Tree;
 use qm_schema::QueryError;
 use std::alloc::{AllocError, Global};
@@ -77,8 +80,8 @@ pub(crate) fn answer_command(
         Some(Command::AddDocument(words)) => answer_change(corpus.add_document(alloc, words)),
         Some(Command::SetWeight(word, weight)) => answer_change(corpus.set_weight(word, weight)),
         Some(Command::EndSegment) => answer_change(corpus.end_segment(alloc)),
-        Some(Command::ListDocuments(tree)) => list_documents(alloc, corpus, &tree, text),
-        Some(Command::ListScores(tree)) => list_scores(alloc, corpus, &tree, text),
+        Some(Command::ListDocuments(query)) => answer_documents(alloc, corpus, query, text),
+        Some(Command::ListScores(query)) => answer_scores(alloc, corpus, query, text),
     }
 }
 
@@ -91,6 +94,40 @@ fn answer_change(changed: Result<(), QueryError>) -> Result<Answer, AllocError>
         Ok(()) => Ok(Answer::Silence),
         Err(QueryError::Memory) => Err(AllocError),
         Err(error) => Ok(Answer::Refused(error.number())),
+    }
+}
+
+fn answer_documents(
+    alloc: Global,
+    corpus: &mut Corpus,
+    query: SpelledQuery,
+    text: &mut String,
+) -> Result<Answer, AllocError>
+    requires { length (string_bytes text.old) ≡ 0 }
+    ensures answer { IfOk result (λ answer. AnswersDocuments (query_of query) (script corpus.old.documents) answer (string_bytes text.new)) }
+    ensures script { OnOk result (script corpus.new.documents ≡ script corpus.old.documents) }
+{
+    let served = served_tree(alloc, query)?;
+    match served {
+        Some(tree) => list_documents(alloc, corpus, &tree, text),
+        None => Ok(Answer::NotUnderstood),
+    }
+}
+
+fn answer_scores(
+    alloc: Global,
+    corpus: &mut Corpus,
+    query: SpelledQuery,
+    text: &mut String,
+) -> Result<Answer, AllocError>
+    requires { length (string_bytes text.old) ≡ 0 }
+    ensures answer { IfOk result (λ answer. AnswersScores (query_of query) (script corpus.old.documents) answer (string_bytes text.new)) }
+    ensures script { OnOk result (script corpus.new.documents ≡ script corpus.old.documents) }
+{
+    let served = served_tree(alloc, query)?;
+    match served {
+        Some(tree) => list_scores(alloc, corpus, &tree, text),
+        None => Ok(Answer::NotUnderstood),
     }
 }
 

@@ -10,8 +10,8 @@ ghost use Rattle.qm_search.specs.ScriptSegments.{AreSegments, IsBuilt, all_segme
 ghost use Rattle.qm_search.specs.TextSegments.{IsTextRefusal};
 
 use crate::documents::Documents;
+use crate::non_negative_score::NonNegativeScore;
 use crate::terms::body;
-use crate::weight::Weight;
 use qm_docset::Score;
 use qm_postings::{Searcher, SegmentReader};
 use qm_schema::{QueryError, Term};
@@ -30,7 +30,7 @@ pub(crate) const MAX_SEGMENTS: usize = 4294967295;
 #[derive(Drop)]
 pub(crate) struct Corpus {
     documents: Documents,
-    weights: BTreeMap<String, Weight>,
+    weights: BTreeMap<String, NonNegativeScore>,
     searcher: Option<Searcher>,
 }
 
@@ -65,7 +65,11 @@ impl Corpus {
 
     /// Gives a word its weight from now on. Costs the logarithm of the number of words that were given
     /// one.
-    pub(crate) fn set_weight(&mut self, word: String, weight: Weight) -> Result<(), QueryError>
+    pub(crate) fn set_weight(
+        &mut self,
+        word: String,
+        weight: NonNegativeScore,
+    ) -> Result<(), QueryError>
         ensures documents { self.new.documents ≡ self.old.documents }
         ensures refused { IsOkUnless result QueryError.Memory }
     {

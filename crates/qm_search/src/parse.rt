@@ -1,12 +1,18 @@
 //! What a line of a script asks for.
 
-ghost use Rattle.std.specs.Prelude.{◌≡◌, ◌==◌, ◌||◌, ◌^◌, ◌<◌, IfOk, IsSome, IsUtf8, SomeIff, pos};
-ghost use Rattle.std.specs.Str.Parse.{IsNumeral, digits_value};
+ghost use Rattle.std.specs.Prelude.{◌≡◌, map, IfOk, IsUtf8};
+ghost use Rattle.qm_search.specs.Cursor.{words_left};
+ghost use Rattle.qm_search.specs.Script.{AreWords, behind_line_form, line_request, weight_at, whole_query, words_request};
+ghost use Rattle.qm_search.specs.Requests.{request_of};
+ghost use Rattle.qm_search.specs.Spelled.{Gives, query_of};
 
-use crate::tree::Tree;
-use crate::weight::Weight;
-use qm_docset::Score;
-use std::alloc::{AllocError, Global};
+use crate::form::{LineForm, line_form};
+use crate::non_negative_score::NonNegativeScore;
+use crate::read_query::read_query;
+use crate::spelled_query::{MAX_DEPTH, SpelledQuery};
+use crate::unparsed::Unparsed;
+use crate::words::{Words, cut_words};
+use std::alloc::Global;
 use std::str;
 
 /// What a line asks for.
@@ -17,131 +23,126 @@ pub enum Command {
     /// To add a document with the words of this text, which spaces part.
     AddDocument(String),
     /// To give a word its weight, from now on.
-    SetWeight(String, Weight),
+    SetWeight(String, NonNegativeScore),
     /// To end the open segment, and to open another.
     EndSegment,
     /// To list the documents that match.
-    ListDocuments(Tree),
+    ListDocuments(SpelledQuery),
     /// To list the documents that match, each with its score.
-    ListScores(Tree),
+    ListScores(SpelledQuery),
 }
 
-/// What a line asks for, or `None` where it isn't understood: where it isn't UTF-8, or doesn't fit
-/// the language. Words are cut at spaces and tabs. An error says that there was no memory for the
-/// words of the line.
-pub fn parse_line(alloc: Global, line: &[u8]) -> Result<Option<Command>, AllocError>
-    ensures text { IfOk result (λ command. IsSome command → IsUtf8 line.now) }
+/// What a line asks for.
+pub fn parse_line(alloc: Global, line: &[u8]) -> Result<Command, Unparsed>
+    ensures text { IfOk result (λ command. IsUtf8 line.now) }
+    ensures request { IsUtf8 line.now → Gives request_of result (line_request line.now) }
 {
     let Ok(text) = str::from_utf8(line) else {
-        return Ok(None);
+        return Err(Unparsed::NotUnderstood);
     };
-    if let Some(words) = document_words(text) {
-        return Ok(Some(Command::AddDocument(spaced(alloc, words)?)));
+    let words = cut_words(alloc, text)?;
+    parse_words(alloc, words.as_slice())
+}
+
+#[tactic(auto, unfolding(crate::specs::Script::words_request))]
+fn parse_words(alloc: Global, words: &[&str]) -> Result<Command, Unparsed>
+    requires { AreWords (map (λ w. w.now) words.now) }
+    ensures { Gives request_of result (words_request (map (λ w. w.now) words.now)) }
+{
+    if words.is_empty() {
+        return Ok(Command::Nothing);
     }
-    let mut words = Vec::new(alloc);
-    for word in text.split(is_blank) {
-        if !word.is_empty() {
-            words.push(word)?;
+    let mut words = Words::new(words);
+    match line_form(words.word()?) {
+        Some(form) => parse_behind_form(alloc, &mut words, form),
+        None => Err(Unparsed::NotUnderstood),
+    }
+}
+
+#[tactic(auto, unfolding(crate::specs::Script::behind_line_form))]
+fn parse_behind_form(
+    alloc: Global,
+    words: &mut Words<'_>,
+    form: LineForm,
+) -> Result<Command, Unparsed>
+    requires { AreWords (words_left words.old) }
+    ensures { Gives request_of result (behind_line_form form (words_left words.old)) }
+{
+    match form {
+        LineForm::Doc => Ok(Command::AddDocument(words.rest(alloc)?)),
+        LineForm::Weight => parse_weight(alloc, words),
+        LineForm::Segment => {
+            words.end()?;
+            Ok(Command::EndSegment)
         }
-    }
-    match words.as_slice() {
-        [] => Ok(Some(Command::Nothing)),
-        ["weight", word, weight] => parse_weight(alloc, word, weight),
-        ["segment"] => Ok(Some(Command::EndSegment)),
-        ["docs", query @ ..] => Ok(parse_query(alloc, query)?.map(Command::ListDocuments)),
-        ["scores", query @ ..] => Ok(parse_query(alloc, query)?.map(Command::ListScores)),
-        _ => Ok(None),
+        LineForm::Docs => Ok(Command::ListDocuments(parse_query(alloc, words)?)),
+        LineForm::Scores => Ok(Command::ListScores(parse_query(alloc, words)?)),
     }
 }
 
-// Words are cut at these.
-fn is_blank(c: char) -> bool
-    ensures { result ≡ (c == 32 || c == 9) }
+#[tactic(auto, unfolding(crate::specs::Script::weight_at))]
+fn parse_weight(alloc: Global, words: &mut Words<'_>) -> Result<Command, Unparsed>
+    ensures { Gives request_of result (weight_at (words_left words.old)) }
 {
-    c == ' ' || c == '\t'
-}
-
-// What follows the word `doc`, where that is the first word.
-fn document_words(text: &str) -> Option<&str> {
-    let words = text.trim_start_matches(is_blank).strip_prefix("doc")?;
-    if words.is_empty() || words.starts_with(is_blank) {
-        Some(words)
-    } else {
-        None
-    }
-}
-
-// The same words, with a space in place of each tab, and one behind them.
-fn spaced(alloc: Global, words: &str) -> Result<String, AllocError> {
-    let mut text = String::new(alloc);
-    for part in words.split('\t') {
-        text.push_str(part)?;
-        text.push(' ')?;
-    }
-    Ok(text)
-}
-
-fn parse_weight(alloc: Global, word: &str, weight: &str) -> Result<Option<Command>, AllocError> {
-    let Some(weight) = parse_score(weight) else {
-        return Ok(None);
-    };
-    Ok(Some(Command::SetWeight(String::from_str(alloc, word)?, Weight::new(weight))))
-}
-
-// Decimal digits, with leading zeros or none, up to 9223372036854775807.
-fn parse_score(text: &str) -> Option<Score>
-    ensures { SomeIff result (IsNumeral 10 text.now × (digits_value 10 text.now < 2 ^ 63)) (pos (digits_value 10 text.now)) }
-{
-    Score::try_from(parse_digits(text)?).ok()
+    let word = words.text(alloc)?;
+    let weight = words.score()?;
+    words.end()?;
+    Ok(Command::SetWeight(word, weight))
 }
 
 // A query that takes all of the words.
-fn parse_query(alloc: Global, words: &[&str]) -> Result<Option<Tree>, AllocError> {
-    match words {
-        ["all"] => Ok(Some(Tree::All)),
-        ["none"] => Ok(Some(Tree::Empty)),
-        ["term", word] => Ok(Some(Tree::Term(String::from_str(alloc, word)?))),
-        ["bool", minimum, count, clauses @ ..] => parse_bool(alloc, minimum, count, clauses),
-        _ => Ok(None),
-    }
-}
-
-// As many Must clauses as the count says, each a term.
-fn parse_bool(
-    alloc: Global,
-    minimum: &str,
-    count: &str,
-    clauses: &[&str],
-) -> Result<Option<Tree>, AllocError> {
-    let (Some(minimum), Some(count)) = (parse_number(minimum), parse_number(count)) else {
-        return Ok(None);
-    };
-    let mut words = Vec::new(alloc);
-    let mut rest = clauses;
-    while let ["+", "term", word, more @ ..] = rest {
-        words.push(String::from_str(alloc, word)?)?;
-        rest = more;
-    }
-    if rest.is_empty() && words.len() == count as usize {
-        Ok(Some(Tree::Bool { minimum, words }))
-    } else {
-        Ok(None)
-    }
-}
-
-// Decimal digits, with leading zeros or none, up to 4294967295.
-fn parse_number(text: &str) -> Option<u32>
-    ensures { SomeIff result (IsNumeral 10 text.now × (digits_value 10 text.now < 2 ^ 32)) (digits_value 10 text.now) }
+#[tactic(auto, unfolding(crate::specs::Script::whole_query))]
+fn parse_query(alloc: Global, words: &mut Words<'_>) -> Result<SpelledQuery, Unparsed>
+    ensures { Gives query_of result (whole_query (words_left words.old)) }
 {
-    u32::try_from(parse_digits(text)?).ok()
+    let query = read_query(alloc, words, MAX_DEPTH)?;
+    words.end()?;
+    Ok(query)
 }
 
-// Decimal digits, with leading zeros or none, up to 18446744073709551615.
-fn parse_digits(text: &str) -> Option<u64>
-    ensures { SomeIff result (IsNumeral 10 text.now × (digits_value 10 text.now < 2 ^ 64)) (digits_value 10 text.now) }
-{
-    if text.starts_with('+') {
-        return None;
+#[cfg(test)]
+mod tests {
+    use super::*;
+    use std::test::Fail;
+
+    #[test]
+    fn reads_every_form_of_a_query(rt: HostRuntime) -> Result<(), Fail> {
+        let cases = [
+            ("phrase 4294967295 0", true),
+            ("phrase 4294967296 0", false),
+            ("prefix 0 2 a b", true),
+            ("prefix 0 2 a", false),
+            ("bool 4294967295 3 + all ? none - term a", true),
+            ("bool 0 1 all", false),
+            ("const 9223372036854775807 all", true),
+            ("const 9223372036854775808 all", false),
+            ("max 0 2 boost 0 all max 1 0", true),
+            ("max 0 1", false),
+        ];
+        for (query, is_understood) in cases {
+            let mut line = Vec::from_slice(rt.alloc(), b"scores ")?;
+            line.extend_from_slice(query.as_bytes())?;
+            assert_eq!(rt;
+                parse_line(rt.alloc(), line.as_slice()).is_ok(),
+                is_understood
+            );
+        }
+        Ok(())
     }
-    text.parse().ok()
+
+    #[test]
+    fn reads_a_query_of_500_levels(rt: HostRuntime) -> Result<(), Fail> {
+        for (boosts, is_understood) in [(499, true), (500, false)] {
+            let mut line = Vec::from_slice(rt.alloc(), b"docs ")?;
+            for _ in 0..boosts {
+                line.extend_from_slice(b"boost 1 ")?;
+            }
+            line.extend_from_slice(b"all")?;
+            assert_eq!(rt;
+                parse_line(rt.alloc(), line.as_slice()).is_ok(),
+                is_understood
+            );
+        }
+        Ok(())
+    }
 }

@@ -1,11 +1,14 @@
 //! Running a script.
 
-ghost use Rattle.std.specs.Prelude.{◌≤◌, IfOk};
+ghost use Rattle.std.specs.Prelude.{◌≡◌, ◌≤◌, IfOk, IsSome, IsUtf8, option_map};
+ghost use Rattle.qm_search.specs.Requests.{request_of};
+ghost use Rattle.qm_search.specs.Script.{line_request};
 
 use crate::answer::answer_command;
 use crate::corpus::Corpus;
 use crate::lines::Lines;
-use crate::parse::parse_line;
+use crate::parse::{Command, parse_line};
+use crate::unparsed::Unparsed;
 use std::alloc::{AllocError, AllocFailed, Global};
 use std::io::{BufWriter, Read, Write};
 use thiserror::Error;
@@ -63,6 +66,18 @@ pub fn run<R: Read, W: Write>(alloc: Global, input: &mut R, output: &mut W) -> R
     }
 }
 
+// What the line asks for; none where it isn't understood.
+fn read_command(alloc: Global, line: &[u8]) -> Result<Option<Command>, RunError>
+    ensures text { IfOk result (λ command. IsSome command → IsUtf8 line.now) }
+    ensures request { IsUtf8 line.now → IfOk result (λ command. option_map request_of command ≡ line_request line.now) }
+{
+    match parse_line(alloc, line) {
+        Ok(command) => Ok(Some(command)),
+        Err(Unparsed::NotUnderstood) => Ok(None),
+        Err(Unparsed::Memory) => Err(RunError::Memory),
+    }
+}
+
 // Answers every line, and gives the worst status.
 fn answer_lines<R: Read, W: Write>(
     alloc: Global,
@@ -86,7 +101,7 @@ fn answer_lines<R: Read, W: Write>(
         if !lines.next_line(input, &mut line)? {
             break;
         }
-        let command = parse_line(alloc, line.as_slice())?;
+        let command = read_command(alloc, line.as_slice())?;
         text.clear();
         let answer = answer_command(alloc, &mut corpus, command, &mut text)?;
         status = answer.status().max(status);

@@ -1,2 +1,3 @@
 pub mod SliceSteps
 mod WorkedTrees
+mod Leaves

@@ -1,4 +1,9 @@
 pub mod Callers
+pub mod Best
+pub mod BestFacts
 pub mod Tree
+pub mod Weights
+pub mod Scorers
 pub mod TreeFacts
 pub mod BoostFacts
+pub mod ScoringFacts

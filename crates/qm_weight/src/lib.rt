@@ -4,9 +4,29 @@
 //! says so.
 #![tactic(auto)]
 
+mod all_weight;
+mod any_weight;
+mod boolean_weight;
+mod boost_weight;
+mod const_weight;
+mod empty_weight;
+mod phrase_prefix_weight;
+mod phrase_weight;
+mod prefix_weight;
+mod term_weight;
 mod weight;
 
-pub use weight::{for_each_docset_buffered, for_each_pruning_scorer, for_each_scorer};
+pub use all_weight::AllWeight;
+pub use any_weight::AnyWeight;
+pub use boolean_weight::BooleanWeight;
+pub use boost_weight::BoostWeight;
+pub use const_weight::ConstWeight;
+pub use empty_weight::EmptyWeight;
+pub use phrase_prefix_weight::PhrasePrefixWeight;
+pub use phrase_weight::PhraseWeight;
+pub use prefix_weight::PrefixWeight;
+pub use term_weight::TermWeight;
+pub use weight::{Weight, for_each_docset_buffered, for_each_pruning_scorer, for_each_scorer};
 
 #[cfg(test)]
 mod tests;

@@ -1,6 +1,8 @@
 //! Callers of the runs, and worked runs.
 
+mod best_pairs;
 mod callers;
 mod plain_runs;
 mod pruned_runs;
 mod scorers;
+mod weights;

@@ -1,13 +1,63 @@
-//! The plain runs: calls of a callback for the documents that a cursor has left.
+//! What a query has become for an index, and the plain runs: calls of a callback for the documents that
+//! a cursor has left.
 
 ghost use Rattle.std.specs.Fn.{CalledAt, TakesAt};
-ghost use Rattle.std.specs.Prelude.{ℤ, ◌<ℤ◌, List, []};
-ghost use Rattle.qm_docset.specs.Entry.{documents};
+ghost use Rattle.std.specs.Prelude.{◌≡◌, ◌≤ℤ◌, ℤ, ◌<ℤ◌, IfErr, IfOk, List, [], OnErr, nat_abs, pos};
+ghost use Rattle.qm_docset.specs.Entry.{Entry, documents};
 ghost use Rattle.qm_docset.specs.Lists.{IsPlaced, Lists};
 ghost use Rattle.qm_term.specs.Runs.{CallsAt, CallsEach, InRange, MayCallAt, MayCallEach, MayPrune, Plain, Turn, slices};
+ghost use Rattle.qm_weight.specs.Scorers.{IsListOf, IsRefusalOf, IsScorerOf};
+ghost use Rattle.qm_weight.specs.Tree.{Tree};
 
 use qm_combine::Scorer;
 use qm_docset::{COLLECT_BLOCK_BUFFER_LEN, DocId, DocSet, Score, TERMINATED};
+use qm_postings::SegmentReader;
+use qm_schema::QueryError;
+use qm_scorer::AnyScorer;
+use std::alloc::Global;
+
+/// What a query has become for an index: it stands for a tree, and gives what that tree matches and
+/// scores in each segment. Deleted documents are among those that it matches.
+///
+/// With scoring off in some node of the tree the scores are open, and the documents are the same.
+pub trait Weight {
+    // the tree that it stands for
+    ghost tree: { Self → Tree };
+
+    /// A scorer over the documents of a segment that match, each with its score at a boost, which is at
+    /// least 0. It borrows from the segment. Its `max_score` is at most the tree's bound.
+    ///
+    /// Refused with [`QueryError::ScoreBound`] only where the tree doesn't fit, that is, where a bound on
+    /// scores, or boosts multiplied along the tree, pass 9223372036854775807; and else with
+    /// [`QueryError::Memory`] alone. Looks each term up once; no posting is read that the scorer's first
+    /// document doesn't need.
+    fn scorer<'a, S: Scorer>(
+        &self,
+        alloc: Global,
+        reader: &'a SegmentReader,
+        boost: Score,
+    ) -> Result<AnyScorer<'a, S>, QueryError>
+        requires boost { pos 0 ≤ℤ boost }
+        ensures scorer { IfOk result (IsScorerOf ⟦<AnyScorer<'a, S> as DocSet>⟧ (tree self.now) (nat_abs boost) reader.now.segment) }
+        ensures refused { IfErr result (IsRefusalOf (tree self.now) (nat_abs boost)) };
+
+    /// Calls `callback` once for each document of a segment that matches, ascending, with its score at a
+    /// boost of 1.
+    ///
+    /// Asks that the callback may be called so, whatever the calls before left of it. Refused as
+    /// [`scorer`](Weight::scorer) is at a boost of 1, and then no call was made. Costs what the scorer
+    /// does, and a `score` and an `advance` a document.
+    fn for_each<F: FnMut(DocId, Score)>(
+        &self,
+        alloc: Global,
+        reader: &SegmentReader,
+        callback: &mut F,
+    ) -> Result<(), QueryError>
+        requires allowed { (es : List Entry) → IsListOf (tree self.now) 1 reader.now.segment es → MayCallEach (CallsAt F.step) (MayCallAt F.pre) callback.old es }
+        ensures calls { IfOk result (λ _. (es : List Entry) × IsListOf (tree self.now) 1 reader.now.segment es × CallsEach (CallsAt F.step) callback.old es callback.new) }
+        ensures unchanged { OnErr result (callback.new ≡ callback.old) }
+        ensures refused { IfErr result (IsRefusalOf (tree self.now) 1) };
+}
 
 /// Calls `callback` once for each document that the scorer has left, ascending, with its score, and
 /// leaves none. Takes no memory and is never refused. Costs a `score` and an `advance` a document.

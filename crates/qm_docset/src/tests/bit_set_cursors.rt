@@ -3,11 +3,8 @@ ghost use Rattle.qm_docset.specs.BitSetDocSet.{IsBitSetCursor, IsOnMember};
 
 use crate::tests::bit_sets::bit_set;
 use crate::tests::cursors::cursor;
-use crate::tests::moves::{Move, goes, seeks_as_steps_lead};
-use crate::{
-    AliveBitSet, BitSetDocSet, COLLECT_BLOCK_BUFFER_LEN, DocId, DocSet, SeekDangerResult,
-    TERMINATED,
-};
+use crate::tests::moves::{Move, answers, counts, fills, goes, seeks_as_steps_lead};
+use crate::{AliveBitSet, BitSetDocSet, DocId, DocSet, SeekDangerResult, TERMINATED};
 use std::alloc::Global;
 use std::process::Abort;
 use std::test::Fail;
@@ -54,8 +51,7 @@ fn goes_through_members_and_stays_at_the_end(rt: HostRuntime) -> Result<(), Fail
         let mut docs = bit_set_cursor(&rt, rt.alloc(), members, max_value)?;
         assert_eq!(rt; docs.size_hint() as usize, members.len());
         goes(&rt, &mut docs, moves);
-        assert_eq!(rt; docs.doc(), TERMINATED);
-        assert_eq!(rt; docs.count_including_deleted(), 0);
+        counts(&rt, &mut docs, None, 0);
     }
     Ok(())
 }
@@ -74,19 +70,19 @@ fn every_seek_is_steps(rt: HostRuntime) -> Result<(), Fail> {
 #[test]
 fn a_dangerous_seek_looks_at_one_word(rt: HostRuntime) -> Result<(), Fail> {
     let mut docs = bit_set_cursor(&rt, rt.alloc(), &[5, 9, 500], 501)?;
-    assert_eq!(rt; docs.seek_danger(3), SeekDangerResult::SeekLowerBound(5));
-    assert_eq!(rt; docs.seek_danger(5), SeekDangerResult::Found);
-    assert_eq!(rt; docs.seek_danger(7), SeekDangerResult::SeekLowerBound(9));
-    assert_eq!(rt; docs.seek_danger(10), SeekDangerResult::SeekLowerBound(64));
-    assert_eq!(rt; docs.seek_danger(10), SeekDangerResult::SeekLowerBound(128));
-    assert_eq!(rt; docs.seek(0), 500);
-    assert_eq!(rt; docs.seek_danger(500), SeekDangerResult::Found);
-    assert_eq!(rt; docs.doc(), 500);
-    assert_eq!(rt;
-        docs.seek_danger(TERMINATED),
-        SeekDangerResult::SeekLowerBound(TERMINATED)
-    );
-    assert_eq!(rt; docs.seek(0), TERMINATED);
+    let within = [
+        (3, SeekDangerResult::SeekLowerBound(5)),
+        (5, SeekDangerResult::Found),
+        (7, SeekDangerResult::SeekLowerBound(9)),
+        (10, SeekDangerResult::SeekLowerBound(64)),
+        (10, SeekDangerResult::SeekLowerBound(128)),
+    ];
+    answers(&rt, &mut docs, &within, 500);
+    let at_the_end = [
+        (500, SeekDangerResult::Found),
+        (TERMINATED, SeekDangerResult::SeekLowerBound(TERMINATED)),
+    ];
+    answers(&rt, &mut docs, &at_the_end, TERMINATED);
     Ok(())
 }
 
@@ -97,36 +93,23 @@ fn buffers_take_64_members_at_a_time(rt: HostRuntime) -> Result<(), Fail> {
         members.push(3 * doc)?;
     }
     let mut docs = bit_set_cursor(&rt, rt.alloc(), &members, 210)?;
-    let mut buffer = [7; COLLECT_BLOCK_BUFFER_LEN];
-    assert_eq!(rt; docs.fill_buffer(&mut buffer), 64);
-    for (doc, want) in buffer.iter().zip(&members) {
-        assert_eq!(rt; *doc, *want);
-    }
-    assert_eq!(rt; docs.doc(), 192);
-    assert_eq!(rt; docs.fill_buffer(&mut buffer), 6);
-    assert_eq!(rt; buffer[..6], [192, 195, 198, 201, 204, 207][..]);
-    assert_eq!(rt; docs.doc(), TERMINATED);
-    assert_eq!(rt; docs.fill_buffer(&mut buffer), 0);
+    fills(&rt, &mut docs, &members);
     Ok(())
 }
 
 #[test]
 fn counts_go_from_the_document_on(rt: HostRuntime) -> Result<(), Fail> {
-    let members = [0, 5, 63, 64, 100, 199];
     let alive = AliveBitSet::from(bit_set(&rt, rt.alloc(), &[5, 63, 100, 150], 180)?);
-    let mut docs = bit_set_cursor(&rt, rt.alloc(), &members, 200)?;
-    assert_eq!(rt; docs.count_including_deleted(), 6);
-    assert_eq!(rt; docs.doc(), TERMINATED);
-    assert_eq!(rt; docs.count_including_deleted(), 0);
-    let mut docs = bit_set_cursor(&rt, rt.alloc(), &members, 200)?;
-    assert_eq!(rt; docs.seek(6), 63);
-    assert_eq!(rt; docs.count_including_deleted(), 4);
-    let mut docs = bit_set_cursor(&rt, rt.alloc(), &members, 200)?;
-    assert_eq!(rt; docs.count(&alive), 3);
-    assert_eq!(rt; docs.doc(), TERMINATED);
-    let mut docs = bit_set_cursor(&rt, rt.alloc(), &members, 200)?;
-    assert_eq!(rt; docs.seek(6), 63);
-    assert_eq!(rt; docs.count(&alive), 2);
+    for (target, doc, alive, want) in [
+        (0, 0, None, 6),
+        (6, 63, None, 4),
+        (0, 0, Some(&alive), 3),
+        (6, 63, Some(&alive), 2),
+    ] {
+        let mut docs = bit_set_cursor(&rt, rt.alloc(), &[0, 5, 63, 64, 100, 199], 200)?;
+        goes(&rt, &mut docs, &[(Move::To(target), doc)]);
+        counts(&rt, &mut docs, alive, want);
+    }
     Ok(())
 }
 
@@ -134,11 +117,8 @@ fn counts_go_from_the_document_on(rt: HostRuntime) -> Result<(), Fail> {
 fn a_cursor_over_a_list_counts_alive_documents(rt: HostRuntime) -> Result<(), Fail> {
     let alive = AliveBitSet::from(bit_set(&rt, rt.alloc(), &[5, 63, 100, 150], 180)?);
     let mut docs = cursor(&rt, rt.alloc(), &[0, 5, 63, 64, 100, 199])?;
-    assert_eq!(rt; docs.count(&alive), 3);
-    assert_eq!(rt; docs.doc(), TERMINATED);
-    assert_eq!(rt; docs.count(&alive), 0);
-    let docs = cursor(&rt, rt.alloc(), &[5, 6])?;
-    let mut boxed = Box::new(rt.alloc(), docs)?;
-    assert_eq!(rt; boxed.count(&alive), 1);
+    counts(&rt, &mut docs, Some(&alive), 3);
+    let mut boxed = Box::new(rt.alloc(), cursor(&rt, rt.alloc(), &[5, 6])?)?;
+    counts(&rt, &mut boxed, Some(&alive), 1);
     Ok(())
 }

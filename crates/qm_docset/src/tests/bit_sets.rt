@@ -19,22 +19,26 @@ pub fn bit_set(
 }
 
 #[test]
-fn a_tiny_set_takes_members_and_gives_them_up(rt: HostRuntime) {
+fn a_tiny_set_takes_members(rt: HostRuntime) {
     let mut set = TinySet::empty();
     assert!(rt; set.is_empty());
     assert_eq!(rt; set.len(), 0);
-    assert_eq!(rt; set.pop_lowest(), None);
     assert!(rt; set.insert_mut(63));
     assert!(rt; set.insert_mut(0));
     assert!(rt; !set.insert_mut(63));
     set = set.insert(17).insert(17);
     assert_eq!(rt; set.len(), 3);
     assert!(rt; set.contains(17) && !set.contains(16) && !set.contains(18));
+}
+
+#[test]
+fn a_tiny_set_gives_up_its_members(rt: HostRuntime) {
+    let mut set = TinySet::empty().insert(17).insert(63).insert(0);
     assert_eq!(rt; set.pop_lowest(), Some(0));
     assert_eq!(rt; set.pop_lowest(), Some(17));
     assert_eq!(rt; set.pop_lowest(), Some(63));
     assert_eq!(rt; set.pop_lowest(), None);
-    assert!(rt; set.insert_mut(5));
+    set = set.insert(5);
     set.clear();
     assert!(rt; set.is_empty());
     assert_eq!(rt; set, TinySet::empty());
@@ -67,14 +71,15 @@ fn members_stand_at_the_ends_of_words(rt: HostRuntime) -> Result<(), Fail> {
     let set = bit_set(&rt, rt.alloc(), &members, 200)?;
     assert_eq!(rt; set.len(), 6);
     assert_eq!(rt; set.max_value(), 200);
-    for el in 0..300 {
-        assert_eq!(rt; set.contains(el), members.contains(&el), "at {el}");
+    for el in 0..320 {
+        let is_member = members.contains(&el);
+        assert_eq!(rt; set.contains(el), is_member, "at {el}");
+        assert_eq!(rt;
+            set.tinyset(el / 64).contains(el % 64),
+            is_member,
+            "at {el}"
+        );
     }
-    assert_eq!(rt; set.tinyset(0), TinySet::empty().insert(0).insert(63));
-    assert_eq!(rt; set.tinyset(1), TinySet::empty().insert(0).insert(63));
-    assert_eq!(rt; set.tinyset(2), TinySet::empty().insert(0));
-    assert_eq!(rt; set.tinyset(3), TinySet::empty().insert(7));
-    assert!(rt; set.tinyset(4).is_empty());
     assert!(rt; set.tinyset(u32::MAX).is_empty());
     Ok(())
 }
@@ -89,25 +94,21 @@ fn a_member_that_is_added_twice_counts_once(rt: HostRuntime) -> Result<(), Fail>
 
 #[test]
 fn a_set_may_have_room_for_nothing_or_a_word(rt: HostRuntime) -> Result<(), Fail> {
-    let none = BitSet::with_max_value(rt.alloc(), 0)?;
-    assert_eq!(rt; none.len(), 0);
-    assert_eq!(rt; none.max_value(), 0);
-    assert!(rt; !none.contains(0));
-    assert!(rt; none.tinyset(0).is_empty());
-    assert_eq!(rt; none.first_non_empty_bucket(0), None);
-    for (last, buckets) in [(0, 1), (63, 1), (64, 2)] {
-        let set = bit_set(&rt, rt.alloc(), &[last], last + 1)?;
-        assert_eq!(rt; set.len(), 1, "up to {last}");
-        assert!(rt;
-            set.contains(last) && !set.contains(last + 1),
-            "up to {last}"
-        );
-        assert_eq!(rt;
-            set.first_non_empty_bucket(0),
-            Some(buckets - 1),
-            "up to {last}"
-        );
-        assert_eq!(rt; set.first_non_empty_bucket(buckets), None, "up to {last}");
+    // the only member, the bound, the bucket that it is in, and the first bucket past the set
+    for (last, max_value, bucket, past) in [
+        (None, 0, None, 0),
+        (Some(0), 1, Some(0), 1),
+        (Some(63), 64, Some(0), 1),
+        (Some(64), 65, Some(1), 2),
+    ] {
+        let set = bit_set(&rt, rt.alloc(), last.as_slice(), max_value)?;
+        assert_eq!(rt; set.len(), last.as_slice().len(), "up to {last:?}");
+        for el in [0, 1, 63, 64, 65] {
+            assert_eq!(rt; set.contains(el), last == Some(el), "up to {last:?}");
+        }
+        assert_eq!(rt; set.first_non_empty_bucket(0), bucket, "up to {last:?}");
+        assert_eq!(rt; set.first_non_empty_bucket(past), None, "up to {last:?}");
+        assert!(rt; set.tinyset(past).is_empty(), "up to {last:?}");
     }
     Ok(())
 }
@@ -116,11 +117,15 @@ fn a_set_may_have_room_for_nothing_or_a_word(rt: HostRuntime) -> Result<(), Fail
 fn an_empty_stretch_of_a_million_is_passed(rt: HostRuntime) -> Result<(), Fail> {
     let set = bit_set(&rt, rt.alloc(), &[3, 999_999], 1_000_000)?;
     assert_eq!(rt; set.len(), 2);
-    assert_eq!(rt; set.first_non_empty_bucket(0), Some(0));
-    assert_eq!(rt; set.first_non_empty_bucket(1), Some(15_624));
-    assert_eq!(rt; set.first_non_empty_bucket(15_624), Some(15_624));
-    assert_eq!(rt; set.first_non_empty_bucket(15_625), None);
-    assert_eq!(rt; set.first_non_empty_bucket(u32::MAX), None);
+    for (bucket, want) in [
+        (0, Some(0)),
+        (1, Some(15_624)),
+        (15_624, Some(15_624)),
+        (15_625, None),
+        (u32::MAX, None),
+    ] {
+        assert_eq!(rt; set.first_non_empty_bucket(bucket), want, "from {bucket}");
+    }
     Ok(())
 }
 

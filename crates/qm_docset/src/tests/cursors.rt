@@ -1,10 +1,9 @@
 ghost use Rattle.std.specs.Prelude.{IfOk};
 ghost use Rattle.qm_docset.specs.VecDocSet.{IsVecCursor};
 
-use crate::tests::moves::{Move, goes, seeks_as_steps_lead};
+use crate::tests::moves::{Move, answers, counts, fills, goes, seeks_as_steps_lead};
 use crate::{
-    COLLECT_BLOCK_BUFFER_LEN, DocId, DocSet, HasLen, SeekDangerResult, TERMINATED, VecDocSet,
-    are_documents, documents_left,
+    DocId, DocSet, HasLen, SeekDangerResult, TERMINATED, VecDocSet, are_documents, documents_left,
 };
 use std::alloc::Global;
 use std::process::Abort;
@@ -71,41 +70,26 @@ fn steps_to_where_a_seek_goes(rt: HostRuntime) -> Result<(), Fail> {
 #[test]
 fn answers_a_dangerous_seek_by_the_document_reached(rt: HostRuntime) -> Result<(), Fail> {
     let mut docs = cursor(&rt, rt.alloc(), &[5, 9])?;
-    assert_eq!(rt; docs.seek_danger(3), SeekDangerResult::SeekLowerBound(5));
-    assert_eq!(rt; docs.seek_danger(5), SeekDangerResult::Found);
-    assert_eq!(rt; docs.seek_danger(7), SeekDangerResult::SeekLowerBound(9));
-    assert_eq!(rt; docs.seek(7), 9);
-    assert_eq!(rt;
-        docs.seek_danger(TERMINATED),
-        SeekDangerResult::SeekLowerBound(TERMINATED)
-    );
-    assert_eq!(rt; docs.seek(0), TERMINATED);
+    let within = [
+        (3, SeekDangerResult::SeekLowerBound(5)),
+        (5, SeekDangerResult::Found),
+        (7, SeekDangerResult::SeekLowerBound(9)),
+    ];
+    answers(&rt, &mut docs, &within, 9);
+    let past = [(TERMINATED, SeekDangerResult::SeekLowerBound(TERMINATED))];
+    answers(&rt, &mut docs, &past, TERMINATED);
     Ok(())
-}
-
-/// Takes a buffer of documents, and wants `count` of them, in a row from `first` on.
-fn takes_a_row(rt: &impl Abort, docs: &mut VecDocSet, first: u64, count: usize)
-    requires { IsVecCursor docs.old }
-    ensures { IsVecCursor docs.new }
-{
-    let mut buffer = [7; COLLECT_BLOCK_BUFFER_LEN];
-    assert_eq!(rt; docs.fill_buffer(&mut buffer), count);
-    for (doc, want) in buffer[..count].iter().zip(first..u64::MAX) {
-        assert_eq!(rt; u64::from(*doc), want);
-    }
 }
 
 #[test]
 fn fills_buffers_until_none_is_left(rt: HostRuntime) -> Result<(), Fail> {
+    // buffers of 1 to 64, 65 to 128, 129 to 137
     let mut docs = multiples(&rt, rt.alloc(), 1, 138)?;
     assert_eq!(rt; docs.seek(1), 1);
-    takes_a_row(&rt, &mut docs, 1, 64);
-    takes_a_row(&rt, &mut docs, 65, 64);
-    takes_a_row(&rt, &mut docs, 129, 9);
-    takes_a_row(&rt, &mut docs, 0, 0);
-    assert_eq!(rt; docs.doc(), TERMINATED);
+    let want: Vec<DocId> = (1..138).collect(rt.alloc())?;
+    fills(&rt, &mut docs, &want);
     let mut none = cursor(&rt, rt.alloc(), &[])?;
-    takes_a_row(&rt, &mut none, 0, 0);
+    fills(&rt, &mut none, &[]);
     assert!(rt; none.is_empty());
     Ok(())
 }
@@ -130,8 +114,8 @@ fn counts_what_is_left(rt: HostRuntime) -> Result<(), Fail> {
     assert_eq!(rt; docs.cost(), 10);
     assert_eq!(rt; docs.seek(5), 6);
     assert_eq!(rt; docs.count_including_deleted(), 7);
-    assert_eq!(rt; docs.doc(), TERMINATED);
     assert_eq!(rt; docs.len(), 10);
+    counts(&rt, &mut docs, None, 0);
     Ok(())
 }
 
@@ -160,13 +144,10 @@ fn goes_through_a_box(rt: HostRuntime) -> Result<(), Fail> {
         &mut docs,
         &[(Move::To(0), 2), (Move::Step, 4), (Move::To(5), 6)],
     );
-    assert_eq!(rt; docs.doc(), 6);
-    assert_eq!(rt; docs.seek_danger(6), SeekDangerResult::Found);
     assert_eq!(rt; docs.size_hint(), 2);
     assert_eq!(rt; docs.cost(), 2);
-    let mut buffer = [0; COLLECT_BLOCK_BUFFER_LEN];
-    assert_eq!(rt; docs.fill_buffer(&mut buffer), 2);
-    assert_eq!(rt; buffer[1], 8);
-    assert_eq!(rt; docs.count_including_deleted(), 0);
+    answers(&rt, &mut docs, &[(6, SeekDangerResult::Found)], 6);
+    fills(&rt, &mut docs, &[6, 8]);
+    counts(&rt, &mut docs, None, 0);
     Ok(())
 }

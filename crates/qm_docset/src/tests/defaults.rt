@@ -4,6 +4,7 @@ ghost use Rattle.qm_docset.specs.DocumentsFacts.{AreEntries-documents};
 ghost use Rattle.qm_docset.specs.VecDocSet.{remaining_documents, IsVecCursor};
 
 use crate::tests::cursors::cursor;
+use crate::tests::moves::{answers, counts, fills};
 use crate::{COLLECT_BLOCK_BUFFER_LEN, DocId, DocSet, SeekDangerResult, TERMINATED, VecDocSet};
 use std::test::Fail;
 
@@ -44,8 +45,11 @@ fn default_calls_answer_as_own_ones(rt: HostRuntime) -> Result<(), Fail> {
         docs: cursor(&rt, rt.alloc(), &[1, 3, 5, 2_147_483_646])?,
     };
     assert_eq!(rt; steps.cost(), 4_294_967_295);
-    assert_eq!(rt; steps.seek_danger(2), SeekDangerResult::SeekLowerBound(3));
-    assert_eq!(rt; steps.seek_danger(3), SeekDangerResult::Found);
+    let bounds = [
+        (2, SeekDangerResult::SeekLowerBound(3)),
+        (3, SeekDangerResult::Found),
+    ];
+    answers(&rt, &mut steps, &bounds, 3);
     let mut buffer = [0; COLLECT_BLOCK_BUFFER_LEN];
     assert_eq!(rt; steps.fill_buffer(&mut buffer), 3);
     assert_eq!(rt; buffer[..4], [3, 5, 2_147_483_646, 0][..]);
@@ -53,8 +57,7 @@ fn default_calls_answer_as_own_ones(rt: HostRuntime) -> Result<(), Fail> {
     let mut steps = OnlySteps {
         docs: cursor(&rt, rt.alloc(), &[1, 3, 5])?,
     };
-    assert_eq!(rt; steps.count_including_deleted(), 3);
-    assert_eq!(rt; steps.count_including_deleted(), 0);
+    counts(&rt, &mut steps, None, 3);
     Ok(())
 }
 
@@ -67,11 +70,6 @@ fn a_default_buffer_is_filled_whole(rt: HostRuntime) -> Result<(), Fail> {
     let mut steps = OnlySteps {
         docs: cursor(&rt, rt.alloc(), &docs)?,
     };
-    let mut buffer = [0; COLLECT_BLOCK_BUFFER_LEN];
-    assert_eq!(rt; steps.fill_buffer(&mut buffer), 64);
-    assert_eq!(rt; buffer[63], 63);
-    assert_eq!(rt; steps.doc(), 64);
-    assert_eq!(rt; steps.fill_buffer(&mut buffer), 6);
-    assert_eq!(rt; steps.fill_buffer(&mut buffer), 0);
+    fills(&rt, &mut steps, &docs);
     Ok(())
 }

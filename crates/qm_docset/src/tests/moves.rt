@@ -1,8 +1,11 @@
-//! Moves of cursors, written out in tables.
+//! Calls on cursors and what they are to answer, written out in tables.
 
 ghost use Rattle.qm_docset.specs.Lists.{IsPlaced};
 
-use crate::{DocId, DocSet, TERMINATED, seek_by_steps};
+use crate::{
+    AliveBitSet, COLLECT_BLOCK_BUFFER_LEN, DocId, DocSet, SeekDangerResult, TERMINATED,
+    seek_by_steps,
+};
 use std::process::Abort;
 
 /// A move of a cursor.
@@ -44,4 +47,56 @@ pub fn seeks_as_steps_lead<D: DocSet>(
         "to {target}"
     );
     assert_eq!(rt; seeking.advance(), stepping.advance(), "behind {target}");
+}
+
+/// Asks for targets that the cursor need not stand on afterwards, and wants the answer beside each;
+/// where one is found the cursor stands on it. Then wants the document that it is on or next at.
+pub fn answers<D: DocSet>(
+    rt: &impl Abort,
+    docs: &mut D,
+    rows: &[(DocId, SeekDangerResult)],
+    next: DocId,
+)
+    requires { D.valid docs.old }
+    ensures { IsPlaced D.DocSet docs.new }
+{
+    for (target, want) in rows {
+        let target = (*target).min(TERMINATED);
+        let answer = docs.seek_danger(target);
+        assert_eq!(rt; answer, *want, "{target}");
+        if let SeekDangerResult::Found = answer {
+            assert_eq!(rt; docs.doc(), target);
+        }
+    }
+    assert_eq!(rt; docs.seek(0), next);
+}
+
+/// Takes buffers until none is left, and wants these documents in them: 64 in each but the last.
+pub fn fills<D: DocSet>(rt: &impl Abort, docs: &mut D, want: &[DocId])
+    requires { IsPlaced D.DocSet docs.old }
+    ensures { IsPlaced D.DocSet docs.new }
+{
+    let mut buffer = [7; COLLECT_BLOCK_BUFFER_LEN];
+    for row in want.chunks(COLLECT_BLOCK_BUFFER_LEN) {
+        let count = docs.fill_buffer(&mut buffer);
+        assert_eq!(rt; buffer[..count], *row);
+    }
+    assert_eq!(rt; docs.doc(), TERMINATED);
+    assert_eq!(rt; docs.fill_buffer(&mut buffer), 0);
+}
+
+/// Counts the documents that are left, all of them or those that are alive, and wants so many; none
+/// is left then.
+pub fn counts<D: DocSet>(rt: &impl Abort, docs: &mut D, alive: Option<&AliveBitSet>, want: u32)
+    requires { IsPlaced D.DocSet docs.old }
+    ensures { IsPlaced D.DocSet docs.new }
+{
+    for want in [want, 0] {
+        let count = match alive {
+            Some(alive) => docs.count(alive),
+            None => docs.count_including_deleted(),
+        };
+        assert_eq!(rt; count, want);
+        assert_eq!(rt; docs.doc(), TERMINATED);
+    }
 }

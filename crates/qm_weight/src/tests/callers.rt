@@ -1,12 +1,16 @@
 //! What a caller learns of its own callback, from the contracts of the runs alone.
 
-ghost use Rattle.std.specs.Prelude.{◌≡◌, IfOk, [], ◌∷◌, ◌++◌, false, length};
+ghost use Rattle.std.specs.Prelude.{◌≡◌, IfOk, IsTrue, [], ◌∷◌, ◌++◌, false, length};
+ghost use Rattle.qm_docset.specs.Entry.{documents};
 ghost use Rattle.qm_docset.specs.Lists.{IsPlaced};
 ghost use Rattle.qm_weight.specs.Callers.{pairs};
+ghost use Rattle.qm_weight.specs.Tree.{is_scoring, list};
 
-use crate::for_each_scorer;
+use crate::{Weight, for_each_docset_buffered, for_each_scorer};
 use qm_combine::Scorer;
-use qm_docset::{DocId, Score};
+use qm_docset::{COLLECT_BLOCK_BUFFER_LEN, DocId, DocSet, Score};
+use qm_postings::SegmentReader;
+use qm_schema::QueryError;
 use std::alloc::{AllocError, Global};
 
 /// The number of documents that the scorer has left: one for each call.
@@ -53,6 +57,64 @@ pub fn collect_calls<S: Scorer>(
     for_each_scorer(scorer, &mut |doc, score| collected.add(doc, score));
     if collected.refused {
         Err(AllocError)
+    } else {
+        Ok(collected.found)
+    }
+}
+
+#[derive(Drop)]
+struct Joined {
+    documents: Vec<DocId>,
+    // whether memory was refused; then some documents are not there
+    refused: bool,
+}
+
+impl Joined {
+    fn add(&mut self, slice: &[DocId])
+        ensures before { self.new.refused ≡ false → self.old.refused ≡ false }
+        ensures documents { self.new.refused ≡ false → self.new.documents.items ≡ self.old.documents.items ++ slice.now }
+    {
+        if !self.refused {
+            self.refused = self.documents.extend_from_slice(slice).is_err();
+        }
+    }
+}
+
+/// The documents that the cursor has left: the slices of a run, one after another. Want of memory alone
+/// refuses it.
+pub fn join_slices<D: DocSet>(alloc: Global, docset: &mut D) -> Result<Vec<DocId>, AllocError>
+    requires { IsPlaced D.DocSet docset.old }
+    ensures { IfOk result (λ v. v.items ≡ documents (D.entries docset.old)) }
+{
+    let mut joined = Joined {
+        documents: Vec::new(alloc),
+        refused: false,
+    };
+    let mut buffer = [7; COLLECT_BLOCK_BUFFER_LEN];
+    for_each_docset_buffered(docset, &mut buffer, &mut |slice| { joined.add(slice) });
+    if joined.refused {
+        Err(AllocError)
+    } else {
+        Ok(joined.documents)
+    }
+}
+
+/// The documents of a segment that a weight matches, each with its score: what the calls of its run were
+/// handed, in order.
+pub fn collect_matches<W: Weight>(
+    alloc: Global,
+    weight: &W,
+    reader: &SegmentReader,
+) -> Result<Vec<(DocId, Score)>, QueryError>
+    ensures { IfOk result (λ v. IsTrue (is_scoring (W.tree weight.now)) → v.items ≡ pairs (list (W.tree weight.now) 1 reader.now.segment)) }
+{
+    let mut collected = Collected {
+        found: Vec::new(alloc),
+        refused: false,
+    };
+    weight.for_each(alloc, reader, &mut |doc, score| collected.add(doc, score))?;
+    if collected.refused {
+        Err(QueryError::Memory)
     } else {
         Ok(collected.found)
     }

@@ -1,4 +1,4 @@
-use Rattle.std.proofs.Common.{◌≡◌, None, map, subst, string_bytes}
+use Rattle.std.proofs.Common.{None, map, subst, string_bytes}
 use Rattle.qm_search.specs.ScriptSegments.{AreSegments, all_segments, script}
 use Rattle.qm_search.proofs.Answering.{listing-answer, nothing-listed}
 use Rattle.qm_search.proofs.answer.list_documents.Goals as goal

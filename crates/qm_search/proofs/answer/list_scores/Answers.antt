@@ -1,7 +1,6 @@
-use Rattle.std.proofs.Common.{◌≡◌, ◌∙◌, Err, IsSome, None, Option, Some, ap, inl, inr, map, refl, subst, sym, string_bytes}
+use Rattle.std.proofs.Common.{◌≡◌, ◌∙◌, Err, IsSome, Some, ap, inl, inr, map, refl, subst, sym, string_bytes}
 use Rattle.std.specs.Option.{option_copied}
 use Rattle.std.proofs.lemmas.Result.{IfOk-weaker}
-use Rattle.qm_postings.specs.Statistics.{Searched}
 use Rattle.qm_search.specs.Answers.{IsChangeAnswer, ListsMatches, ListsScores}
 use Rattle.qm_search.specs.ScriptSegments.{AreSegments, all_segments, script}
 use Rattle.qm_search.proofs.Answering.{listing-answer, nothing-listed, nothing_searched, some-of}

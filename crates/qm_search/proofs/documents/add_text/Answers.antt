@@ -1,8 +1,7 @@
-use Rattle.std.proofs.Common.{◌≡◌, [], ◌∷◌, ◌++◌, ap, ◌∙◌, sym, subst, length, min}
+use Rattle.std.proofs.Common.{[], ◌∷◌, ◌++◌, ap, ◌∙◌, subst, length, min}
 use Rattle.std.proofs.lemmas.Result.{err_from_is_err_and}
-use Rattle.qm_postings.specs.Document.{Draft, text_terms, words_of}
+use Rattle.qm_postings.specs.Document.{text_terms, words_of}
 use Rattle.qm_postings.specs.Segment.{IsGood}
-use Rattle.qm_search.specs.TextSegments.{text_draft}
 use Rattle.qm_search.proofs.SegmentTexts.{draft-of, text_refusal, with_text-of}
 use Rattle.qm_search.proofs.documents.add_text.Goals as goal
 

@@ -1,4 +1,4 @@
-use Rattle.std.proofs.Common.{◌≡◌, ◌∷◌, [], ◌++◌, ℕ, ℤ, List, Option, None, ap, sym, ◌∙◌, string_bytes, length, lit<, arith, append-nil}
+use Rattle.std.proofs.Common.{◌≡◌, ◌∷◌, [], ◌++◌, ℕ, ℤ, Option, None, ap, sym, ◌∙◌, string_bytes, length, lit<, arith, append-nil}
 use Rattle.std.specs.Fmt.{decimal}
 use Rattle.std.proofs.lemmas.Result.{IfOk-weaker}
 use Rattle.qm_search.specs.Text.{IsListing, item_text}

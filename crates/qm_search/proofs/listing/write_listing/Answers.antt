@@ -1,4 +1,4 @@
-use Rattle.std.proofs.Common.{◌≡◌, ◌∙◌, ap, sym, subst, map, pos, string_bytes, ◌++◌, ℕ, ℤ, List, Option, None, Some}
+use Rattle.std.proofs.Common.{◌≡◌, ◌∙◌, ap, sym, subst, map, pos, string_bytes, ◌++◌, ℕ, ℤ, Option, None, Some}
 use Rattle.std.specs.Option.{option_copied}
 use Rattle.qm_search.specs.AllSegments.{all_listed, listed, numbered}
 use Rattle.qm_search.specs.Scores.{tree_score}

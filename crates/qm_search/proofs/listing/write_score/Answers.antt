@@ -1,4 +1,4 @@
-use Rattle.std.proofs.Common.{◌≡◌, ◌∷◌, [], ◌++◌, ℕ, ℤ, List, Option, Some, ap, sym, ◌∙◌, string_bytes, length, lit<, arith, to_z, of_z, w64}
+use Rattle.std.proofs.Common.{◌≡◌, ◌∷◌, [], ◌++◌, ℕ, ℤ, Option, Some, ap, ◌∙◌, string_bytes, length, lit<, arith, to_z, of_z, w64}
 use mir.ValLaws.{to_z-of_z}
 use Rattle.std.specs.Fmt.{decimal, signed_decimal}
 use Rattle.std.proofs.lemmas.Result.{IfOk-weaker}

@@ -1,4 +1,4 @@
-use Rattle.std.proofs.Common.{◌≡◌, ◌-◌, List, [], ◌+◌, ◌*◌, ◌≤◌, ◌∷◌, ◌++◌, ap, sym, ◌∙◌, subst, arith, drop, take, length, map, vec_len, string_bytes}
+use Rattle.std.proofs.Common.{◌≡◌, List, [], ◌+◌, ◌≤◌, ◌∷◌, ◌++◌, ap, sym, ◌∙◌, arith, drop, take, length, map, vec_len, string_bytes}
 use Rattle.std.proofs.lemmas.List.{drop_all, length-drop, length-map, length-take-le, map-append, take_all}
 use Rattle.qm_docset.specs.declared.numbers.TheConstants.{TERMINATED}
 use Rattle.qm_postings.specs.Segment.{Segment}

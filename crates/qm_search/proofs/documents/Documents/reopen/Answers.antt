@@ -1,4 +1,4 @@
-use Rattle.std.proofs.Common.{◌≡◌, ◌<◌, ◌-◌, ℕ, List, All, String, ap, arith, drop, get_or, length, string_bytes, subst, sym, take}
+use Rattle.std.proofs.Common.{◌-◌, List, All, String, ap, arith, drop, length, string_bytes, subst, sym, take}
 use Rattle.std.proofs.lemmas.List.Elements.{All-drop, All-take}
 use Rattle.std.specs.Global.{Global}
 use Rattle.qm_search.specs.TextSegments.{IsBadText}

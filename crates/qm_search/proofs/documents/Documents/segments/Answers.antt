@@ -1,8 +1,6 @@
-use Rattle.std.proofs.Common.{◌≡◌, ◌≤◌, ap, sym, ◌∙◌, arith, drop, take, length, map, subst, ◌++◌, string_bytes}
-use Rattle.std.proofs.lemmas.List.{length-map, length-take-le, map-append, take-append-drop, take_all}
-use Rattle.qm_docset.specs.declared.numbers.TheConstants.{TERMINATED}
+use Rattle.std.proofs.Common.{◌≡◌, ap, sym, ◌∙◌, arith, drop, take, subst, string_bytes}
+use Rattle.std.proofs.lemmas.List.{length-map, map-append, take-append-drop, take_all}
 use Rattle.qm_search.specs.Parts.{AreParts}
-use Rattle.qm_search.specs.ScriptSegments.{script}
 use Rattle.qm_search.specs.TextSegments.{segment_of, text_document}
 use Rattle.qm_search.proofs.PartLemmas.{few-segments, parts-from, segments_of}
 use Rattle.qm_search.proofs.documents.Documents.segments.Goals as goal

@@ -1,4 +1,4 @@
-use Rattle.std.proofs.Common.{◌≡◌, ◌+◌, ◌-◌, ◌*◌, ◌<◌, ◌≤◌, [], ◌∷◌, ◌++◌, ap, sym, ◌∙◌, subst, arith, drop, take, length}
+use Rattle.std.proofs.Common.{◌≡◌, ◌+◌, ◌-◌, ◌*◌, ◌≤◌, [], ◌∷◌, ◌++◌, ap, sym, ◌∙◌, subst, arith, drop, take, length}
 use Rattle.std.proofs.lemmas.List.{take-take}
 use Rattle.qm_docset.specs.declared.numbers.TheConstants.{TERMINATED}
 use Rattle.qm_search.specs.Parts.{AreParts, document_count}

@@ -1,0 +1,2 @@
+pub mod BuilderLemmas
+pub mod Rows

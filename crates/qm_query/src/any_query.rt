@@ -1,0 +1,64 @@
+//! One type for all queries.
+
+ghost use Rattle.std.specs.Prelude.{◌≡◌, IfOk, IsOkUnless};
+
+use crate::all_query::AllQuery;
+use crate::boolean_query::BooleanQuery;
+use crate::boost_query::BoostQuery;
+use crate::const_score_query::ConstScoreQuery;
+use crate::disjunction_max_query::DisjunctionMaxQuery;
+use crate::empty_query::EmptyQuery;
+use crate::phrase_prefix_query::PhrasePrefixQuery;
+use crate::phrase_query::PhraseQuery;
+use crate::term_query::TermQuery;
+use qm_schema::QueryError;
+use std::alloc::Global;
+
+/// A query of any kind.
+#[cycle(queries)]
+#[derive(Debug, Drop)]
+pub enum AnyQuery {
+    /// Every document.
+    All(AllQuery),
+    /// No document.
+    Empty(EmptyQuery),
+    /// The documents that hold a term.
+    Term(TermQuery),
+    /// The documents where a phrase stands.
+    Phrase(PhraseQuery),
+    /// The documents where a phrase stands whose last term is a prefix.
+    PhrasePrefix(PhrasePrefixQuery),
+    /// The documents that clauses ask for.
+    Boolean(BooleanQuery),
+    /// The documents of another query, at a boost.
+    Boost(BoostQuery),
+    /// The documents of another query, with one score.
+    ConstScore(ConstScoreQuery),
+    /// The documents of several queries, with the best of their scores.
+    DisjunctionMax(DisjunctionMaxQuery),
+}
+
+impl AnyQuery {
+    ghost use Rattle.qm_query.specs.Query.{query_of};
+
+    /// The same query, in memory of its own; costs a copy of all that stands below it.
+    ///
+    /// Refused with [`QueryError::Memory`] alone.
+    #[cycle(clones)]
+    pub fn clone(&self, alloc: Global) -> Result<AnyQuery, QueryError>
+        ensures same { IfOk result (λ query. query_of query ≡ query_of self.now) }
+        ensures refused { IsOkUnless result QueryError.Memory }
+    {
+        match self {
+            AnyQuery::All(query) => Ok(AnyQuery::All(query.clone(alloc)?)),
+            AnyQuery::Empty(query) => Ok(AnyQuery::Empty(query.clone(alloc)?)),
+            AnyQuery::Term(query) => Ok(AnyQuery::Term(query.clone(alloc)?)),
+            AnyQuery::Phrase(query) => Ok(AnyQuery::Phrase(query.clone(alloc)?)),
+            AnyQuery::PhrasePrefix(query) => Ok(AnyQuery::PhrasePrefix(query.clone(alloc)?)),
+            AnyQuery::Boolean(query) => Ok(AnyQuery::Boolean(query.clone(alloc)?)),
+            AnyQuery::Boost(query) => Ok(AnyQuery::Boost(query.clone(alloc)?)),
+            AnyQuery::ConstScore(query) => Ok(AnyQuery::ConstScore(query.clone(alloc)?)),
+            AnyQuery::DisjunctionMax(query) => Ok(AnyQuery::DisjunctionMax(query.clone(alloc)?)),
+        }
+    }
+}

@@ -1,0 +1,59 @@
+-- The buffer takes a document a step, until it is full or the cursor is at its end.
+use Rattle.std.proofs.Common.{◌≡◌, ℕ, ◌<◌, length, take, drop, arith, ap, refl, sym, subst, ◌∙◌, add-one}
+use Rattle.std.proofs.lemmas.List.{take_all, drop_all, take-set, drop-drop}
+use Rattle.qm_docset.specs.Entry.{documents, head_document}
+use Rattle.qm_docset.proofs.Buffers.{documents-taken_more, length-ended, remains}
+use Rattle.qm_scorer.specs.Tree.{tree_entries}
+use Rattle.qm_scorer.specs.TreeFacts.{tree-ascends, tree-head}
+use Rattle.qm_scorer.proofs.passing.fill_by_steps.Goals as goal
+use Rattle.qm_scorer.proofs.passing.fill_by_steps.Given.{Over}
+
+-- the cursor had as many documents as were taken
+ended : (g : Over) (c : goal.Then-doc-eq-TERMINATED g) → length (tree_entries g.S.DocSet c.args.scorer.now) ≡ c.loop-taken.taken
+ended g c =
+    let here = ap head_document (sym c.loop-taken.invariant.left) ∙ sym c.loop-taken.invariant.here ∙ c.if-doc-eq-TERMINATED.true in
+    let most = length-ended c.loop-taken.taken 0 _ _ (tree-ascends g.S.DocSet g.met.S.DocSet.ascending c.args.scorer.now c.requires.valid) (omega (arith, here)) in
+    omega arith
+
+pub returns-then-doc-eq-TERMINATED-clause-count : goal.returns-then-doc-eq-TERMINATED-clause-count
+returns-then-doc-eq-TERMINATED-clause-count g c = let all = ended g c in omega arith
+
+pub returns-then-doc-eq-TERMINATED-clause-documents :
+    goal.returns-then-doc-eq-TERMINATED-clause-documents
+returns-then-doc-eq-TERMINATED-clause-documents g c =
+    let all = ended g c in
+    take-set _ c.loop-taken.taken _ ∙ c.loop-taken.invariant.filled ∙ ap documents (take_all c.loop-taken.taken _ (omega arith) ∙ sym (take_all 64 _ (omega arith)))
+
+pub returns-then-doc-eq-TERMINATED-clause-entries :
+    goal.returns-then-doc-eq-TERMINATED-clause-entries
+returns-then-doc-eq-TERMINATED-clause-entries g c =
+    let all = ended g c in
+    let es = tree_entries g.S.DocSet c.args.scorer.now in
+    c.loop-taken.invariant.left ∙ drop_all c.loop-taken.taken es (omega arith) ∙ sym (drop_all 64 es (omega arith))
+
+pub loop-taken-preserved : goal.loop-taken-preserved
+loop-taken-preserved g c =
+    let es = tree_entries g.S.DocSet c.args.scorer.now in
+    let ascends = tree-ascends g.S.DocSet g.met.S.DocSet.ascending c.args.scorer.now c.requires.valid in
+    let here : c.loop-taken.doc ≡ head_document (drop c.loop-taken.taken es) = c.loop-taken.invariant.here ∙ ap head_document c.loop-taken.invariant.left in
+    let more : c.loop-taken.taken < length es = remains c.loop-taken.taken _ es ascends (λ e. c.if-doc-eq-TERMINATED.false (here ∙ e)) in
+    record {
+      within = omega arith;
+      filled = rw add-one (documents-taken_more c.loop-taken.taken c.loop-taken.doc es _ more (omega arith) c.loop-taken.invariant.filled here);
+      left = c.advance_tree-doc.ensures.entries ∙ ap (drop 1) c.loop-taken.invariant.left ∙ drop-drop 1 c.loop-taken.taken es;
+      here = c.advance_tree-doc.ensures.head;
+      top = c.advance_tree-doc.ensures.top ∙ c.loop-taken.invariant.top;
+      valid = c.advance_tree-doc.ensures.valid;
+      placed = c.advance_tree-doc.ensures.placed;
+    }
+
+pub returns-clause-documents : goal.returns-clause-documents
+returns-clause-documents g c =
+    let full : c.loop-taken.taken ≡ 64 = omega arith in
+    let P : ℕ → Type 0 = λ n. take n c.loop-taken.buffer ≡ documents (take n (tree_entries g.S.DocSet c.args.scorer.now)) in
+    subst P full c.loop-taken.invariant.filled
+
+pub loop-taken-init : goal.loop-taken-init
+loop-taken-init g c =
+    let stands = c.doc_tree-doc.ensures ∙ tree-head g.S.DocSet g.met.S.DocSet.ascending c.args.scorer.now c.requires.valid c.requires.placed in
+    record { within = omega arith; filled = refl; left = refl; here = stands; top = refl; valid = c.requires.valid; placed = c.requires.placed }
