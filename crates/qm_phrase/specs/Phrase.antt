@@ -8,7 +8,11 @@ use Rattle.std.specs.Prelude.{slice_index_or}
 use Rattle.qm_docset.specs.Entry.{Entry, Limits, head_positions}
 use Rattle.qm_docset.specs.Gather.{entries_of, scored}
 use Rattle.qm_docset.specs.Listed.{listed}
+use Rattle.qm_docset.specs.Lists.{Lists}
+use Rattle.qm_docset.specs.declared.docset.DocSet.{Ghosts}
+use Rattle.qm_postings.specs.FieldNorms.{norm_ids}
 use Rattle.qm_postings.specs.Positions.{shifted}
+use Rattle.qm_postings.specs.declared.fieldnorm.FieldNormReader.{FieldNormReader}
 use Rattle.qm_term.specs.Bm25.{bm25, bm25_bound}
 use Rattle.qm_term.specs.Bm25Weight.{weighing}
 use Rattle.qm_term.specs.declared.bm25.Bm25Weight.{Bm25Weight}
@@ -53,3 +57,9 @@ phrase_points (Some weight) ids d count = bm25 (weighing weight) (slice_index_or
 abbrev pub phrase_limits : Option Bm25Weight → Limits
 phrase_limits None = record { top = 1; room = 0 }
 phrase_limits (Some weight) = record { top = bm25_bound (weighing weight); room = 0 }
+
+-- a placed cursor that lists the documents of a phrase: by a weight and length ids, within a slop, of
+-- terms with their offsets
+abbrev pub ListsPhrase : {U P : Type 0} → Ghosts U → Ghosts P → Option Bm25Weight → FieldNormReader → ℕ → List (ℕ × P) → U → Type 0
+ListsPhrase U D weight norms slop terms s =
+    Lists U s (phrase_entries (phrase_points weight (norm_ids norms)) slop (shifts_of (map (λ pair. pair.0) terms)) (map (λ pair. D.entries pair.1) terms)) (phrase_limits weight)

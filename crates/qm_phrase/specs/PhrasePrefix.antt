@@ -1,11 +1,13 @@
 -- The documents in which the full terms of a phrase prefix stand together with a term that begins with
 -- the prefix.
-use Rattle.std.specs.Prelude.{◌≡◌, ℕ, ◌-◌, max, min, nat_le, nat_lt, Bool, true, false, List, ◌∷◌, Option, None, Some, length, map}
+use Rattle.std.specs.Prelude.{◌≡◌, ℕ, ◌-◌, max, min, nat_le, nat_lt, Bool, true, false, List, [], ◌∷◌, Option, None, Some, length, map}
 use Rattle.std.specs.List.{count_by, fold, list_all, range_with_len, sum_by}
 use Rattle.qm_docset.specs.Entry.{Entry, Limits}
 use Rattle.qm_docset.specs.Gather.{scored}
 use Rattle.qm_docset.specs.Listed.{listed}
-use Rattle.qm_docset.specs.Lists.{lists}
+use Rattle.qm_docset.specs.Lists.{Lists, lists}
+use Rattle.qm_postings.specs.FieldNorms.{norm_ids}
+use Rattle.qm_postings.specs.declared.fieldnorm.FieldNormReader.{FieldNormReader}
 use Rattle.qm_docset.specs.declared.docset.DocSet.{Ghosts}
 use Rattle.qm_postings.specs.Positions.{is_in, shifted}
 use Rattle.qm_term.specs.Bm25Weight.{weighing}
@@ -56,6 +58,10 @@ full_count t d = common_count (full_sets t d)
 abbrev pub suffix_count : PrefixLists → ℕ → List Entry → ℕ
 suffix_count t d es = common_count (shifted t.suffix_shift (positions_at d es) ∷ full_sets t d)
 
+-- the number of places in a document that a list has together with others, its own shifted
+abbrev pub shared_count : ℕ → List ℕ → ℕ → List Entry → ℕ
+shared_count shift places d es = common_count (shifted shift (positions_at d es) ∷ places ∷ [])
+
 -- the sum of this over all terms that begin with the prefix
 abbrev pub prefix_count : PrefixLists → ℕ → ℕ
 prefix_count t d = sum_by (suffix_count t d) t.suffixes
@@ -94,3 +100,9 @@ lists_at D terms suffix_pos suffixes = record {
   suffix_shift = greatest_of (map (λ p. p.0) terms) suffix_pos - suffix_pos;
   suffixes = lists D suffixes;
 }
+
+-- a placed cursor that lists the documents of a phrase prefix: by a weight and length ids, of terms with
+-- their offsets and of those that begin with the prefix, whose offset is `suffix_pos`
+abbrev pub ListsPrefix : {U P : Type 0} → Ghosts U → Ghosts P → Option Bm25Weight → FieldNormReader → List (ℕ × P) → ℕ → List P → U → Type 0
+ListsPrefix U D weight norms terms suffix_pos suffixes s =
+    Lists U s (prefix_entries weight (norm_ids norms) (lists_at D terms suffix_pos suffixes)) (prefix_limits weight (has_several (lists_at D terms suffix_pos suffixes)))

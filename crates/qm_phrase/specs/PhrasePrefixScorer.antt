@@ -24,6 +24,10 @@ module _ {P : Type 0} (D : Ghosts P) where
   abbrev pub phrase_prefix_count : PhrasePrefixScorer P → ℕ → ℕ
   phrase_prefix_count s d = prefix_count (prefix_lists s) d
 
+  -- it counts in each document what such lists have there
+  abbrev pub CountsAs : PrefixLists → PhrasePrefixScorer P → Type 0
+  CountsAs t s = (d : ℕ) → phrase_prefix_count s d ≡ prefix_count t d
+
   -- from a document on two of them count the same
   abbrev pub CountAlikeFrom : ℕ → PhrasePrefixScorer P → PhrasePrefixScorer P → Type 0
   CountAlikeFrom low s other = (d : ℕ) → low ≤ d → phrase_prefix_count s d ≡ phrase_prefix_count other d

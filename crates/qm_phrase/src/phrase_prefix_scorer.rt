@@ -4,10 +4,9 @@
 ghost use Rattle.std.specs.Prelude.{◌≡◌, ℕ, ◌<◌, ◌≤◌, All, IfOk, IsOkUnless, drop, map, vec_len};
 ghost use Rattle.qm_docset.specs.Cursor.{IsSeekAnswer, OnFound};
 ghost use Rattle.qm_docset.specs.Entry.{from, head_document};
-ghost use Rattle.qm_docset.specs.Lists.{Lists};
-ghost use Rattle.qm_phrase.specs.PhrasePrefix.{has_several, held, lists_at, prefix_count, prefix_entries, prefix_limits};
+ghost use Rattle.qm_phrase.specs.PhrasePrefix.{ListsPrefix, held, lists_at};
 ghost use Rattle.qm_phrase.specs.PhrasePrefixFacts.{AreEntries-prefix};
-ghost use Rattle.qm_phrase.specs.PhrasePrefixScorer.{CountAlikeFrom, IsOnPhrasePrefix, IsPhrasePrefix, phrase_prefix_count, phrase_prefix_left, phrase_prefix_scorer_limits};
+ghost use Rattle.qm_phrase.specs.PhrasePrefixScorer.{CountAlikeFrom, CountsAs, IsOnPhrasePrefix, IsPhrasePrefix, phrase_prefix_count, phrase_prefix_left, phrase_prefix_scorer_limits};
 ghost use Rattle.qm_phrase.specs.Places.{shift_of};
 ghost use Rattle.qm_postings.specs.FieldNorms.{norm_ids};
 ghost use Rattle.qm_term.specs.TermScorer.{AreCovered};
@@ -67,8 +66,8 @@ impl<'a, P: Postings> PhrasePrefixScorer<'a, P> {
         requires offsets { All (λ pair. pair.0 ≤ 4294967295) term_postings.items }
         requires suffix_pos { suffix_pos ≤ 4294967295 }
         requires covered { All (λ pair. AreCovered (norm_ids fieldnorm_reader) (P.entries pair.1)) term_postings.items }
-        ensures lists { IfOk result (λ s. Lists ⟦<PhrasePrefixScorer<'a, P> as DocSet>⟧ s (prefix_entries similarity_weight (norm_ids fieldnorm_reader.entry) (lists_at P.DocSet term_postings.items suffix_pos suffixes.items)) (prefix_limits similarity_weight (has_several (lists_at P.DocSet term_postings.items suffix_pos suffixes.items)))) }
-        ensures counts { IfOk result (λ s. (d : ℕ) → phrase_prefix_count P.DocSet s d ≡ prefix_count (lists_at P.DocSet term_postings.items suffix_pos suffixes.items) d) }
+        ensures lists { IfOk result (ListsPrefix ⟦<Self as DocSet>⟧ P.DocSet similarity_weight fieldnorm_reader.entry term_postings.items suffix_pos suffixes.items) }
+        ensures counts { IfOk result (CountsAs P.DocSet (lists_at P.DocSet term_postings.items suffix_pos suffixes.items)) }
         ensures memory { IsOkUnless result QueryError.Memory }
     {
         let terms = PrefixTerms::new(alloc, term_postings, suffixes, suffix_pos)?;

@@ -3,8 +3,7 @@
 ghost use Rattle.std.specs.Prelude.{◌≡◌, ◌<◌, ◌≤◌, All, IfOk, IsOkUnless, drop, true, map, min, vec_len};
 ghost use Rattle.qm_docset.specs.Cursor.{IsSeekAnswer, OnFound};
 ghost use Rattle.qm_docset.specs.Entry.{from, head_document};
-ghost use Rattle.qm_docset.specs.Lists.{Lists};
-ghost use Rattle.qm_phrase.specs.Phrase.{count_at, phrase_entries, phrase_limits, phrase_points, shifts_of};
+ghost use Rattle.qm_phrase.specs.Phrase.{ListsPhrase, count_at};
 ghost use Rattle.qm_phrase.specs.Places.{shift_of};
 ghost use Rattle.qm_phrase.specs.PhraseFacts.{AreEntries-phrase};
 ghost use Rattle.qm_phrase.specs.PhraseScorer.{IsOnPhrase, IsPhrase, has_weight, is_weighted, most_counted, phrase_left, phrase_scorer_limits, phrase_starts};
@@ -62,7 +61,7 @@ impl<'a, P: Postings> PhraseScorer<'a, P> {
         requires valid { All (λ pair. P.valid pair.1) term_postings.items }
         requires offsets { All (λ pair. pair.0 ≤ 4294967295) term_postings.items }
         requires covered { All (λ pair. AreCovered (norm_ids fieldnorm_reader) (P.entries pair.1)) term_postings.items }
-        ensures lists { IfOk result (λ s. Lists ⟦<PhraseScorer<'a, P> as DocSet>⟧ s (phrase_entries (phrase_points similarity_weight (norm_ids fieldnorm_reader.entry)) slop (shifts_of (map (λ pair. pair.0) term_postings.items)) (map (λ pair. P.entries pair.1) term_postings.items)) (phrase_limits similarity_weight)) }
+        ensures lists { IfOk result (ListsPhrase ⟦<Self as DocSet>⟧ P.DocSet similarity_weight fieldnorm_reader.entry slop term_postings.items) }
         ensures weighted { IfOk result (λ s. is_weighted P.DocSet s ≡ has_weight similarity_weight) }
         ensures memory { IsOkUnless result QueryError.Memory }
     {

@@ -1,14 +1,12 @@
 //! The terms that begin with the prefix of a phrase prefix. They need not stand anywhere between two
 //! calls.
 
-ghost use Rattle.std.specs.Prelude.{◌≡◌, ℕ, ◌∷◌, ◌<◌, ◌≤◌, [], All, map, min, sum_by};
+ghost use Rattle.std.specs.Prelude.{◌≡◌, ℕ, ◌<◌, ◌≤◌, All, map, min, sum_by};
 ghost use Rattle.qm_docset.specs.Entry.{from};
 ghost use Rattle.qm_docset.specs.Lists.{bounds, lists};
-ghost use Rattle.qm_phrase.specs.Phrase.{positions_at};
-ghost use Rattle.qm_phrase.specs.PhrasePrefix.{common_count};
+ghost use Rattle.qm_phrase.specs.PhrasePrefix.{shared_count};
 ghost use Rattle.qm_phrase.specs.Places.{Ascends, places_of, room_of, shift_of};
 ghost use Rattle.qm_phrase.specs.PrefixTerms.{FitIn};
-ghost use Rattle.qm_postings.specs.Positions.{shifted};
 
 use crate::common_places::count_shared;
 use crate::places::Places;
@@ -28,7 +26,7 @@ fn count_suffix<P: Postings>(
     requires shift { shift_of row.old ≤ 4294967295 }
     requires common { Ascends 0 (places_of common.old) }
     requires doc { doc < TERMINATED }
-    ensures count { result ≡ min 4294967295 (common_count (shifted (shift_of row.old) (positions_at doc (P.entries suffix.old)) ∷ places_of common.old ∷ [])) }
+    ensures count { result ≡ min 4294967295 (shared_count (shift_of row.old) (places_of common.old) doc (P.entries suffix.old)) }
     ensures entries { P.entries suffix.new ≡ from doc (P.entries suffix.old) }
     ensures limits { P.limits suffix.new ≡ P.limits suffix.old }
     ensures valid { P.valid suffix.new }
@@ -60,7 +58,7 @@ pub(crate) fn count_suffixes<P: Postings>(
     requires shift { shift_of row.old ≤ 4294967295 }
     requires common { Ascends 0 (places_of common.old) }
     requires doc { doc < TERMINATED }
-    ensures count { result ≡ min 4294967295 (sum_by (λ es. common_count (shifted (shift_of row.old) (positions_at doc es) ∷ places_of common.old ∷ [])) (lists P.DocSet suffixes.old)) }
+    ensures count { result ≡ min 4294967295 (sum_by (shared_count (shift_of row.old) (places_of common.old) doc) (lists P.DocSet suffixes.old)) }
     ensures entries { lists P.DocSet suffixes.new ≡ map (from doc) (lists P.DocSet suffixes.old) }
     ensures valid { All P.valid suffixes.new }
     ensures fit { FitIn P.DocSet suffixes.new row.new }

@@ -10,6 +10,7 @@ pub mod TermPlaces
 pub mod TermPositions
 pub mod TermRanges
 pub mod ColumnSteps
+pub mod DeletedDocuments
 pub mod TermChecks
 pub mod SameEntries
 pub mod SegmentGrowth

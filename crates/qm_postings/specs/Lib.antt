@@ -1,5 +1,6 @@
 pub mod Document
 pub mod Segment
+pub mod Deletions
 pub mod Index
 pub mod LengthIds
 pub mod FieldNorms

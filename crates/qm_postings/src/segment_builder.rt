@@ -3,7 +3,7 @@
 ghost use Rattle.std.specs.Prelude.{◌≡◌, ◌≤◌, ◌<◌, ◌↔◌, ◌⊎◌, [], length, IfOk, OnOk, OnErr, IsErrOf, IsOkUnless};
 ghost use Rattle.std.specs.List.Sorted.{IsStrictlySortedBy};
 ghost use Rattle.qm_schema.specs.Term.{term_cmp};
-ghost use Rattle.qm_postings.specs.Segment.{IsGood, document_of, empty_segment, with_document};
+ghost use Rattle.qm_postings.specs.Segment.{IsGood, document_of, empty_segment, with_deleted, with_document};
 
 use crate::document::PlainDoc;
 use crate::segment_reader::SegmentReader;
@@ -14,6 +14,7 @@ use std::marker::Model;
 
 mod checks;
 mod columns;
+mod deletions;
 mod entering;
 mod grouping;
 mod position_blocks;
@@ -35,6 +36,7 @@ pub struct SegmentBuilder {
     postings: Vec<Posting>,
     positions: Vec<u32>,
     lengths: Vec<Vec<u8>>,
+    deleted: Vec<bool>,
     max_doc: DocId,
 }
 
@@ -42,16 +44,17 @@ impl Model for SegmentBuilder {
     ghost use Rattle.std.specs.Prelude.{◌≡◌, ◌≤◌, ◌<◌, All, length, map};
     ghost use Rattle.qm_docset.specs.declared.numbers.TheConstants.{TERMINATED};
     ghost use Rattle.qm_postings.specs.Building.{kept_count, posted_by};
+    ghost use Rattle.qm_postings.specs.Deletions.{AreFlags, flagged};
     ghost use Rattle.qm_postings.specs.Grouping.{AreNumbered};
     ghost use Rattle.qm_postings.specs.Index.{AreColumns, ArePosted, segment_from};
     ghost use Rattle.qm_postings.specs.KeptPositions.{IsCounted};
-    ghost use Rattle.qm_postings.specs.Segment.{Segment, segment_code};
+    ghost use Rattle.qm_postings.specs.Segment.{Segment, segment_code, without};
 
     ghost Value = { Segment };
 
     ghost coded = { segment_code };
 
-    ghost view = { λ b. segment_from b.schema b.block_len (posted_by b.terms b.positions.items 0 b.postings.items) (map (λ c. c.items) b.lengths.items) b.max_doc };
+    ghost view = { λ b. without (flagged b.deleted.items b.max_doc) (segment_from b.schema b.block_len (posted_by b.terms b.positions.items 0 b.postings.items) (map (λ c. c.items) b.lengths.items) b.max_doc) };
 
     ghost invariant = { λ b. (b.max_doc ≤ TERMINATED)
         × (length b.schema ≤ 4294967295)
@@ -60,7 +63,8 @@ impl Model for SegmentBuilder {
         × AreColumns b.schema b.max_doc (map (λ c. c.items) b.lengths.items)
         × (length b.positions.items ≡ kept_count b.postings.items)
         × All (IsCounted b.schema) (posted_by b.terms b.positions.items 0 b.postings.items)
-        × (0 < b.block_len) };
+        × (0 < b.block_len)
+        × AreFlags b.max_doc b.deleted.items };
 }
 
 impl SegmentBuilder {
@@ -86,6 +90,7 @@ impl SegmentBuilder {
             postings: Vec::new(alloc),
             positions: Vec::new(alloc),
             lengths,
+            deleted: Vec::new(alloc),
             max_doc: 0,
         })
     }
@@ -129,6 +134,21 @@ impl SegmentBuilder {
         columns::push(&self.schema, &mut self.lengths, lengths.as_slice());
         self.max_doc += 1;
         Ok(doc)
+    }
+
+    /// Deletes a document, which was added before. It keeps its number, as all others do, and its
+    /// postings; to delete it again changes nothing more. Constant time, amortized, and at most a byte
+    /// for each document up to it.
+    ///
+    /// Refused with [`QueryError::Memory`] alone, and then nothing was deleted.
+    pub fn delete(&mut self, doc: DocId) -> Result<(), QueryError>
+        requires added { doc < length self.old.documents }
+        ensures deleted { OnOk result (self.new ≡ with_deleted self.old doc) }
+        ensures unchanged { OnErr result (self.new ≡ self.old) }
+        ensures refused { IsOkUnless result QueryError.Memory }
+    {
+        deletions::set_flag(&mut self.deleted, doc)?;
+        Ok(())
     }
 
     /// The segment of the documents that were added; the terms that it has postings for ascend. Costs

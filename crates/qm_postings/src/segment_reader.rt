@@ -1,13 +1,16 @@
 //! A segment, to be read.
 
-ghost use Rattle.std.specs.Prelude.{◌≡◌, ◌≤◌, false, IsTrue, IsSome, IfSome, ◌↔◌, length, map};
+ghost use Rattle.std.specs.Prelude.{◌≡◌, ◌≤◌, ℕ, [], false, IsTrue, IsSome, IfSome, ◌↔◌, length, map};
 ghost use Rattle.std.specs.List.{range_with_len};
-ghost use Rattle.qm_postings.specs.Segment.{keeps_lengths, length_id};
+ghost use Rattle.std.specs.Option.{IsNone};
+ghost use Rattle.qm_docset.specs.AliveBitSet.{alive_docs};
+ghost use Rattle.qm_docset.specs.BitSet.{set_has};
+ghost use Rattle.qm_postings.specs.Segment.{alive_documents, is_alive, keeps_lengths, length_id};
 
 use crate::fieldnorm::FieldNormReader;
 use crate::inverted_index::InvertedIndex;
 use crate::term_arrays::BlockInfo;
-use qm_docset::{DocId, TERMINATED};
+use qm_docset::{AliveBitSet, DocId, TERMINATED};
 use qm_schema::{Field, Schema, Term};
 use std::marker::Model;
 
@@ -49,9 +52,11 @@ impl Model for TermEntry {
 /// It keeps its terms in their order, and for each a range of two arrays of all postings, one of
 /// documents and one of frequencies: 8 bytes a posting. Where a field keeps positions, its terms have
 /// a range of an array of positions too, 4 bytes a position, and for each block of `block_len`
-/// postings 8 bytes that say where its positions begin.
+/// postings 8 bytes that say where its positions begin. Where documents were deleted it keeps a bit for
+/// each document.
 ///
-/// Contracts see it as its documents, its schema, and the terms that it has postings for.
+/// Contracts see it as its documents, its schema, the numbers of those that were deleted, and the terms
+/// that it has postings for.
 #[derive(Debug, Drop)]
 pub struct SegmentReader {
     pub(crate) schema: Schema,
@@ -63,22 +68,25 @@ pub struct SegmentReader {
     pub(crate) block_starts: Vec<usize>,
     pub(crate) blocks: Vec<BlockInfo>,
     pub(crate) lengths: Vec<Vec<u8>>,
+    pub(crate) alive: Option<AliveBitSet>,
     pub(crate) max_doc: DocId,
 }
 
 impl Model for SegmentReader {
     ghost use Rattle.std.specs.Prelude.{◌≤◌, ◌<◌, map};
     ghost use Rattle.qm_docset.specs.declared.numbers.TheConstants.{TERMINATED};
+    ghost use Rattle.qm_postings.specs.Deletions.{IsAliveSet, left_out};
     ghost use Rattle.qm_postings.specs.Index.{AreColumns, IsIndex, posted_of, segment_from};
     ghost use Rattle.qm_postings.specs.KeptPositions.{HaveBlocks, HavePositions};
     ghost use Rattle.qm_postings.specs.Reading.{Reader, reader_code};
+    ghost use Rattle.qm_postings.specs.Segment.{without};
 
     ghost Value = { Reader };
 
     ghost coded = { reader_code };
 
     ghost view = { λ r. record {
-      segment = segment_from r.schema r.block_len (posted_of r.terms.items r.documents.items r.frequencies.items r.positions.items) (map (λ c. c.items) r.lengths.items) r.max_doc;
+      segment = without (left_out r.alive r.max_doc) (segment_from r.schema r.block_len (posted_of r.terms.items r.documents.items r.frequencies.items r.positions.items) (map (λ c. c.items) r.lengths.items) r.max_doc);
       terms = map (λ e. e.term) r.terms.items;
     } };
 
@@ -87,7 +95,8 @@ impl Model for SegmentReader {
         × AreColumns r.schema r.max_doc (map (λ c. c.items) r.lengths.items)
         × HavePositions r.schema r.terms.items r.documents.items r.frequencies.items r.positions.items
         × HaveBlocks r.block_len r.terms.items r.frequencies.items r.block_starts.items r.blocks.items
-        × (0 < r.block_len) };
+        × (0 < r.block_len)
+        × IsAliveSet r.max_doc r.alive };
 }
 
 impl SegmentReader {
@@ -100,6 +109,31 @@ impl SegmentReader {
         ensures room { result ≤ TERMINATED }
     {
         self.max_doc
+    }
+
+    /// The number of documents that weren't deleted. Constant time, and no memory.
+    pub fn num_docs(&self) -> u32
+        ensures { result ≡ length (alive_documents self.now.segment) }
+    {
+        match &self.alive {
+            Some(alive) => alive.num_alive_docs() as u32,
+            None => self.max_doc,
+        }
+    }
+
+    /// Whether a document was deleted. Constant time, and no memory.
+    pub fn has_deletes(&self) -> bool
+        ensures { (result ≡ false) ↔ (self.now.segment.deleted ≡ []) }
+    {
+        self.alive.is_some()
+    }
+
+    /// The documents that weren't deleted, and `None` where none was. Constant time, and no memory.
+    pub fn alive_bitset(&self) -> Option<&AliveBitSet>
+        ensures none { IsNone result ↔ (self.now.segment.deleted ≡ []) }
+        ensures alive { IfSome result (λ alive. (d : ℕ) → set_has (alive_docs alive.now) d ≡ is_alive self.now.segment d) }
+    {
+        self.alive.as_ref()
     }
 
     /// The inverted index of a field, which is empty where the schema doesn't know the field.

@@ -1,2 +1,4 @@
 pub mod BuilderLemmas
+pub mod ClauseWeights
+pub mod NoWeight
 pub mod Rows

@@ -1,6 +1,9 @@
 -- A query whose clauses, or disjuncts, stand in a row asks for what they ask for as a list.
 use Rattle.std.proofs.Common.{◌≡◌, refl, ap}
-use Rattle.qm_query.specs.Query.{boolean, boolean_of, disjunct, disjuncts_of, disjunction_max, disjunction_max_of, query_of, row_disjuncts, row_subqueries, subqueries_of, subquery}
+use Rattle.qm_weight.specs.Tree.{clause}
+use Rattle.qm_weight.specs.Weights.{clauses_from, clauses_of, tree_of}
+use Rattle.qm_weight.specs.declared.any_weight.AnyWeight.{Row_of-BooleanWeight-weights-3, end_of-BooleanWeight-weights-3, more_of-BooleanWeight-weights-3, items-the_row-BooleanWeight-weights-3}
+use Rattle.qm_query.specs.Query.{disjunct, disjuncts_of, query_of, row_disjuncts, row_subqueries, subqueries_of, subquery}
 use Rattle.qm_query.specs.declared.any_query.AnyQuery.{Row_of-BooleanQuery-subqueries-3, end_of-BooleanQuery-subqueries-3, more_of-BooleanQuery-subqueries-3, items-the_row-BooleanQuery-subqueries-3, Row_of-DisjunctionMaxQuery-disjuncts-1, end_of-DisjunctionMaxQuery-disjuncts-1, more_of-DisjunctionMaxQuery-disjuncts-1, items-the_row-DisjunctionMaxQuery-disjuncts-1}
 
 pub row_subqueries-items : {n : _} (row : Row_of-BooleanQuery-subqueries-3 n) → row_subqueries row ≡ subqueries_of (items-the_row-BooleanQuery-subqueries-3 n row)
@@ -10,3 +13,8 @@ row_subqueries-items (more_of-BooleanQuery-subqueries-3 occur p x more) = ap (su
 pub row_disjuncts-items : {n : _} (row : Row_of-DisjunctionMaxQuery-disjuncts-1 n) → row_disjuncts row ≡ disjuncts_of (items-the_row-DisjunctionMaxQuery-disjuncts-1 n row)
 row_disjuncts-items end_of-DisjunctionMaxQuery-disjuncts-1 = refl
 row_disjuncts-items (more_of-DisjunctionMaxQuery-disjuncts-1 p x more) = ap (disjunct (query_of x)) (row_disjuncts-items more)
+
+-- the same of the clauses of a weight
+pub row_clauses-items : {n : _} (row : Row_of-BooleanWeight-weights-3 n) → clauses_of row ≡ clauses_from (items-the_row-BooleanWeight-weights-3 n row)
+row_clauses-items end_of-BooleanWeight-weights-3 = refl
+row_clauses-items (more_of-BooleanWeight-weights-3 occur p x more) = ap (clause occur (tree_of x)) (row_clauses-items more)

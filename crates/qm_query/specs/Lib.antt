@@ -1,6 +1,9 @@
 pub mod EnableScoring
+pub mod Fields
 pub mod Occurs
 pub mod Offsets
 pub mod Parts
 pub mod Refusals
 pub mod Query
+pub mod QueryTree
+pub mod WeightRefusals

@@ -2,7 +2,11 @@
 
 ghost use Rattle.std.specs.Prelude.{IsOkUnless};
 
+use crate::enable_scoring::EnableScoring;
+use crate::query::Query;
+use qm_postings::Bm25StatisticsProvider;
 use qm_schema::QueryError;
+use qm_weight::{AllWeight, AnyWeight};
 use std::alloc::Global;
 
 /// Matches every document, and scores the boost.
@@ -15,5 +19,19 @@ impl AllQuery {
         ensures { IsOkUnless result QueryError.Memory }
     {
         Ok(AllQuery)
+    }
+}
+
+impl Query for AllQuery {
+    ghost use Rattle.qm_query.specs.Query.{all};
+
+    ghost query = { λ _. all };
+
+    fn weight<P: Bm25StatisticsProvider>(
+        &self,
+        alloc: Global,
+        _enable_scoring: EnableScoring<'_, P>,
+    ) -> Result<Box<AnyWeight>, QueryError> {
+        Ok(Box::new(alloc, AnyWeight::All(AllWeight))?)
     }
 }

@@ -1,6 +1,11 @@
 //! One type for all queries.
 
-ghost use Rattle.std.specs.Prelude.{◌≡◌, IfOk, IsOkUnless};
+ghost use Rattle.std.specs.Prelude.{◌≡◌, IfErr, IfOk, IsOkUnless, IsTrue};
+ghost use Rattle.qm_weight.specs.Weights.{tree_of};
+ghost use Rattle.qm_query.specs.EnableScoring.{schema_of};
+ghost use Rattle.qm_query.specs.Fields.{is_served};
+ghost use Rattle.qm_query.specs.QueryTree.{query_tree};
+ghost use Rattle.qm_query.specs.WeightRefusals.{IsWeightRefusal};
 
 use crate::all_query::AllQuery;
 use crate::boolean_query::BooleanQuery;
@@ -8,10 +13,14 @@ use crate::boost_query::BoostQuery;
 use crate::const_score_query::ConstScoreQuery;
 use crate::disjunction_max_query::DisjunctionMaxQuery;
 use crate::empty_query::EmptyQuery;
+use crate::enable_scoring::EnableScoring;
 use crate::phrase_prefix_query::PhrasePrefixQuery;
 use crate::phrase_query::PhraseQuery;
+use crate::query::Query;
 use crate::term_query::TermQuery;
+use qm_postings::Bm25StatisticsProvider;
 use qm_schema::QueryError;
+use qm_weight::AnyWeight;
 use std::alloc::Global;
 
 /// A query of any kind.
@@ -59,6 +68,30 @@ impl AnyQuery {
             AnyQuery::Boost(query) => Ok(AnyQuery::Boost(query.clone(alloc)?)),
             AnyQuery::ConstScore(query) => Ok(AnyQuery::ConstScore(query.clone(alloc)?)),
             AnyQuery::DisjunctionMax(query) => Ok(AnyQuery::DisjunctionMax(query.clone(alloc)?)),
+        }
+    }
+
+    // The weight of the query; see [`Query::weight`].
+    #[cycle(weights)]
+    pub(crate) fn build_weight<P: Bm25StatisticsProvider>(
+        &self,
+        alloc: Global,
+        enable_scoring: EnableScoring<'_, P>,
+    ) -> Result<Box<AnyWeight>, QueryError>
+        ensures tree { IfOk result (λ weight. tree_of weight.value ≡ query_tree P.Bm25StatisticsProvider enable_scoring.entry (query_of self.now)) }
+        ensures served { IfOk result (λ _. IsTrue (is_served (schema_of enable_scoring.entry) (query_of self.now))) }
+        ensures refused { IfErr result (IsWeightRefusal P.Bm25StatisticsProvider enable_scoring.entry (query_of self.now)) }
+    {
+        match self {
+            AnyQuery::All(query) => query.weight(alloc, enable_scoring),
+            AnyQuery::Empty(query) => query.weight(alloc, enable_scoring),
+            AnyQuery::Term(query) => query.weight(alloc, enable_scoring),
+            AnyQuery::Phrase(query) => query.weight(alloc, enable_scoring),
+            AnyQuery::PhrasePrefix(query) => query.weight(alloc, enable_scoring),
+            AnyQuery::Boolean(query) => query.build_weight(alloc, enable_scoring),
+            AnyQuery::Boost(query) => query.build_weight(alloc, enable_scoring),
+            AnyQuery::ConstScore(query) => query.build_weight(alloc, enable_scoring),
+            AnyQuery::DisjunctionMax(query) => query.build_weight(alloc, enable_scoring),
         }
     }
 }

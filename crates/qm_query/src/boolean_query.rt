@@ -1,12 +1,23 @@
 //! The query of clauses.
 
-ghost use Rattle.std.specs.Prelude.{◌≡◌, IfOk, IsOkUnless, map};
+ghost use Rattle.std.specs.Prelude.{◌≡◌, IfErr, IfOk, IsOkUnless, IsTrue, map};
+ghost use Rattle.qm_weight.specs.Weights.{tree_of};
+ghost use Rattle.qm_query.specs.EnableScoring.{schema_of};
+ghost use Rattle.qm_query.specs.Fields.{is_served};
+ghost use Rattle.qm_query.specs.QueryTree.{query_tree};
+ghost use Rattle.qm_query.specs.WeightRefusals.{IsWeightRefusal};
 ghost use Rattle.std.specs.List.{list_all};
 ghost use Rattle.qm_query.specs.Occurs.{is_should};
 
 use crate::any_query::AnyQuery;
+use crate::enable_scoring::EnableScoring;
+use crate::query::Query;
 use crate::term_query::TermQuery;
+use qm_combine::SumCombiner;
+use qm_postings::Bm25StatisticsProvider;
 use qm_schema::{IndexRecordOption, Occur, QueryError, Term};
+use qm_scorer::AnyCombiner;
+use qm_weight::{AnyWeight, BooleanWeight};
 use std::alloc::Global;
 
 /// Matches the documents that every Must clause matches, no MustNot clause does, and at least so many
@@ -164,6 +175,31 @@ impl BooleanQuery {
             minimum_number_should_match: self.minimum_number_should_match,
         })
     }
+
+    // The weight of the query; see [`Query::weight`].
+    #[cycle(weights)]
+    pub(crate) fn build_weight<P: Bm25StatisticsProvider>(
+        &self,
+        alloc: Global,
+        enable_scoring: EnableScoring<'_, P>,
+    ) -> Result<Box<AnyWeight>, QueryError>
+        ensures tree { IfOk result (λ weight. tree_of weight.value ≡ query_tree P.Bm25StatisticsProvider enable_scoring.entry (boolean_of self.now)) }
+        ensures served { IfOk result (λ _. IsTrue (is_served (schema_of enable_scoring.entry) (boolean_of self.now))) }
+        ensures refused { IfErr result (IsWeightRefusal P.Bm25StatisticsProvider enable_scoring.entry (boolean_of self.now)) }
+    {
+        let mut weights = Vec::with_capacity(alloc, self.subqueries.len())?;
+        for (occur, query) in &self.subqueries {
+            let weight = (**query).build_weight(alloc, enable_scoring)?;
+            weights.push((*occur, weight))?;
+        }
+        let weight = BooleanWeight::with_minimum_number_should_match(
+            weights,
+            self.minimum_number_should_match,
+            enable_scoring.is_scoring_enabled(),
+            AnyCombiner::from(SumCombiner::default()),
+        );
+        Ok(Box::new(alloc, AnyWeight::Boolean(weight))?)
+    }
 }
 
 // Whether all clauses are Should clauses.
@@ -194,4 +230,18 @@ fn clauses_that(
 {
     let clauses = queries.into_iter().map(|query| (occur, query));
     Ok(clauses.collect(alloc)?)
+}
+
+impl Query for BooleanQuery {
+    ghost use Rattle.qm_query.specs.Query.{boolean_of};
+
+    ghost query = { boolean_of };
+
+    fn weight<P: Bm25StatisticsProvider>(
+        &self,
+        alloc: Global,
+        enable_scoring: EnableScoring<'_, P>,
+    ) -> Result<Box<AnyWeight>, QueryError> {
+        self.build_weight(alloc, enable_scoring)
+    }
 }

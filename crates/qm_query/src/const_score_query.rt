@@ -1,11 +1,20 @@
 //! The query that gives one score.
 
-ghost use Rattle.std.specs.Prelude.{◌≡◌, ◌≤ℤ◌, IfOk, IsOkUnless, nat_abs, pos};
+ghost use Rattle.std.specs.Prelude.{◌≡◌, ◌≤ℤ◌, IfErr, IfOk, IsOkUnless, IsTrue, nat_abs, pos};
+ghost use Rattle.qm_weight.specs.Weights.{tree_of};
+ghost use Rattle.qm_query.specs.EnableScoring.{schema_of};
+ghost use Rattle.qm_query.specs.Fields.{is_served};
+ghost use Rattle.qm_query.specs.QueryTree.{query_tree};
+ghost use Rattle.qm_query.specs.WeightRefusals.{IsWeightRefusal};
 
 use crate::any_query::AnyQuery;
+use crate::enable_scoring::EnableScoring;
 use crate::factor::Factor;
+use crate::query::Query;
 use qm_docset::Score;
+use qm_postings::Bm25StatisticsProvider;
 use qm_schema::QueryError;
+use qm_weight::{AnyWeight, ConstWeight};
 use std::alloc::Global;
 
 /// Matches what another query matches, and gives each document one score, times the boost that the
@@ -43,5 +52,38 @@ impl ConstScoreQuery {
             underlying: Box::new(alloc, (*self.underlying).clone(alloc)?)?,
             score: self.score,
         })
+    }
+
+    // The weight of the query; see [`Query::weight`].
+    #[cycle(weights)]
+    pub(crate) fn build_weight<P: Bm25StatisticsProvider>(
+        &self,
+        alloc: Global,
+        enable_scoring: EnableScoring<'_, P>,
+    ) -> Result<Box<AnyWeight>, QueryError>
+        ensures tree { IfOk result (λ weight. tree_of weight.value ≡ query_tree P.Bm25StatisticsProvider enable_scoring.entry (constant_of self.now)) }
+        ensures served { IfOk result (λ _. IsTrue (is_served (schema_of enable_scoring.entry) (constant_of self.now))) }
+        ensures refused { IfErr result (IsWeightRefusal P.Bm25StatisticsProvider enable_scoring.entry (constant_of self.now)) }
+    {
+        let inside = (*self.underlying).build_weight(alloc, enable_scoring)?;
+        if !enable_scoring.is_scoring_enabled() {
+            return Ok(inside);
+        }
+        let weight = ConstWeight::new(inside, self.score.score());
+        Ok(Box::new(alloc, AnyWeight::Const(weight))?)
+    }
+}
+
+impl Query for ConstScoreQuery {
+    ghost use Rattle.qm_query.specs.Query.{constant_of};
+
+    ghost query = { constant_of };
+
+    fn weight<P: Bm25StatisticsProvider>(
+        &self,
+        alloc: Global,
+        enable_scoring: EnableScoring<'_, P>,
+    ) -> Result<Box<AnyWeight>, QueryError> {
+        self.build_weight(alloc, enable_scoring)
     }
 }

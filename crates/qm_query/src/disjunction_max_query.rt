@@ -1,10 +1,20 @@
 //! The query that scores by the best of several.
 
-ghost use Rattle.std.specs.Prelude.{◌≡◌, ◌<◌, ◌↔◌, IfOk, IsErrOf, IsOkUnless};
+ghost use Rattle.std.specs.Prelude.{◌≡◌, ◌<◌, ◌↔◌, IfErr, IfOk, IsErrOf, IsOkUnless, IsTrue};
+ghost use Rattle.qm_weight.specs.Weights.{tree_of};
+ghost use Rattle.qm_query.specs.EnableScoring.{schema_of};
+ghost use Rattle.qm_query.specs.Fields.{is_served};
+ghost use Rattle.qm_query.specs.QueryTree.{query_tree};
+ghost use Rattle.qm_query.specs.WeightRefusals.{IsWeightRefusal};
 
 use crate::any_query::AnyQuery;
+use crate::enable_scoring::EnableScoring;
+use crate::query::Query;
 use qm_combine::DisjunctionMaxCombiner;
-use qm_schema::QueryError;
+use qm_postings::Bm25StatisticsProvider;
+use qm_schema::{Occur, QueryError};
+use qm_scorer::AnyCombiner;
+use qm_weight::{AnyWeight, BooleanWeight};
 use std::alloc::Global;
 
 /// Matches what at least one of several queries matches, and scores the greatest of their scores, and
@@ -62,5 +72,40 @@ impl DisjunctionMaxQuery {
             disjuncts,
             combiner: self.combiner,
         })
+    }
+
+    // The weight of the query; see [`Query::weight`].
+    #[cycle(weights)]
+    pub(crate) fn build_weight<P: Bm25StatisticsProvider>(
+        &self,
+        alloc: Global,
+        enable_scoring: EnableScoring<'_, P>,
+    ) -> Result<Box<AnyWeight>, QueryError>
+        ensures tree { IfOk result (λ weight. tree_of weight.value ≡ query_tree P.Bm25StatisticsProvider enable_scoring.entry (disjunction_max_of self.now)) }
+        ensures served { IfOk result (λ _. IsTrue (is_served (schema_of enable_scoring.entry) (disjunction_max_of self.now))) }
+        ensures refused { IfErr result (IsWeightRefusal P.Bm25StatisticsProvider enable_scoring.entry (disjunction_max_of self.now)) }
+    {
+        let mut weights = Vec::with_capacity(alloc, self.disjuncts.len())?;
+        for query in &self.disjuncts {
+            let weight = (**query).build_weight(alloc, enable_scoring)?;
+            weights.push((Occur::Should, weight))?;
+        }
+        let scoring = enable_scoring.is_scoring_enabled();
+        let weight = BooleanWeight::new(weights, scoring, AnyCombiner::from(self.combiner));
+        Ok(Box::new(alloc, AnyWeight::Boolean(weight))?)
+    }
+}
+
+impl Query for DisjunctionMaxQuery {
+    ghost use Rattle.qm_query.specs.Query.{disjunction_max_of};
+
+    ghost query = { disjunction_max_of };
+
+    fn weight<P: Bm25StatisticsProvider>(
+        &self,
+        alloc: Global,
+        enable_scoring: EnableScoring<'_, P>,
+    ) -> Result<Box<AnyWeight>, QueryError> {
+        self.build_weight(alloc, enable_scoring)
     }
 }

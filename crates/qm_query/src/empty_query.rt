@@ -2,7 +2,11 @@
 
 ghost use Rattle.std.specs.Prelude.{IsOkUnless};
 
+use crate::enable_scoring::EnableScoring;
+use crate::query::Query;
+use qm_postings::Bm25StatisticsProvider;
 use qm_schema::QueryError;
+use qm_weight::{AnyWeight, EmptyWeight};
 use std::alloc::Global;
 
 /// Matches no document.
@@ -15,5 +19,19 @@ impl EmptyQuery {
         ensures { IsOkUnless result QueryError.Memory }
     {
         Ok(EmptyQuery)
+    }
+}
+
+impl Query for EmptyQuery {
+    ghost use Rattle.qm_query.specs.Query.{none};
+
+    ghost query = { λ _. none };
+
+    fn weight<P: Bm25StatisticsProvider>(
+        &self,
+        alloc: Global,
+        _enable_scoring: EnableScoring<'_, P>,
+    ) -> Result<Box<AnyWeight>, QueryError> {
+        Ok(Box::new(alloc, AnyWeight::Empty(EmptyWeight))?)
     }
 }

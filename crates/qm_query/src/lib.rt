@@ -13,6 +13,8 @@ mod disjunction_max_query;
 mod empty_query;
 mod enable_scoring;
 mod factor;
+mod fields;
+mod leaf_weight;
 mod offsets;
 mod phrase_prefix_query;
 mod phrase_query;
@@ -29,7 +31,7 @@ pub use empty_query::EmptyQuery;
 pub use enable_scoring::EnableScoring;
 pub use phrase_prefix_query::PhrasePrefixQuery;
 pub use phrase_query::PhraseQuery;
-pub use query::QueryClone;
+pub use query::{Query, QueryClone};
 pub use term_query::TermQuery;
 
 #[cfg(test)]

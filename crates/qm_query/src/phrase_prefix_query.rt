@@ -1,14 +1,26 @@
 //! The query for a phrase whose last term is a prefix.
 
-ghost use Rattle.std.specs.Prelude.{◌≡◌, ◌≤◌, [], ◌∷◌, ◌++◌, All, IfOk, IsOkUnless, vec_len};
+ghost use Rattle.std.specs.Prelude.{◌≡◌, ◌≤◌, ◌⊎◌, [], ◌∷◌, ◌++◌, All, IfErr, IfOk, IsOkUnless, None, length, vec_len};
 ghost use Rattle.std.specs.List.{enumerate_from};
 ghost use Rattle.qm_query.specs.Offsets.{IsByOffset, row_refusal, terms_of, terms_refusal, with_one};
+ghost use Rattle.qm_query.specs.EnableScoring.{schema_of};
+ghost use Rattle.qm_query.specs.Fields.{phrase_field_refusal, term_field_refusal};
+ghost use Rattle.qm_query.specs.QueryTree.{full_prefix_tree};
 ghost use Rattle.qm_query.specs.Refusals.{IsRefusedFor};
+ghost use Rattle.qm_query.specs.WeightRefusals.{IsByProvider, IsLeafRefusal};
+ghost use Rattle.qm_schema.specs.declared.error.QueryError.TheVariants.{Memory};
+ghost use Rattle.qm_weight.specs.Weights.{prefix_alone, tree_of};
 
+use crate::enable_scoring::EnableScoring;
+use crate::fields::{phrase_field_refusal, term_field_refusal};
+use crate::leaf_weight::phrase_weight;
 use crate::offsets::{
     clone_terms, clone_without_offsets, enumerate_terms, row_refusal, sort_by_offset, terms_refusal,
 };
-use qm_schema::{Field, QueryError, Term};
+use crate::query::Query;
+use qm_postings::Bm25StatisticsProvider;
+use qm_schema::{Field, QueryError, Schema, Term};
+use qm_weight::{AnyWeight, PhrasePrefixWeight, PrefixWeight};
 use std::alloc::Global;
 use std::marker::Model;
 
@@ -102,6 +114,41 @@ impl PhrasePrefixQuery {
         }
     }
 
+    // The weight of the prefix alone, which no provider is asked for.
+    fn prefix_weight(&self, alloc: Global, schema: &Schema) -> Result<Box<AnyWeight>, QueryError>
+        ensures tree { IfOk result (λ weight. tree_of weight.value ≡ prefix_alone self.now.prefix.1 self.now.max_expansions) }
+        ensures served { IfOk result (λ _. term_field_refusal schema.now self.now.prefix.1.field ≡ None) }
+        ensures refused { IfErr result (λ error. (error ≡ Memory) ⊎ IsLeafRefusal (term_field_refusal schema.now self.now.prefix.1.field) (λ _. ⊥) error) }
+    {
+        if let Some(refusal) = term_field_refusal(schema, self.field()) {
+            return Err(refusal);
+        }
+        let prefix = self.prefix.1.clone(alloc)?;
+        let weight = PrefixWeight::new(prefix, self.max_expansions);
+        Ok(Box::new(alloc, AnyWeight::Prefix(weight))?)
+    }
+
+    // The weight where there is a full term. Of what these weigh the prefix is no part.
+    fn full_weight<P: Bm25StatisticsProvider>(
+        &self,
+        alloc: Global,
+        enable_scoring: EnableScoring<'_, P>,
+    ) -> Result<Box<AnyWeight>, QueryError>
+        requires some { 1 ≤ length self.now.terms }
+        ensures tree { IfOk result (λ weight. tree_of weight.value ≡ full_prefix_tree P.Bm25StatisticsProvider enable_scoring.entry self.now) }
+        ensures served { IfOk result (λ _. phrase_field_refusal (schema_of enable_scoring.entry) self.now.prefix.1.field ≡ None) }
+        ensures refused { IfErr result (λ error. (error ≡ Memory) ⊎ IsLeafRefusal (phrase_field_refusal (schema_of enable_scoring.entry) self.now.prefix.1.field) (IsByProvider P.Bm25StatisticsProvider enable_scoring.entry (terms_of self.now.terms)) error) }
+    {
+        if let Some(refusal) = phrase_field_refusal(enable_scoring.schema(), self.field()) {
+            return Err(refusal);
+        }
+        let weight = phrase_weight(alloc, enable_scoring, &self.phrase_terms)?;
+        let terms = clone_terms(alloc, &self.phrase_terms)?;
+        let prefix = (self.prefix.0, self.prefix.1.clone(alloc)?);
+        let weight = PhrasePrefixWeight::new(terms, prefix, weight, self.max_expansions);
+        Ok(Box::new(alloc, AnyWeight::PhrasePrefix(weight))?)
+    }
+
     /// Expands the prefix to so many terms at most. Takes no memory.
     pub fn set_max_expansions(&mut self, value: u32)
         ensures { self.new ≡ record self.old { max_expansions = value } }
@@ -140,5 +187,23 @@ impl PhrasePrefixQuery {
             prefix: (*offset, prefix.clone(alloc)?),
             max_expansions: self.max_expansions,
         })
+    }
+}
+
+impl Query for PhrasePrefixQuery {
+    ghost use Rattle.qm_query.specs.Query.{phrase_prefix};
+
+    ghost query = { phrase_prefix };
+
+    fn weight<P: Bm25StatisticsProvider>(
+        &self,
+        alloc: Global,
+        enable_scoring: EnableScoring<'_, P>,
+    ) -> Result<Box<AnyWeight>, QueryError> {
+        if self.phrase_terms.is_empty() {
+            self.prefix_weight(alloc, enable_scoring.schema())
+        } else {
+            self.full_weight(alloc, enable_scoring)
+        }
     }
 }

@@ -5,10 +5,16 @@ ghost use Rattle.std.specs.List.{enumerate_from};
 ghost use Rattle.qm_query.specs.Offsets.{IsByOffset, first_field, row_refusal, terms_of, terms_refusal, with_two};
 ghost use Rattle.qm_query.specs.Refusals.{IsRefusedFor};
 
+use crate::enable_scoring::EnableScoring;
+use crate::fields::phrase_field_refusal;
+use crate::leaf_weight::phrase_weight;
 use crate::offsets::{
     clone_terms, clone_without_offsets, enumerate_terms, row_refusal, sort_by_offset, terms_refusal,
 };
+use crate::query::Query;
+use qm_postings::Bm25StatisticsProvider;
 use qm_schema::{Field, QueryError, Term};
+use qm_weight::{AnyWeight, PhraseWeight};
 use std::alloc::Global;
 use std::marker::Model;
 
@@ -134,5 +140,26 @@ impl PhraseQuery {
             phrase_terms: clone_terms(alloc, &self.phrase_terms)?,
             slop: self.slop,
         })
+    }
+}
+
+impl Query for PhraseQuery {
+    ghost use Rattle.qm_query.specs.Query.{phrase};
+
+    ghost query = { phrase };
+
+    fn weight<P: Bm25StatisticsProvider>(
+        &self,
+        alloc: Global,
+        enable_scoring: EnableScoring<'_, P>,
+    ) -> Result<Box<AnyWeight>, QueryError> {
+        if let Some(refusal) = phrase_field_refusal(enable_scoring.schema(), self.field()) {
+            return Err(refusal);
+        }
+        let weight = phrase_weight(alloc, enable_scoring, &self.phrase_terms)?;
+        let terms = clone_terms(alloc, &self.phrase_terms)?;
+        let mut weight = PhraseWeight::new(terms, weight);
+        weight.slop(self.slop);
+        Ok(Box::new(alloc, AnyWeight::Phrase(weight))?)
     }
 }

@@ -1,7 +1,12 @@
 //! What every query can do.
 
-ghost use Rattle.std.specs.Prelude.{◌≡◌, IfOk, IsOkUnless};
+ghost use Rattle.std.specs.Prelude.{◌≡◌, IfErr, IfOk, IsOkUnless, IsTrue};
+ghost use Rattle.qm_weight.specs.Weights.{tree_of};
+ghost use Rattle.qm_query.specs.EnableScoring.{schema_of};
+ghost use Rattle.qm_query.specs.Fields.{is_served};
 ghost use Rattle.qm_query.specs.Query.{Query, query_of};
+ghost use Rattle.qm_query.specs.QueryTree.{query_tree};
+ghost use Rattle.qm_query.specs.WeightRefusals.{IsWeightRefusal};
 
 use crate::all_query::AllQuery;
 use crate::any_query::AnyQuery;
@@ -10,11 +15,41 @@ use crate::boost_query::BoostQuery;
 use crate::const_score_query::ConstScoreQuery;
 use crate::disjunction_max_query::DisjunctionMaxQuery;
 use crate::empty_query::EmptyQuery;
+use crate::enable_scoring::EnableScoring;
 use crate::phrase_prefix_query::PhrasePrefixQuery;
 use crate::phrase_query::PhraseQuery;
 use crate::term_query::TermQuery;
+use qm_postings::Bm25StatisticsProvider;
 use qm_schema::QueryError;
+use qm_weight::AnyWeight;
 use std::alloc::Global;
+
+/// What is asked for, whatever segment it is asked of.
+pub trait Query {
+    // the query that a value is
+    ghost query: { Self → Query };
+
+    /// The weight of the query: the tree that it comes down to where scores are wanted, with what the
+    /// provider answers for the terms of each leaf, or where they are not. Then no provider is asked,
+    /// boosts and constant scores are left away, and the postings of a term are read for the
+    /// documents alone. A query that takes the best of several scores has them as Should clauses, of
+    /// which one has to match, under its own combiner.
+    ///
+    /// Refused, where more than one is due with what the first leaf says in the order of the clauses,
+    /// of a leaf the field before the provider: with [`QueryError::UnknownField`] where the schema
+    /// doesn't know a field, with [`QueryError::NotIndexed`] where a term or a prefix alone is on a
+    /// field that isn't indexed, with [`QueryError::NoPositions`] where a phrase, or a prefix behind
+    /// full terms, is on a field without positions, with what the provider answers, and with
+    /// [`QueryError::Memory`]. Costs a copy of the terms of the query.
+    fn weight<P: Bm25StatisticsProvider>(
+        &self,
+        alloc: Global,
+        enable_scoring: EnableScoring<'_, P>,
+    ) -> Result<Box<AnyWeight>, QueryError>
+        ensures tree { IfOk result (λ weight. tree_of weight.value ≡ query_tree P.Bm25StatisticsProvider enable_scoring.entry (query self.now)) }
+        ensures served { IfOk result (λ _. IsTrue (is_served (schema_of enable_scoring.entry) (query self.now))) }
+        ensures refused { IfErr result (IsWeightRefusal P.Bm25StatisticsProvider enable_scoring.entry (query self.now)) };
+}
 
 /// A query that can be copied as a query of any kind.
 pub trait QueryClone {
@@ -127,6 +162,34 @@ impl QueryClone for AnyQuery {
 
     fn box_clone(&self, alloc: Global) -> Result<Box<AnyQuery>, QueryError> {
         Ok(Box::new(alloc, self.clone(alloc)?)?)
+    }
+}
+
+impl Query for AnyQuery {
+    ghost use Rattle.qm_query.specs.Query.{query_of};
+
+    ghost query = { query_of };
+
+    fn weight<P: Bm25StatisticsProvider>(
+        &self,
+        alloc: Global,
+        enable_scoring: EnableScoring<'_, P>,
+    ) -> Result<Box<AnyWeight>, QueryError> {
+        self.build_weight(alloc, enable_scoring)
+    }
+}
+
+impl Query for Box<AnyQuery> {
+    ghost use Rattle.qm_query.specs.Query.{query_of};
+
+    ghost query = { λ q. query_of q.value };
+
+    fn weight<P: Bm25StatisticsProvider>(
+        &self,
+        alloc: Global,
+        enable_scoring: EnableScoring<'_, P>,
+    ) -> Result<Box<AnyWeight>, QueryError> {
+        (**self).build_weight(alloc, enable_scoring)
     }
 }
 

@@ -1,10 +1,22 @@
 //! The query for a term.
 
-ghost use Rattle.std.specs.Prelude.{◌≡◌, IfOk, IsOkUnless};
+ghost use Rattle.std.specs.Prelude.{◌≡◌, IfErr, IfOk, IsOkUnless, IsTrue};
+ghost use Rattle.qm_weight.specs.Weights.{term_tree};
+ghost use Rattle.qm_query.specs.EnableScoring.{schema_of};
+ghost use Rattle.qm_query.specs.Fields.{is_served};
+ghost use Rattle.qm_query.specs.QueryTree.{query_tree};
+ghost use Rattle.qm_query.specs.WeightRefusals.{IsWeightRefusal};
 
+use crate::enable_scoring::EnableScoring;
+use crate::fields::term_field_refusal;
+use crate::leaf_weight::{leaf_weight, no_weight};
+use crate::query::Query;
+use qm_postings::Bm25StatisticsProvider;
 use qm_schema::{IndexRecordOption, QueryError, Term};
+use qm_weight::{AnyWeight, TermWeight};
 use std::alloc::Global;
 use std::marker::Model;
+use std::slice;
 
 /// Matches the documents that hold a term, and scores what the term weighs there.
 ///
@@ -24,6 +36,8 @@ impl Model for TermQuery {
 }
 
 impl TermQuery {
+    ghost use Rattle.qm_query.specs.Query.{term as term_query};
+
     /// The query for a term. The option says what is read of the term's postings: without frequencies
     /// each frequency counts as 1. Takes no memory.
     pub fn new(term: Term, segment_postings_options: IndexRecordOption) -> TermQuery
@@ -42,6 +56,32 @@ impl TermQuery {
         &self.term
     }
 
+    /// The weight of the term, as it is before it becomes a weight of any kind; see
+    /// [`Query::weight`].
+    ///
+    /// Refused with [`QueryError::UnknownField`] where the schema doesn't know the field, with
+    /// [`QueryError::NotIndexed`] where it isn't indexed, with what the provider answers, and with
+    /// [`QueryError::Memory`], the first that holds. Costs a copy of the term.
+    pub fn specialized_weight<P: Bm25StatisticsProvider>(
+        &self,
+        alloc: Global,
+        enable_scoring: EnableScoring<'_, P>,
+    ) -> Result<TermWeight, QueryError>
+        ensures tree { IfOk result (λ weight. term_tree weight ≡ query_tree P.Bm25StatisticsProvider enable_scoring.entry (term_query self.now)) }
+        ensures served { IfOk result (λ _. IsTrue (is_served (schema_of enable_scoring.entry) (term_query self.now))) }
+        ensures refused { IfErr result (IsWeightRefusal P.Bm25StatisticsProvider enable_scoring.entry (term_query self.now)) }
+    {
+        if let Some(refusal) = term_field_refusal(enable_scoring.schema(), self.term.field()) {
+            return Err(refusal);
+        }
+        let weight = leaf_weight(enable_scoring, slice::from_ref(&self.term))?;
+        let term = self.term.clone(alloc)?;
+        match weight {
+            Some(weight) => Ok(TermWeight::new(term, self.index_record_option, weight, true)),
+            None => Ok(TermWeight::new(term, IndexRecordOption::Basic, no_weight(), false)),
+        }
+    }
+
     /// The same query, in memory of its own; costs a copy of the term.
     ///
     /// Refused with [`QueryError::Memory`] alone.
@@ -53,5 +93,20 @@ impl TermQuery {
             term: self.term.clone(alloc)?,
             index_record_option: self.index_record_option,
         })
+    }
+}
+
+impl Query for TermQuery {
+    ghost use Rattle.qm_query.specs.Query.{term};
+
+    ghost query = { term };
+
+    fn weight<P: Bm25StatisticsProvider>(
+        &self,
+        alloc: Global,
+        enable_scoring: EnableScoring<'_, P>,
+    ) -> Result<Box<AnyWeight>, QueryError> {
+        let weight = self.specialized_weight(alloc, enable_scoring)?;
+        Ok(Box::new(alloc, AnyWeight::Term(weight))?)
     }
 }

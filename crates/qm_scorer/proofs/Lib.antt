@@ -1,1 +1,7 @@
 pub mod Built
+pub mod Depth
+pub mod GroupScores
+pub mod Groups
+pub mod Heads
+pub mod Intersections
+pub mod Opened

@@ -2,6 +2,9 @@ pub mod AnyCombiner
 pub mod AnyCombinerFacts
 pub mod Bare
 pub mod BareFacts
+pub mod Built
+pub mod Group
+pub mod Intersection
 pub mod Tree
 pub mod MoveFacts
 pub mod TreeFacts

@@ -10,6 +10,10 @@ ghost use Rattle.qm_scorer.specs.declared.any_scorer.AnyScorer.{size-AnyScorer};
 use crate::boost_node::{BoostNode, danger_boost, score_boost, seek_boost};
 use crate::const_node::{ConstNode, danger_const, score_const, seek_const};
 use crate::exclude_node::{ExcludeNode, danger_exclude, score_exclude, seek_exclude};
+use crate::group_node::{GroupNode, danger_group, hint_group, score_group, seek_group};
+use crate::intersection_node::{
+    IntersectionNode, danger_intersection, score_intersection, seek_intersection,
+};
 use crate::optional_node::{OptionalNode, danger_optional, score_optional, seek_optional};
 use crate::passing::{advance_tree, count_tree, fill_tree, total_tree};
 use qm_combine::{AllScorer, ConstScorer, EmptyScorer, Scorer};
@@ -51,6 +55,12 @@ pub enum AnyScorer<'a, S> {
     RequiredOptional(Box<OptionalNode<'a, S>>),
     /// The documents of one scorer that another does not have.
     Exclude(Box<ExcludeNode<'a, S>>),
+    /// The documents that any of several scorers has, with their scores combined.
+    Union(Box<GroupNode<'a, S>>),
+    /// The documents that a minimum of several scorers has, with their scores combined.
+    Disjunction(Box<GroupNode<'a, S>>),
+    /// The documents that all of several scorers have, with the sums of their scores.
+    Intersection(Box<IntersectionNode<'a, S>>),
 }
 
 // The document that a placed tree stands on.
@@ -72,6 +82,9 @@ pub(crate) fn doc_tree<'a, S: Scorer>(scorer: &AnyScorer<'a, S>) -> DocId
         AnyScorer::Const(node) => doc_tree(&node.inner),
         AnyScorer::RequiredOptional(node) => doc_tree(&node.required),
         AnyScorer::Exclude(node) => doc_tree(&node.inner),
+        AnyScorer::Union(node) => node.current,
+        AnyScorer::Disjunction(node) => node.current,
+        AnyScorer::Intersection(node) => doc_tree(&node.leader),
     }
 }
 
@@ -100,10 +113,14 @@ pub(crate) fn seek_tree<'a, S: Scorer>(scorer: &mut AnyScorer<'a, S>, target: Do
         AnyScorer::Const(node) => seek_const(node, target),
         AnyScorer::RequiredOptional(node) => seek_optional(node, target),
         AnyScorer::Exclude(node) => seek_exclude(node, target),
+        AnyScorer::Union(node) => seek_group(node, target),
+        AnyScorer::Disjunction(node) => seek_group(node, target),
+        AnyScorer::Intersection(node) => seek_intersection(node, target),
     }
 }
 
 // The same of a placed tree, which is not sent where it stands there already.
+#[cycle(moves)]
 #[tactic(auto, using(crate::specs::MoveFacts::moves))]
 pub(crate) fn reach_tree<'a, S: Scorer>(scorer: &mut AnyScorer<'a, S>, target: DocId) -> DocId
     requires valid { IsTree S.DocSet scorer.old }
@@ -127,7 +144,7 @@ pub(crate) fn reach_tree<'a, S: Scorer>(scorer: &mut AnyScorer<'a, S>, target: D
 
 // Drops what lies below the target, and says whether the target is the first that is left; where it is
 // not, the tree may stand nowhere.
-#[cycle(asks)]
+#[cycle(moves)]
 #[tactic(auto, using(crate::specs::MoveFacts::moves))]
 pub(crate) fn danger_tree<'a, S: Scorer>(
     scorer: &mut AnyScorer<'a, S>,
@@ -154,6 +171,9 @@ pub(crate) fn danger_tree<'a, S: Scorer>(
         AnyScorer::Const(node) => danger_const(node, target),
         AnyScorer::RequiredOptional(node) => danger_optional(node, target),
         AnyScorer::Exclude(node) => danger_exclude(node, target),
+        AnyScorer::Union(node) => danger_group(node, target),
+        AnyScorer::Disjunction(node) => danger_group(node, target),
+        AnyScorer::Intersection(node) => danger_intersection(node, target),
     }
 }
 
@@ -185,6 +205,9 @@ pub(crate) fn score_tree<'a, S: Scorer>(scorer: &mut AnyScorer<'a, S>) -> u64
         AnyScorer::Const(node) => score_const(node),
         AnyScorer::RequiredOptional(node) => score_optional(node),
         AnyScorer::Exclude(node) => score_exclude(node),
+        AnyScorer::Union(node) => score_group(node),
+        AnyScorer::Disjunction(node) => score_group(node),
+        AnyScorer::Intersection(node) => score_intersection(node),
     }
 }
 
@@ -206,26 +229,33 @@ impl<'a, S: Scorer> AnyScorer<'a, S> {
             AnyScorer::Const(node) => node.score as Score,
             AnyScorer::RequiredOptional(node) => node.top as Score,
             AnyScorer::Exclude(node) => node.top as Score,
+            AnyScorer::Union(node) => node.shape.top as Score,
+            AnyScorer::Disjunction(node) => node.shape.top as Score,
+            AnyScorer::Intersection(node) => node.top as Score,
         }
     }
+}
 
-    // About how many documents remain.
-    fn hint(&self) -> u32
-        requires valid { IsTree S.DocSet self.now }
-    {
-        match self {
-            AnyScorer::Empty(leaf) => leaf.size_hint(),
-            AnyScorer::All(leaf) => leaf.size_hint(),
-            AnyScorer::Own(leaf) => leaf.size_hint(),
-            AnyScorer::Term(leaf) => leaf.size_hint(),
-            AnyScorer::BitSet(leaf) => leaf.size_hint(),
-            AnyScorer::Phrase(leaf) => leaf.size_hint(),
-            AnyScorer::PhrasePrefix(leaf) => leaf.size_hint(),
-            AnyScorer::Boost(node) => node.inner.hint(),
-            AnyScorer::Const(node) => node.inner.hint(),
-            AnyScorer::RequiredOptional(node) => node.required.hint(),
-            AnyScorer::Exclude(node) => node.inner.hint(),
-        }
+// About how many documents remain.
+#[cycle(hints)]
+pub(crate) fn hint_tree<'a, S: Scorer>(scorer: &AnyScorer<'a, S>) -> u32
+    requires valid { IsTree S.DocSet scorer.now }
+{
+    match scorer {
+        AnyScorer::Empty(leaf) => leaf.size_hint(),
+        AnyScorer::All(leaf) => leaf.size_hint(),
+        AnyScorer::Own(leaf) => leaf.size_hint(),
+        AnyScorer::Term(leaf) => leaf.size_hint(),
+        AnyScorer::BitSet(leaf) => leaf.size_hint(),
+        AnyScorer::Phrase(leaf) => leaf.size_hint(),
+        AnyScorer::PhrasePrefix(leaf) => leaf.size_hint(),
+        AnyScorer::Boost(node) => hint_tree(&node.inner),
+        AnyScorer::Const(node) => hint_tree(&node.inner),
+        AnyScorer::RequiredOptional(node) => hint_tree(&node.required),
+        AnyScorer::Exclude(node) => hint_tree(&node.inner),
+        AnyScorer::Union(node) => hint_group(node),
+        AnyScorer::Disjunction(node) => hint_group(node),
+        AnyScorer::Intersection(node) => hint_tree(&node.leader).min(node.num_docs),
     }
 }
 
@@ -259,7 +289,7 @@ impl<'a, S: Scorer> DocSet for AnyScorer<'a, S> {
     }
 
     fn size_hint(&self) -> u32 {
-        self.hint()
+        hint_tree(self)
     }
 
     fn count(&mut self, alive: &AliveBitSet) -> u32 {

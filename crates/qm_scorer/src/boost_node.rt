@@ -40,7 +40,7 @@ pub(crate) fn seek_boost<'a, S: Scorer>(node: &mut BoostNode<'a, S>, target: Doc
 }
 
 // Drops what lies below the target, and says whether the target is the first that is left.
-#[cycle(asks)]
+#[cycle(moves)]
 #[tactic(auto, using(crate::specs::MoveFacts::moves))]
 pub(crate) fn danger_boost<'a, S: Scorer>(
     node: &mut BoostNode<'a, S>,

@@ -22,7 +22,7 @@ use qm_schema::QueryError;
 use std::alloc::Global;
 
 // The greatest score of a scorer, without sign.
-fn bound_of<'a, S: Scorer>(scorer: &AnyScorer<'a, S>) -> u64
+pub(crate) fn bound_of<'a, S: Scorer>(scorer: &AnyScorer<'a, S>) -> u64
     requires { ⟦<AnyScorer<'a, S> as DocSet>⟧.valid scorer.now }
     ensures bound { result ≡ tree_top S.DocSet scorer.now }
     ensures score { result ≤ greatest_score }
@@ -146,7 +146,9 @@ fn exclude_one<'a, S: Scorer>(
     requires placed { IsPlaced ⟦<AnyScorer<'a, S> as DocSet>⟧ scorer }
     requires other { IsTree S.DocSet out }
     ensures refused { IsOkUnless result QueryError.Memory }
-    ensures lists { IfOk result (λ s. Lists ⟦<AnyScorer<'a, S> as DocSet>⟧ s (kept_entries S.DocSet scorer.entry out.entry) (scores_to (tree_top S.DocSet scorer.entry))) }
+    ensures lists { IfOk result (λ s. Lists ⟦<AnyScorer<'a, S> as DocSet>⟧ s
+        (kept_entries S.DocSet scorer.entry out.entry)
+        (scores_to (tree_top S.DocSet scorer.entry))) }
 {
     let top = bound_of(&scorer);
     let first = scorer.doc();

@@ -22,7 +22,7 @@ pub struct ExcludeNode<'a, S> {
 }
 
 // Whether a tree has a document. It need not stand anywhere before or after.
-#[cycle(asks)]
+#[cycle(moves)]
 #[tactic(auto, using(crate::specs::MoveFacts::moves))]
 pub(crate) fn contains_document<'a, S: Scorer>(scorer: &mut AnyScorer<'a, S>, doc: DocId) -> bool
     requires valid { IsTree S.DocSet scorer.old }
@@ -87,7 +87,7 @@ pub(crate) fn seek_exclude<'a, S: Scorer>(node: &mut ExcludeNode<'a, S>, target:
 }
 
 // Drops what lies below the target, and says whether the target is the first that is left.
-#[cycle(asks)]
+#[cycle(moves)]
 #[tactic(auto, using(crate::specs::MoveFacts::moves))]
 pub(crate) fn danger_exclude<'a, S: Scorer>(
     node: &mut ExcludeNode<'a, S>,

@@ -9,6 +9,9 @@ mod bounds;
 mod builders;
 mod const_node;
 mod exclude_node;
+mod group_builders;
+mod group_node;
+mod intersection_node;
 mod optional_node;
 mod passing;
 
@@ -18,6 +21,9 @@ pub use boost_node::BoostNode;
 pub use builders::{boost, constant, exclude, required_optional};
 pub use const_node::ConstNode;
 pub use exclude_node::ExcludeNode;
+pub use group_builders::{at_least, intersect_scorers, union};
+pub use group_node::{GroupNode, Shape};
+pub use intersection_node::IntersectionNode;
 pub use optional_node::OptionalNode;
 
 #[cfg(test)]

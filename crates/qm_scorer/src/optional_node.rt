@@ -43,7 +43,7 @@ pub(crate) fn seek_optional<'a, S: Scorer>(node: &mut OptionalNode<'a, S>, targe
 }
 
 // Drops what lies below the target, and says whether the target is the first that is left.
-#[cycle(asks)]
+#[cycle(moves)]
 #[tactic(auto, using(crate::specs::MoveFacts::moves))]
 pub(crate) fn danger_optional<'a, S: Scorer>(
     node: &mut OptionalNode<'a, S>,

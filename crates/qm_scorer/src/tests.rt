@@ -2,6 +2,7 @@
 //! 500 deep, and what takes memory.
 
 mod callers;
+mod groups;
 mod lawful_cursor;
 mod leaves;
 mod nodes;

@@ -1,5 +1,5 @@
 -- The texts that the program writes.
-use Rattle.std.specs.Prelude.{◌≡◌, ℕ, ℤ, List, [], ◌∷◌, ◌++◌, Option, None, Some, length, map}
+use Rattle.std.specs.Prelude.{◌≡◌, ℕ, ℤ, List, [], ◌∷◌, ◌++◌, Option, None, Some, OnOk, Result, length, map}
 use Rattle.std.specs.List.{join_with_byte}
 use Rattle.std.specs.Fmt.{decimal, signed_decimal}
 
@@ -20,3 +20,8 @@ listing_text items = join_with_byte 32 (map item_text items)
 pub record IsListing (items : List (ℕ × Option ℤ)) (text : List ℕ) : Type 0 where
   pub listed : text ≡ listing_text items
   pub begun : length text ≡ 0 → items ≡ []
+
+-- Where the call succeeds, what the text listed before has these behind it.
+abbrev pub AddsToListing : {T E : Type 0} → Result T E → List (ℕ × Option ℤ) → List ℕ → List ℕ → Type 0
+AddsToListing result more before after =
+    (items : List (ℕ × Option ℤ)) → IsListing items before → OnOk result (IsListing (items ++ more) after)

@@ -1,9 +1,11 @@
 -- Which documents of a segment a tree matches.
-use Rattle.std.specs.Prelude.{ℕ, Bool, true, false, ◌&&◌, ◌||◌, List, [], length, filter, map, count_by, nat_le, String, string_bytes}
+use Rattle.std.specs.Prelude.{◌≡◌, ℕ, Bool, true, false, ◌&&◌, ◌||◌, List, [], length, filter, map, count_by, nat_le, String, string_bytes}
 use Rattle.std.specs.Global.{Global}
 use Rattle.std.specs.List.{list_any, list_all, range_with_len}
-use Rattle.qm_postings.specs.Segment.{Segment, holds}
+use Rattle.qm_docset.specs.Entry.{Entry}
+use Rattle.qm_postings.specs.Segment.{Segment, holders, holds, postings_of}
 use Rattle.qm_schema.specs.Term.{TermKey}
+use Rattle.qm_schema.specs.declared.schema.option.IndexRecordOption.TheVariants.{WithFreqs}
 use Rattle.qm_search.specs.declared.terms.TheConstants.{BODY}
 use Rattle.qm_search.specs.declared.tree.Tree.{Tree}
 use Rattle.qm_search.specs.declared.tree.Tree.TheVariants.{All, Empty, Term, Bool as Boolean}
@@ -11,6 +13,14 @@ use Rattle.qm_search.specs.declared.tree.Tree.TheVariants.{All, Empty, Term, Boo
 -- a word, as a term of the one field that a script's documents have
 abbrev pub word_term : List ℕ → TermKey
 word_term word = record { field = BODY; bytes = word }
+
+-- no document of the segment holds the word
+abbrev pub IsAbsent : Segment → List ℕ → Type 0
+IsAbsent segment word = holders segment (word_term word) ≡ []
+
+-- the documents that hold the word, ascending, each with how often it stands there
+abbrev pub postings_of_word : Segment → List ℕ → List Entry
+postings_of_word segment word = postings_of segment WithFreqs (word_term word)
 
 -- whether document d holds the word
 abbrev pub holds_word : Segment → List ℕ → ℕ → Bool

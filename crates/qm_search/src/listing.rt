@@ -1,12 +1,12 @@
 //! The documents that a tree matches in all segments, written one after another.
 
-ghost use Rattle.std.specs.Prelude.{◌≡◌, ◌≤◌, ◌*◌, ◌++◌, ◌∷◌, [], ℕ, ℤ, List, Option, None, Some, IfErr, OnOk, length, map, string_bytes};
+ghost use Rattle.std.specs.Prelude.{◌≡◌, ◌≤◌, ◌*◌, ◌∷◌, [], None, Some, IfErr, OnOk, length, map, string_bytes};
 ghost use Rattle.std.specs.Option.{option_copied};
 ghost use Rattle.qm_docset.specs.declared.numbers.TheConstants.{TERMINATED};
 ghost use Rattle.qm_search.specs.AllSegments.{all_listed, numbered};
 ghost use Rattle.qm_search.specs.Answers.{IsListingRefusal};
 ghost use Rattle.qm_search.specs.Parts.{document_count};
-ghost use Rattle.qm_search.specs.Text.{IsListing};
+ghost use Rattle.qm_search.specs.Text.{AddsToListing, IsListing};
 ghost use Rattle.qm_search.specs.declared.corpus.TheConstants.{MAX_SEGMENTS};
 
 use crate::docs::docs;
@@ -53,7 +53,7 @@ pub(crate) fn write_listing(
 
 fn write_documents(text: &mut String, first: u64, found: &[DocId]) -> Result<(), AllocError>
     requires { first ≤ MAX_SEGMENTS * TERMINATED }
-    ensures { (items : List (ℕ × Option ℤ)) → IsListing items (string_bytes text.old) → OnOk result (IsListing (items ++ numbered first (map (λ d. (d, None)) found.now)) (string_bytes text.new)) }
+    ensures { AddsToListing result (numbered first (map (λ d. (d, None)) found.now)) (string_bytes text.old) (string_bytes text.new) }
 {
     for document in found {
         write_document(text, first + u64::from(*document))?;
@@ -63,7 +63,7 @@ fn write_documents(text: &mut String, first: u64, found: &[DocId]) -> Result<(),
 
 fn write_scores(text: &mut String, first: u64, found: &[(DocId, Score)]) -> Result<(), AllocError>
     requires { first ≤ MAX_SEGMENTS * TERMINATED }
-    ensures { (items : List (ℕ × Option ℤ)) → IsListing items (string_bytes text.old) → OnOk result (IsListing (items ++ numbered first (map (λ p. (p.0, Some p.1)) found.now)) (string_bytes text.new)) }
+    ensures { AddsToListing result (numbered first (map (λ p. (p.0, Some p.1)) found.now)) (string_bytes text.old) (string_bytes text.new) }
 {
     for (document, score) in found {
         write_score(text, first + u64::from(*document), *score)?;
@@ -73,7 +73,7 @@ fn write_scores(text: &mut String, first: u64, found: &[(DocId, Score)]) -> Resu
 
 // Writes a document's number, behind a space where something stands before it.
 fn write_document(text: &mut String, document: u64) -> Result<(), AllocError>
-    ensures { (items : List (ℕ × Option ℤ)) → IsListing items (string_bytes text.old) → OnOk result (IsListing (items ++ (document, None) ∷ []) (string_bytes text.new)) }
+    ensures { AddsToListing result ((document, None) ∷ []) (string_bytes text.old) (string_bytes text.new) }
 {
     if !text.as_str().is_empty() {
         text.push(' ')?;
@@ -83,7 +83,7 @@ fn write_document(text: &mut String, document: u64) -> Result<(), AllocError>
 
 // The same with its score, behind a colon.
 fn write_score(text: &mut String, document: u64, score: Score) -> Result<(), AllocError>
-    ensures { (items : List (ℕ × Option ℤ)) → IsListing items (string_bytes text.old) → OnOk result (IsListing (items ++ (document, Some score) ∷ []) (string_bytes text.new)) }
+    ensures { AddsToListing result ((document, Some score) ∷ []) (string_bytes text.old) (string_bytes text.new) }
 {
     if !text.as_str().is_empty() {
         text.push(' ')?;

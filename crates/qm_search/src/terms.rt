@@ -1,9 +1,8 @@
 //! The words of a query as terms of the one field that a script's documents have.
 
-ghost use Rattle.std.specs.Prelude.{◌≡◌, ◌<◌, ◌≤◌, ◌↔◌, [], All, IfOk, IfSome, IsErrOf, IsOkUnless, IsSome, length, map, string_bytes};
-ghost use Rattle.qm_postings.specs.Segment.{holders, postings_of};
+ghost use Rattle.std.specs.Prelude.{◌≡◌, ◌<◌, ◌≤◌, ◌↔◌, All, IfOk, IfSome, IsErrOf, IsOkUnless, IsSome, length, map, string_bytes};
 ghost use Rattle.qm_postings.specs.SegmentPostings.{IsPostings, postings_left};
-ghost use Rattle.qm_search.specs.Trees.{word_term};
+ghost use Rattle.qm_search.specs.Trees.{IsAbsent, postings_of_word};
 
 use qm_postings::{SegmentPostings, SegmentReader};
 use qm_schema::{Field, IndexRecordOption, QueryError, Term};
@@ -26,8 +25,8 @@ pub(crate) fn word_postings<'a>(
     segment: &'a SegmentReader,
     word: &str,
 ) -> Result<Option<SegmentPostings<'a>>, QueryError>
-    ensures held { IfOk result (λ found. IsSome found ↔ ¬ (holders segment.now.segment (word_term word.now) ≡ [])) }
-    ensures postings { IfOk result (λ found. IfSome found (λ p. postings_left p ≡ postings_of segment.now.segment IndexRecordOption.WithFreqs (word_term word.now))) }
+    ensures held { IfOk result (λ found. IsSome found ↔ ¬ IsAbsent segment.now.segment word.now) }
+    ensures postings { IfOk result (λ found. IfSome found (λ p. postings_left p ≡ postings_of_word segment.now.segment word.now)) }
     ensures valid { IfOk result (λ found. IfSome found IsPostings) }
     ensures refused { IsOkUnless result QueryError.Memory }
 {
@@ -46,8 +45,8 @@ pub(crate) fn common_postings<'a>(
     segment: &'a SegmentReader,
     words: &[String],
 ) -> Result<Option<Vec<SegmentPostings<'a>>>, QueryError>
-    ensures held { IfOk result (λ found. IsSome found ↔ All (λ w. ¬ (holders segment.now.segment (word_term (string_bytes w)) ≡ [])) words.now) }
-    ensures postings { IfOk result (λ found. IfSome found (λ members. map postings_left members.items ≡ map (λ w. postings_of segment.now.segment IndexRecordOption.WithFreqs (word_term (string_bytes w))) words.now)) }
+    ensures held { IfOk result (λ found. IsSome found ↔ All (λ w. ¬ IsAbsent segment.now.segment (string_bytes w)) words.now) }
+    ensures postings { IfOk result (λ found. IfSome found (λ members. map postings_left members.items ≡ map (λ w. postings_of_word segment.now.segment (string_bytes w)) words.now)) }
     ensures valid { IfOk result (λ found. IfSome found (λ members. All IsPostings members.items)) }
     ensures refused { IsOkUnless result QueryError.Memory }
 {

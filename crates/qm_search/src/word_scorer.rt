@@ -1,9 +1,8 @@
 //! The scorer of a word.
 
-ghost use Rattle.std.specs.Prelude.{◌≡◌, IfErr, IfOk, MatchOption, []};
-ghost use Rattle.qm_postings.specs.Segment.{holders};
+ghost use Rattle.std.specs.Prelude.{IfErr, IfOk, MatchOption};
 ghost use Rattle.qm_search.specs.Scores.{IsScoreRefusal, word_weighing};
-ghost use Rattle.qm_search.specs.Trees.{word_term};
+ghost use Rattle.qm_search.specs.Trees.{IsAbsent};
 ghost use Rattle.qm_search.specs.WordScorers.{IsWordScorer};
 
 use crate::terms::body;
@@ -24,7 +23,7 @@ pub(crate) fn word_scorer<'a>(
     segment: &'a SegmentReader,
     word: &str,
 ) -> Result<Option<TermScorer<'a>>, QueryError>
-    ensures scorer { IfOk result (λ found. MatchOption found (holders segment.now.segment (word_term word.now) ≡ []) (IsWordScorer searcher.now segment.now.segment word.now)) }
+    ensures scorer { IfOk result (λ found. MatchOption found (IsAbsent segment.now.segment word.now) (IsWordScorer searcher.now segment.now.segment word.now)) }
     ensures refused { IfErr result (IsScoreRefusal (word_weighing searcher.now word.now).weight) }
 {
     let term = Term::from_field_text(alloc, body(), word)?;

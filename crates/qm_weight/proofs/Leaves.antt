@@ -1,5 +1,5 @@
 -- What the scorers of leaves list: the documents that the leaf matches, each with its score.
-use Rattle.std.specs.Prelude.{◌≡◌, ℕ, ℤ, ◌-◌, ◌*◌, ◌≤◌, Bool, true, false, if◌then◌else◌, List, [], ◌∷◌, IfOk, Result, Ok, Err, filter, length, map}
+use Rattle.std.specs.Prelude.{◌≡◌, ℕ, ℤ, ◌-◌, ◌*◌, ◌≤◌, Bool, true, false, if◌then◌else◌, List, [], ◌∷◌, IfErr, IfOk, Result, Ok, Err, filter, length, map}
 use Rattle.std.specs.List.{range_with_len}
 use Rattle.std.proofs.Common.{arith, refl, sym, ap, subst, ◌∙◌, inl, inr}
 use Rattle.std.proofs.lemmas.List.{map-id}
@@ -26,6 +26,11 @@ pub if_ok : {A E : Type 0} (P Q : A → Type 0) → ((a : A) → P a → Q a) �
 if_ok P Q follows (Ok a) h = follows a h
 if_ok P Q follows (Err e) h = tt
 
+-- and what holds of an error
+pub if_err : {A E : Type 0} (P Q : E → Type 0) → ((e : E) → P e → Q e) → (r : Result A E) → IfErr r P → IfErr r Q
+if_err P Q follows (Ok a) h = tt
+if_err P Q follows (Err e) h = follows e h
+
 -- ---- every document, and none
 
 filter-true : {A : Type 0} (xs : List A) → filter (λ x. true) xs ≡ xs
@@ -36,7 +41,7 @@ filter-false : {A : Type 0} (xs : List A) → filter (λ x. false) xs ≡ []
 filter-false [] = refl
 filter-false (x ∷ xs) = filter-false xs
 
-documents-scored : (given : ℕ → ℕ) (ds : List ℕ) → documents (map (λ d. scored d (given d)) ds) ≡ ds
+pub documents-scored : (given : ℕ → ℕ) (ds : List ℕ) → documents (map (λ d. scored d (given d)) ds) ≡ ds
 documents-scored given ds = map-map (λ e. e.document) (λ d. scored d (given d)) ds ∙ map-id ds
 
 matching-all : (segment : Segment) → matching all segment ≡ range_with_len 0 (length segment.documents)

@@ -1,3 +1,15 @@
 pub mod SliceSteps
 mod WorkedTrees
-mod Leaves
+pub mod Leaves
+mod Listings
+mod Phrases
+mod HeldTerms
+mod PrefixSets
+mod Prefixes
+mod PrefixRows
+mod Rows
+mod TreeRows
+mod Booleans
+mod Joins
+mod ClauseSteps
+mod Nodes

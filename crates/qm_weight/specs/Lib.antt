@@ -4,6 +4,8 @@ pub mod BestFacts
 pub mod Tree
 pub mod Weights
 pub mod Scorers
+pub mod LeafScorers
+pub mod ClauseScorers
 pub mod TreeFacts
 pub mod BoostFacts
 pub mod ScoringFacts

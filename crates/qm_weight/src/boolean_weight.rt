@@ -1,12 +1,24 @@
 //! A weight of clauses that must, should or must not match.
 
-ghost use Rattle.std.specs.Prelude.{◌≡◌};
+ghost use Rattle.std.specs.Prelude.{◌≡◌, ◌≤◌, IfErr, IfOk};
+ghost use Rattle.qm_docset.specs.Entry.{greatest_score};
+ghost use Rattle.qm_weight.specs.Scorers.{IsRefusalOf, IsScorerOf};
 ghost use Rattle.qm_weight.specs.Tree.{boolean};
 ghost use Rattle.qm_weight.specs.Weights.{boolean_tree, clauses_from, combiner_of};
 
 use crate::any_weight::AnyWeight;
-use qm_schema::Occur;
-use qm_scorer::AnyCombiner;
+use crate::weight::{Weight, for_each_scorer};
+use clauses::build_clauses;
+use joined::join_clauses;
+use qm_combine::{EmptyScorer, Scorer};
+use qm_docset::{DocId, DocSet, Score};
+use qm_postings::SegmentReader;
+use qm_schema::{Occur, QueryError};
+use qm_scorer::{AnyCombiner, AnyScorer};
+use std::alloc::Global;
+
+mod clauses;
+mod joined;
 
 /// Matches the documents that every Must clause matches, no MustNot clause, and at least so many of
 /// the Should clauses, each counted once; and some Must or Should clause matches it.
@@ -50,4 +62,44 @@ impl BooleanWeight {
             score_combiner,
         }
     }
+}
+
+impl Weight for BooleanWeight {
+    ghost tree = { boolean_tree };
+
+    fn scorer<'a, S: Scorer>(
+        &self,
+        alloc: Global,
+        reader: &'a SegmentReader,
+        boost: Score,
+    ) -> Result<AnyScorer<'a, S>, QueryError> {
+        build_boolean(self, alloc, reader, boost as u64)
+    }
+
+    fn for_each<F: FnMut(DocId, Score)>(
+        &self,
+        alloc: Global,
+        reader: &SegmentReader,
+        callback: &mut F,
+    ) -> Result<(), QueryError> {
+        let mut scorer: AnyScorer<EmptyScorer> = build_boolean(self, alloc, reader, 1)?;
+        for_each_scorer(&mut scorer, callback);
+        Ok(())
+    }
+}
+
+// The scorers of the clauses, and then the one that they make.
+#[cycle(build)]
+pub(crate) fn build_boolean<'a, S: Scorer>(
+    weight: &BooleanWeight,
+    alloc: Global,
+    reader: &'a SegmentReader,
+    boost: u64,
+) -> Result<AnyScorer<'a, S>, QueryError>
+    requires boost { boost ≤ greatest_score }
+    ensures scorer { IfOk result (IsScorerOf ⟦<AnyScorer<'a, S> as DocSet>⟧ (boolean_tree weight.now) boost reader.now.segment) }
+    ensures refused { IfErr result (IsRefusalOf (boolean_tree weight.now) boost) }
+{
+    let scorers = build_clauses(&weight.weights, alloc, reader, boost)?;
+    join_clauses(weight, alloc, reader, scorers)
 }

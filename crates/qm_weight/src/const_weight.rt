@@ -1,11 +1,20 @@
 //! A weight whose documents have one score.
 
-ghost use Rattle.std.specs.Prelude.{◌≡◌, ◌≤ℤ◌, nat_abs, pos};
+ghost use Rattle.std.specs.Prelude.{◌≡◌, ◌≤◌, ◌≤ℤ◌, IfErr, IfOk, nat_abs, pos};
+ghost use Rattle.qm_docset.specs.Entry.{greatest_score};
+ghost use Rattle.qm_weight.specs.Scorers.{IsRefusalOf, IsScorerOf};
 ghost use Rattle.qm_weight.specs.Tree.{constant};
 ghost use Rattle.qm_weight.specs.Weights.{const_tree, tree_of};
 
-use crate::any_weight::AnyWeight;
-use qm_docset::Score;
+use crate::any_weight::{AnyWeight, build};
+use crate::products::score_product;
+use crate::weight::{Weight, for_each_scorer};
+use qm_combine::{EmptyScorer, Scorer};
+use qm_docset::{DocId, DocSet, Score};
+use qm_postings::SegmentReader;
+use qm_schema::QueryError;
+use qm_scorer::{AnyScorer, constant};
+use std::alloc::Global;
 
 /// Matches what another weight matches, and scores one number, times the boost.
 #[cycle(any_weight)]
@@ -26,4 +35,48 @@ impl ConstWeight {
             score: score as u64,
         }
     }
+}
+
+impl Weight for ConstWeight {
+    ghost tree = { const_tree };
+
+    fn scorer<'a, S: Scorer>(
+        &self,
+        alloc: Global,
+        reader: &'a SegmentReader,
+        boost: Score,
+    ) -> Result<AnyScorer<'a, S>, QueryError> {
+        build_const(self, alloc, reader, boost as u64)
+    }
+
+    fn for_each<F: FnMut(DocId, Score)>(
+        &self,
+        alloc: Global,
+        reader: &SegmentReader,
+        callback: &mut F,
+    ) -> Result<(), QueryError> {
+        let mut scorer: AnyScorer<EmptyScorer> = build_const(self, alloc, reader, 1)?;
+        for_each_scorer(&mut scorer, callback);
+        Ok(())
+    }
+}
+
+// What stands inside, each document with the score times the boost; refused where that is no score. What
+// stands inside is built at the boost.
+#[cycle(build)]
+pub(crate) fn build_const<'a, S: Scorer>(
+    weight: &ConstWeight,
+    alloc: Global,
+    reader: &'a SegmentReader,
+    boost: u64,
+) -> Result<AnyScorer<'a, S>, QueryError>
+    requires boost { boost ≤ greatest_score }
+    ensures scorer { IfOk result (IsScorerOf ⟦<AnyScorer<'a, S> as DocSet>⟧ (const_tree weight.now) boost reader.now.segment) }
+    ensures refused { IfErr result (IsRefusalOf (const_tree weight.now) boost) }
+{
+    let Some(score) = score_product(boost, weight.score) else {
+        return Err(QueryError::ScoreBound);
+    };
+    let inside = build(&weight.weight, alloc, reader, boost)?;
+    constant(alloc, inside, score as Score)
 }

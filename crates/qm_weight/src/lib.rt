@@ -10,9 +10,12 @@ mod boolean_weight;
 mod boost_weight;
 mod const_weight;
 mod empty_weight;
+mod expansions;
 mod phrase_prefix_weight;
+mod phrase_terms;
 mod phrase_weight;
 mod prefix_weight;
+mod products;
 mod term_weight;
 mod weight;
 

@@ -29,8 +29,9 @@ pub trait Weight {
     ///
     /// Refused with [`QueryError::ScoreBound`] only where the tree doesn't fit, that is, where a bound on
     /// scores, or boosts multiplied along the tree, pass 9223372036854775807; and else with
-    /// [`QueryError::Memory`] alone. Looks each term up once; no posting is read that the scorer's first
-    /// document doesn't need.
+    /// [`QueryError::Memory`] alone. Looks each term up once. A prefix alone reads all postings of its
+    /// expansions here, to unite their documents in a set of a bit for each document of the segment; of
+    /// all others no posting is read that the scorer's first document doesn't need.
     fn scorer<'a, S: Scorer>(
         &self,
         alloc: Global,

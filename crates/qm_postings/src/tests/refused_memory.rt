@@ -1,9 +1,10 @@
 //! Calls under an allocator that refuses what it is told to: tests/refuse_memory.c, where it is
 //! preloaded. Without it nothing is refused, and `rt ci` runs these tests so.
 
+use crate::tests::deletions::add;
 use crate::tests::searchers::weights;
 use crate::tests::segments::{entries, length_id, listed, notes, schema, segment, title};
-use crate::{PlainDoc, Postings, Searcher, SegmentBuilder};
+use crate::{PlainDoc, Postings, Searcher, SegmentBuilder, SegmentReader};
 use qm_docset::{DocSet, TERMINATED};
 use qm_schema::{IndexRecordOption, QueryError, Term};
 use std::alloc::Global;
@@ -143,32 +144,98 @@ fn a_segment_is_refused_the_memory_of_a_document(rt: HostRuntime) -> Result<(), 
     Ok(())
 }
 
+/// A segment of two documents, of which the first may be deleted. While it is made of its builder, the
+/// request of this number is refused.
+fn built_under(
+    alloc: Global,
+    is_deleted: bool,
+    number: u32,
+) -> Result<Result<SegmentReader, QueryError>, Fail> {
+    let mut builder = SegmentBuilder::new(alloc, &schema(alloc)?, 128)?;
+    let first = add(alloc, &mut builder, "a")?;
+    if is_deleted {
+        builder.delete(first)?;
+    }
+    add(alloc, &mut builder, "a")?;
+    refuse(alloc, number);
+    let built = builder.build(alloc);
+    refuse(alloc, 0);
+    Ok(built)
+}
+
 #[test]
 fn a_segment_is_refused_the_memory_of_its_reader(rt: HostRuntime) -> Result<(), Fail> {
     if !can_refuse(&rt) {
         return Ok(());
     }
     for number in 1..60 {
-        let mut builder = SegmentBuilder::new(rt.alloc(), &schema(rt.alloc())?, 128)?;
-        builder.add_document(document(rt.alloc())?)?;
-        builder.add_document(document(rt.alloc())?)?;
-        refuse(rt.alloc(), number);
-        let built = builder.build(rt.alloc());
-        refuse(rt.alloc(), 0);
-        match built {
+        match built_under(rt.alloc(), false, number)? {
             Ok(reader) => {
                 assert!(rt; number > 1);
                 let option = IndexRecordOption::WithFreqs;
-                let found = entries(rt.alloc(), &reader, title(), "a", option)?.ok_or(
-                    "no postings",
-                )?;
-                assert_eq!(rt; found.as_slice(), [(0, 1), (1, 1)].as_slice());
+                let found = entries(rt.alloc(), &reader, title(), "a", option)?;
+                assert_eq!(rt;
+                    found.ok_or("no postings")?.as_slice(),
+                    [(0, 1), (1, 1)].as_slice()
+                );
                 return Ok(());
             }
             Err(error) => assert_eq!(rt; error, QueryError::Memory),
         }
     }
     assert!(rt; false, "a reader asks for memory sixty times");
+    Ok(())
+}
+
+#[test]
+fn a_segment_with_deletions_is_refused_the_memory_of_its_reader(
+    rt: HostRuntime,
+) -> Result<(), Fail> {
+    if !can_refuse(&rt) {
+        return Ok(());
+    }
+    for number in 1..60 {
+        match built_under(rt.alloc(), true, number)? {
+            Ok(reader) => {
+                assert!(rt; number > 1);
+                assert_eq!(rt; (reader.max_doc(), reader.num_docs()), (2, 1));
+                return Ok(());
+            }
+            Err(error) => assert_eq!(rt; error, QueryError::Memory),
+        }
+    }
+    assert!(rt; false, "a reader asks for memory sixty times");
+    Ok(())
+}
+
+/// What a deletion of the one document answers where its request of this number is refused, and the
+/// number of documents that are alive then.
+fn deleted_under(alloc: Global, number: u32) -> Result<(Result<(), QueryError>, u32), Fail> {
+    let mut builder = SegmentBuilder::new(alloc, &schema(alloc)?, 128)?;
+    let doc = add(alloc, &mut builder, "a")?;
+    refuse(alloc, number);
+    let deleted = builder.delete(doc);
+    refuse(alloc, 0);
+    let reader = builder.build(alloc)?;
+    Ok((deleted, reader.num_docs()))
+}
+
+#[test]
+fn a_deletion_is_refused_its_memory(rt: HostRuntime) -> Result<(), Fail> {
+    if !can_refuse(&rt) {
+        return Ok(());
+    }
+    for number in 1..10 {
+        let (deleted, alive) = deleted_under(rt.alloc(), number)?;
+        if deleted.is_ok() {
+            assert!(rt; number > 1);
+            assert_eq!(rt; alive, 0);
+            return Ok(());
+        }
+        assert_eq!(rt; deleted, Err(QueryError::Memory));
+        assert_eq!(rt; alive, 1);
+    }
+    assert!(rt; false, "a deletion asks for memory ten times");
     Ok(())
 }
 
@@ -252,5 +319,20 @@ fn lookups_ask_for_no_memory(rt: HostRuntime) -> Result<(), Fail> {
     assert_eq!(rt; length, Some(3));
     let found = listed(rt.alloc(), postings.ok_or("no postings")?)?;
     assert_eq!(rt; found.as_slice(), [(0, 1), (2, 2)].as_slice());
+    Ok(())
+}
+
+#[test]
+fn deletions_are_asked_for_without_memory(rt: HostRuntime) -> Result<(), Fail> {
+    if !can_refuse(&rt) {
+        return Ok(());
+    }
+    let reader = built_under(rt.alloc(), true, 0)??;
+    refuse_all(rt.alloc());
+    let alive = reader.num_docs();
+    let has_deletes = reader.has_deletes();
+    let is_alive = reader.alive_bitset().map(|set| set.is_alive(1));
+    refuse(rt.alloc(), 0);
+    assert_eq!(rt; (alive, has_deletes, is_alive), (1, true, Some(true)));
     Ok(())
 }

@@ -1,5 +1,5 @@
 -- A row asks for what its list asks for.
-use Rattle.std.proofs.Common.{◌≡◌, rules}
+use Rattle.std.proofs.Common.{rules}
 use Rattle.qm_query.specs.declared.any_query.AnyQuery as q
 use Rattle.qm_query.proofs.Rows.{row_disjuncts-items, row_subqueries-items}
 use Rattle.qm_query.proofs.+clones.Goals as goal

@@ -1,18 +1,44 @@
 -- Scores of the document that a tree stands on.
-use Rattle.std.proofs.Common.{◌≡◌, ℕ, ◌+◌, ◌<◌, List, [], ◌∷◌, arith, sym, ap, ◌∙◌}
+use Rattle.std.proofs.Common.{rules, ◌≡◌, ℕ, ◌+◌, ◌<◌, ◌≤◌, List, [], ◌∷◌, All, fold, get_or, length, map, min, take, arith, refl, sym, ap, subst, ◌∙◌}
 use Rattle.std.specs.List.{sum}
-use Rattle.std.proofs.lemmas.List.Sums.{sum_by-cons}
-use Rattle.qm_docset.specs.Entry.{Entry, from, head_document, head_score}
+use Rattle.std.proofs.lemmas.List.{get_or-map, get_or_read_under, length-map, take_all}
+use Rattle.std.proofs.lemmas.List.Elements.{All-get_or, All-set}
+use Rattle.std.proofs.lemmas.List.Sums.{fold-append, sum_by-cons, sum_by_more}
+use Rattle.qm_docset.specs.Entry.{Entry, from, greatest_score, head_document, head_score}
 use Rattle.qm_docset.specs.declared.numbers.TheConstants.{TERMINATED}
-use Rattle.qm_scorer.specs.MoveFacts.{head_score-bounded}
-use Rattle.qm_docset.specs.Gather.{scores_at}
+use Rattle.qm_scorer.specs.MoveFacts.{IsBounded-same, head_score-bounded}
+use Rattle.qm_docset.specs.Gather.{common_entries, scores_at}
+use Rattle.qm_docset.specs.GatherFacts.{scores_at-nil}
+use Rattle.qm_combine.specs.HeldSum.{held_sum}
 use Rattle.qm_combine.specs.Rescored.{with_optional}
+use Rattle.qm_combine.specs.Union.{least_head}
 use Rattle.qm_combine.specs.WithoutFacts.{head_score-without}
 use Rattle.qm_combine.specs.RescoredFacts.{head_score-rescored}
+use Rattle.qm_combine.proofs.EachMember.{All-same_lists, get_or-map-map, map-set_same, score_cast}
+use Rattle.qm_combine.proofs.Leading.{head_score-together}
 use Rattle.qm_combine.proofs.OptionalScores.{scores_at-passed, scores_at-reached, with_optional-reached}
-use Rattle.qm_scorer.specs.Tree.{tree_entries}
-use Rattle.qm_scorer.specs.TreeFacts.{boost-fits, tree-ascends, tree-head, tree-here}
+use Rattle.qm_combine.proofs.Uniting.{least_head-le, scores_at-more, scores_at-more_ahead}
+use Rattle.qm_scorer.specs.AnyCombiner.{AnyHasRoom, any_cleared, any_step}
+use Rattle.qm_scorer.specs.AnyCombinerFacts.{any-room}
+use Rattle.qm_scorer.specs.Bare.{IsBounded}
+use Rattle.qm_scorer.specs.Group.{IsGroupNode, group_entries, group_lists}
+use Rattle.qm_scorer.specs.Intersection.{AreTogether, AreTrees, common_list}
+use Rattle.qm_scorer.specs.Tree.{HasRoom, IsTree, IsTreePlaced, gathered_list, tree_entries, tree_head, tree_limits, tree_top}
+use Rattle.qm_scorer.specs.TreeFacts.{tree-ascends}
+use Rattle.qm_scorer.specs.declared.any_scorer.AnyScorer as aq
+use Rattle.qm_scorer.specs.declared.any_scorer.AnyScorer.{AnyScorer, size-AnyScorer}
+use Rattle.qm_scorer.specs.declared.any_scorer.AnyScorer.TheVariants.{Disjunction, Intersection, Union, outs-Disjunction, outs-Intersection, outs-Union}
+use Rattle.qm_scorer.specs.declared.group_node.GroupNode.{GroupNode, size-GroupNode}
+use Rattle.qm_scorer.specs.declared.group_node.Shape.{Shape}
+use Rattle.qm_scorer.specs.declared.intersection_node.IntersectionNode.{IntersectionNode, size-IntersectionNode}
+use Rattle.qm_scorer.specs.declared.group_node.GroupNode as gq
+use Rattle.qm_scorer.specs.declared.intersection_node.IntersectionNode as iq
+use Rattle.qm_scorer.proofs.Depth.{most-set, size-Disjunction, size-Intersection, size-Union, size-members, size-others}
+use Rattle.qm_scorer.proofs.GroupScores.{group-kept, group-score, room-next}
+use Rattle.qm_scorer.proofs.Opened.{bounded-Intersection, closed-Disjunction, closed-Intersection, closed-Union, entries-Disjunction, entries-Intersection, entries-Union, opened-Disjunction, opened-Intersection, opened-Union, placed-Intersection, standing-Intersection}
+use Rattle.qm_scorer.proofs.Heads.{boost-fits, tree-head, tree-here}
 use Rattle.qm_scorer.proofs.+scores.Goals as goal
+use Rattle.qm_scorer.proofs.+scores.Goals.{group_node::score_group-else-doc_tree-doc, group_node::score_group-then-doc_tree-doc}
 
 pub boost_node::score_boost-returns-clause-fits : goal.boost_node::score_boost-returns-clause-fits
 boost_node::score_boost-returns-clause-fits g t c =
@@ -63,3 +89,404 @@ pub exclude_node::score_exclude-returns-clause-score : goal.exclude_node::score_
 exclude_node::score_exclude-returns-clause-score g t c =
     let ascends = tree-ascends g.S.DocSet g.met.S.DocSet.ascending c.args.node.now.inner c.requires.inner in
     c.score_tree.ensures.score ∙ sym (head_score-without _ 0 _ _ ascends c.requires.kept)
+
+-- ---- groups
+
+pub group_node::score_group-loop-i-init : goal.group_node::score_group-loop-i-init
+group_node::score_group-loop-i-init g t c = record {
+  unvisited = search (rules, gq.the_lemmas);
+  valid = c.requires.valid.members.valid;
+  placed = c.requires.valid.members.placed;
+  lists = refl;
+  combined = c.clear.ensures ∙ sym (ap (fold any_step (any_cleared c.args.node.now.shape.combiner)) (scores_at-nil c.args.node.now.current));
+  shape = refl;
+  current = refl;
+  depth = omega arith;
+}
+
+pub group_node::score_group-loop-i-preserved : goal.group_node::score_group-loop-i-preserved
+group_node::score_group-loop-i-preserved g t c =
+    let D = g.S.DocSet in
+    let e = tree_entries D in
+    let h = c.loop-i.invariant in
+    let i = c.loop-i.i in
+    let xs = c.loop-i.node.members.items in
+    let d = c.args.node.now.current in
+    let item = c.index.result.now in
+    let start = any_cleared c.args.node.now.shape.combiner in
+    let scores = scores_at d (take i (map e xs)) in
+    let here : i < length xs = omega (arith, h.unvisited.0, c.loop-i-test.true, c.len-i-end.ensures, c.args.node.now.members.ok.0) in
+    let valid : IsTree D item = subst (IsTree D) (sym c.index.ensures) (All-get_or (IsTree D) xs i item here h.valid) in
+    let placed : IsTreePlaced D item = subst (IsTreePlaced D) (sym c.index.ensures) (All-get_or (IsTreePlaced D) xs i item here h.placed) in
+    let a = tree-ascends D g.met.S.DocSet.ascending item valid in
+    let doc : c.doc_tree.result ≡ head_document (e item) = c.doc_tree.ensures ∙ tree-head D g.met.S.DocSet.ascending item valid placed in
+    elim c.if-doc_tree-doc.branch [
+      | group_node::score_group-then-doc_tree-doc w ↦
+          let x = w.score_tree.new.scorer in
+          let old = w.index_mut.result.now in
+          let was : old ≡ item = get_or_read_under xs i (length xs) old item w.index_mut.ensures.value here refl ∙ sym c.index.ensures in
+          let same : e x ≡ e (get_or xs i old) = w.score_tree.ensures.entries ∙ ap e w.index_mut.ensures.value in
+          let still = map-set_same e xs i x old here same in
+          let more = scores_at-more e _ xs i d item a c.index.ensures here (sym doc ∙ w.if-doc_tree-doc.true) c.requires.here in
+          let added = ap (fold any_step start) more ∙ fold-append any_step start scores (head_score (e item) ∷ []) in
+          let smaller = subst (λ (y : AnyScorer g.row.S.Denot). size-AnyScorer g.row.S.Denot x ≤ size-AnyScorer g.row.S.Denot y) w.index_mut.ensures.value w.score_tree.ensures.depth in
+          rw (w.node-is, w.combiner-is) (record {
+            unvisited = search (rules, gq.the_lemmas);
+            valid = All-set (IsTree D) xs i x w.score_tree.ensures.valid h.valid;
+            placed = All-set (IsTreePlaced D) xs i x w.score_tree.ensures.placed h.placed;
+            lists = still ∙ h.lists;
+            combined = w.take_score.ensures ∙ ap (λ s. any_step s w.score_tree.result) h.combined ∙ ap (any_step (fold any_step start scores)) (w.score_tree.ensures.score ∙ ap (λ m. head_score (e m)) was) ∙ sym added ∙ ap (λ r. fold any_step start (scores_at d (take (i + 1) r))) (sym still);
+            shape = h.shape;
+            current = h.current;
+            depth = size-members c.loop-i.node _ _ (most-set (size-AnyScorer g.row.S.Denot) xs i x old here smaller) h.depth;
+          })
+      | group_node::score_group-else-doc_tree-doc w ↦
+          let past : d ≤ head_document (e item) = omega (arith, c.requires.valid.own.least, ap least_head h.lists, least_head-le e xs i item here, ap (λ m. head_document (e m)) c.index.ensures) in
+          let same = scores_at-more_ahead e _ xs i d item a c.index.ensures here (omega (arith, doc, past, w.if-doc_tree-doc.false)) in
+          rw (w.node-is, w.combiner-is) (record {
+            unvisited = search (rules, gq.the_lemmas);
+            valid = h.valid;
+            placed = h.placed;
+            lists = h.lists;
+            combined = h.combined ∙ sym (ap (fold any_step start) same);
+            shape = h.shape;
+            current = h.current;
+            depth = h.depth;
+          })
+    ]
+
+pub group_node::score_group-take_score-requires-clause-room : goal.group_node::score_group-take_score-requires-clause-room
+group_node::score_group-take_score-requires-clause-room g t c =
+    let D = g.S.DocSet in
+    let e = tree_entries D in
+    let h = c.loop-i.invariant in
+    let i = c.loop-i.i in
+    let xs = c.loop-i.node.members.items in
+    let d = c.args.node.now.current in
+    let item = c.index.result.now in
+    let start = c.args.node.now.shape.combiner in
+    let here : i < length xs = omega (arith, h.unvisited.0, c.loop-i-test.true, c.len-i-end.ensures, c.args.node.now.members.ok.0) in
+    let valid : IsTree D item = subst (IsTree D) (sym c.index.ensures) (All-get_or (IsTree D) xs i item here h.valid) in
+    let placed : IsTreePlaced D item = subst (IsTreePlaced D) (sym c.index.ensures) (All-get_or (IsTreePlaced D) xs i item here h.placed) in
+    let a = tree-ascends D g.met.S.DocSet.ascending item valid in
+    let doc : c.doc_tree.result ≡ head_document (e item) = c.doc_tree.ensures ∙ tree-head D g.met.S.DocSet.ascending item valid placed in
+    let was : c.index_mut.result.now ≡ item = get_or_read_under xs i (length xs) c.index_mut.result.now item c.index_mut.ensures.value here refl ∙ sym c.index.ensures in
+    let room = room-next e _ xs i d item a c.index.ensures here (sym doc ∙ c.if-doc_tree-doc.true) c.requires.here (subst HasRoom (sym h.lists) c.requires.valid.own.room) in
+    let score : c.score_tree.result ≡ head_score (e item) = c.score_tree.ensures.score ∙ ap (λ m. head_score (e m)) was in
+    let left = any-room start (scores_at d (take i (map e xs))) c.score_tree.result (omega (arith, score, room)) in
+    subst (λ s. AnyHasRoom s c.score_tree.result) (sym h.combined) left
+
+pub group_node::score_group-score_tree-requires : goal.group_node::score_group-score_tree-requires
+group_node::score_group-score_tree-requires g t c κs within =
+    let D = g.S.DocSet in
+    let h = c.loop-i.invariant in
+    let i = c.loop-i.i in
+    let xs = c.loop-i.node.members.items in
+    let item = c.index.result.now in
+    let x = c.index_mut.result.now in
+    let here : i < length xs = omega (arith, h.unvisited.0, c.loop-i-test.true, c.len-i-end.ensures, c.args.node.now.members.ok.0) in
+    let was : x ≡ item = get_or_read_under xs i (length xs) x item c.index_mut.ensures.value here refl ∙ sym c.index.ensures in
+    let valid : IsTree D x = subst (IsTree D) (sym c.index_mut.ensures.value) (All-get_or (IsTree D) xs i x here h.valid) in
+    let placed : IsTreePlaced D x = subst (IsTreePlaced D) (sym c.index_mut.ensures.value) (All-get_or (IsTreePlaced D) xs i x here h.placed) in
+    let on : tree_head D x < TERMINATED = omega (arith, ap (tree_head D) was, c.doc_tree.ensures, c.if-doc_tree-doc.true, c.requires.here) in
+    (search (rules, gq.the_lemmas), (search rules, (valid, (placed, on))))
+
+pub group_node::score_group-returns-clause-score : goal.group_node::score_group-returns-clause-score
+group_node::score_group-returns-clause-score g t c =
+    let D = g.S.DocSet in
+    let h = c.loop-i.invariant in
+    let node = c.args.node.now in
+    let lists = map (tree_entries D) c.loop-i.node.members.items in
+    let long : length lists ≤ c.loop-i.i = omega (arith, length-map c.loop-i.node.members.items (tree_entries D), h.unvisited.0, c.loop-i-test.false, c.len-i-end.ensures, node.members.ok.0) in
+    let all = h.combined ∙ ap (λ r. fold any_step (any_cleared node.shape.combiner) (scores_at node.current r)) (take_all c.loop-i.i lists long ∙ h.lists) in
+    let value = group-score D g.met.S.DocSet.ascending node c.loop-i.combiner c.requires.valid c.requires.here all in
+    score_cast c.score.result _ c.score.ensures c.score.type_inv ∙ value
+
+pub group_node::score_group-returns-clause-fits : goal.group_node::score_group-returns-clause-fits
+group_node::score_group-returns-clause-fits g t c =
+    omega (arith, group_node::score_group-returns-clause-score g t c, head_score-bounded _ _ c.requires.valid.own.bounded)
+
+pub group_node::score_group-returns-clause-valid : goal.group_node::score_group-returns-clause-valid
+group_node::score_group-returns-clause-valid g t c =
+    let h = c.loop-i.invariant in
+    group-kept g.S.DocSet g.met.S.DocSet.ascending c.args.node.now c.loop-i.node c.requires.valid h.valid h.placed h.lists h.shape h.current
+
+-- ---- intersections
+
+pub intersection_node::score_intersection-loop-i-init : goal.intersection_node::score_intersection-loop-i-init
+intersection_node::score_intersection-loop-i-init g t c =
+    let D = g.S.DocSet in
+    let node = c.args.node.now in
+    let below : head_document (tree_entries D node.leader) < TERMINATED = tree-here D g.met.S.DocSet.ascending node.leader c.requires.trees.leader c.requires.placed.leader c.requires.here in
+    record {
+      unvisited = search (rules, iq.the_lemmas);
+      valid = c.requires.trees.others;
+      placed = λ k d less. (c.requires.placed.others below k d less).0;
+      lists = refl;
+      summed = omega (arith, c.score_tree-sum.ensures.score, c.score_tree-sum.ensures.fits);
+      leader = c.score_tree-sum.ensures.valid;
+      stands = c.score_tree-sum.ensures.placed;
+      entries = c.score_tree-sum.ensures.entries;
+      head = c.score_tree-sum.ensures.head;
+      top = refl;
+      depth = search (rules, iq.the_lemmas);
+    }
+
+pub intersection_node::score_intersection-loop-i-preserved : goal.intersection_node::score_intersection-loop-i-preserved
+intersection_node::score_intersection-loop-i-preserved g t c =
+    let D = g.S.DocSet in
+    let e = tree_entries D in
+    let h = c.loop-i.invariant in
+    let i = c.loop-i.i in
+    let xs = c.loop-i.node.others.items in
+    let x = c.score_tree.new.scorer in
+    let old = c.index_mut.result.now in
+    let here : i < length xs = omega (arith, h.unvisited.0, c.loop-i-test.true, c.len-i-end.ensures, c.args.node.now.others.ok.0) in
+    let same : e x ≡ e (get_or xs i old) = c.score_tree.ensures.entries ∙ ap e c.index_mut.ensures.value in
+    let still = map-set_same e xs i x old here same in
+    let scores = map head_score (map e xs) in
+    let first = head_score (e c.args.node.now.leader) in
+    let one = get_or-map-map head_score e xs i old 0 here in
+    let more = sum_by_more (λ n. n) scores i 0 (omega (arith, here, length-map (map e xs) head_score, length-map xs e)) in
+    let read = ap (λ m. head_score (e m)) c.index_mut.ensures.value in
+    let added : c.min-sum.result ≡ min greatest_score (first + sum (take (i + 1) scores)) = omega (arith, one, more, read, c.score_tree.ensures.score, c.min-sum.ensures, h.summed) in
+    let smaller = subst (λ (y : AnyScorer g.row.S.Denot). size-AnyScorer g.row.S.Denot x ≤ size-AnyScorer g.row.S.Denot y) c.index_mut.ensures.value c.score_tree.ensures.depth in
+    record {
+      unvisited = search (rules, iq.the_lemmas);
+      valid = All-set (IsTree D) xs i x c.score_tree.ensures.valid h.valid;
+      placed = All-set (IsTreePlaced D) xs i x c.score_tree.ensures.placed h.placed;
+      lists = still ∙ h.lists;
+      summed = added ∙ ap (λ r. min greatest_score (first + sum (take (i + 1) (map head_score r)))) (sym still);
+      leader = h.leader;
+      stands = h.stands;
+      entries = h.entries;
+      head = h.head;
+      top = h.top;
+      depth = size-others c.loop-i.node _ _ refl (most-set (size-AnyScorer g.row.S.Denot) xs i x old here smaller) h.depth;
+    }
+
+pub intersection_node::score_intersection-score_tree-requires : goal.intersection_node::score_intersection-score_tree-requires
+intersection_node::score_intersection-score_tree-requires g t c κs within =
+    let D = g.S.DocSet in
+    let e = tree_entries D in
+    let h = c.loop-i.invariant in
+    let node = c.args.node.now in
+    let xs = c.loop-i.node.others.items in
+    let x = c.index_mut.result.now in
+    let here : c.loop-i.i < length xs = omega (arith, h.unvisited.0, c.loop-i-test.true, c.len-i-end.ensures, node.others.ok.0) in
+    let below : head_document (e node.leader) < TERMINATED = tree-here D g.met.S.DocSet.ascending node.leader c.requires.trees.leader c.requires.placed.leader c.requires.here in
+    let all = All-same_lists e (λ es. head_document es ≡ head_document (e node.leader)) node.others.items xs h.lists (λ k d less. (c.requires.placed.others below k d less).1) in
+    let stands : head_document (e x) ≡ head_document (e node.leader) = ap (λ m. head_document (e m)) c.index_mut.ensures.value ∙ all c.loop-i.i x here in
+    let valid : IsTree D x = subst (IsTree D) (sym c.index_mut.ensures.value) (All-get_or (IsTree D) xs c.loop-i.i x here h.valid) in
+    let placed : IsTreePlaced D x = subst (IsTreePlaced D) (sym c.index_mut.ensures.value) (All-get_or (IsTreePlaced D) xs c.loop-i.i x here h.placed) in
+    let on : tree_head D x < TERMINATED = omega (arith, tree-head D g.met.S.DocSet.ascending x valid placed, stands, below) in
+    (search (rules, iq.the_lemmas), (search rules, (valid, (placed, on))))
+
+pub intersection_node::score_intersection-returns-clause-score : goal.intersection_node::score_intersection-returns-clause-score
+intersection_node::score_intersection-returns-clause-score g t c =
+    let D = g.S.DocSet in
+    let e = tree_entries D in
+    let law = tree-ascends D g.met.S.DocSet.ascending in
+    let h = c.loop-i.invariant in
+    let node = c.args.node.now in
+    let below : head_document (e node.leader) < TERMINATED = tree-here D g.met.S.DocSet.ascending node.leader c.requires.trees.leader c.requires.placed.leader c.requires.here in
+    let score = head_score-together (IsTree D) (tree_limits D) e law held_sum (IsTreePlaced D) _ (e node.leader) node.others.items (law node.leader c.requires.trees.leader) c.requires.trees.others below (c.requires.placed.others below) in
+    let scores = map head_score (map e c.loop-i.node.others.items) in
+    let long : length scores ≤ c.loop-i.i = omega (arith, length-map (map e c.loop-i.node.others.items) head_score, length-map c.loop-i.node.others.items e, h.unvisited.0, c.loop-i-test.false, c.len-i-end.ensures, node.others.ok.0) in
+    let whole = ap sum (take_all c.loop-i.i scores long ∙ ap (map head_score) h.lists) in
+    let cons = sum_by-cons (λ n. n) (head_score (e node.leader)) (map head_score (map e node.others.items)) in
+    let total : c.loop-i.sum ≡ held_sum (head_score (e node.leader) ∷ map head_score (map e node.others.items)) = omega (arith, h.summed, whole, cons) in
+    total ∙ sym score
+
+pub intersection_node::score_intersection-returns-clause-entries : goal.intersection_node::score_intersection-returns-clause-entries
+intersection_node::score_intersection-returns-clause-entries g t c =
+    (λ i. common_entries held_sum (c.loop-i.invariant.entries i ∷ c.loop-i.invariant.lists i))
+
+pub intersection_node::score_intersection-returns-clause-placed : goal.intersection_node::score_intersection-returns-clause-placed
+intersection_node::score_intersection-returns-clause-placed g t c =
+    let D = g.S.DocSet in
+    let e = tree_entries D in
+    let h = c.loop-i.invariant in
+    let node = c.args.node.now in
+    let below : head_document (e node.leader) < TERMINATED = tree-here D g.met.S.DocSet.ascending node.leader c.requires.trees.leader c.requires.placed.leader c.requires.here in
+    let all = All-same_lists e (λ es. head_document es ≡ head_document (e node.leader)) node.others.items c.loop-i.node.others.items h.lists (λ k d less. (c.requires.placed.others below k d less).1) in
+    record {
+      leader = h.stands;
+      others = λ _ k d less. (h.placed k d less, all k d less ∙ ap head_document (sym h.entries));
+    }
+
+-- ---- the arms of the enum
+
+pub any_scorer::score_tree-returns-in-Union-clause-depth : goal.any_scorer::score_tree-returns-in-Union-clause-depth
+any_scorer::score_tree-returns-in-Union-clause-depth g t c =
+    let node = c.in-Union.node in
+    let value = rw (c.in-Union.is, outs-Union c.in-Union.node) at c.deref_mut-in-Union.ensures.value in
+    let new = record node { value = c.score_group.new.node } in
+    let smaller = subst (λ (n : GroupNode g.row.S.Denot). size-GroupNode g.row.S.Denot c.score_group.new.node ≤ size-GroupNode g.row.S.Denot n) value c.score_group.ensures.depth in
+    rw (c.in-Union.is, outs-Union c.in-Union.node) (size-Union node new smaller)
+
+pub any_scorer::score_tree-returns-in-Disjunction-clause-depth : goal.any_scorer::score_tree-returns-in-Disjunction-clause-depth
+any_scorer::score_tree-returns-in-Disjunction-clause-depth g t c =
+    let node = c.in-Disjunction.node in
+    let value = rw (c.in-Disjunction.is, outs-Disjunction c.in-Disjunction.node) at c.deref_mut-in-Disjunction.ensures.value in
+    let new = record node { value = c.score_group-in-Disjunction.new.node } in
+    let smaller = subst (λ (n : GroupNode g.row.S.Denot). size-GroupNode g.row.S.Denot c.score_group-in-Disjunction.new.node ≤ size-GroupNode g.row.S.Denot n) value c.score_group-in-Disjunction.ensures.depth in
+    rw (c.in-Disjunction.is, outs-Disjunction c.in-Disjunction.node) (size-Disjunction node new smaller)
+
+pub any_scorer::score_tree-returns-in-Intersection-clause-depth : goal.any_scorer::score_tree-returns-in-Intersection-clause-depth
+any_scorer::score_tree-returns-in-Intersection-clause-depth g t c =
+    let node = c.in-Intersection.node in
+    let value = rw (c.in-Intersection.is, outs-Intersection c.in-Intersection.node) at c.deref_mut-in-Intersection.ensures.value in
+    let new = record node { value = c.score_intersection.new.node } in
+    let smaller = subst (λ (n : IntersectionNode g.row.S.Denot). size-IntersectionNode g.row.S.Denot c.score_intersection.new.node ≤ size-IntersectionNode g.row.S.Denot n) value c.score_intersection.ensures.depth in
+    rw (c.in-Intersection.is, outs-Intersection c.in-Intersection.node) (size-Intersection node new smaller)
+
+pub any_scorer::score_tree-score_group-requires : goal.any_scorer::score_tree-score_group-requires
+any_scorer::score_tree-score_group-requires g t c κs within =
+    let D = g.S.DocSet in
+    let node = c.in-Union.node in
+    let value = rw (c.in-Union.is, outs-Union c.in-Union.node) at c.deref_mut-in-Union.ensures.value in
+    let opened = subst (IsGroupNode D) (sym value) (opened-Union D node (subst (IsTree D) c.in-Union.is c.requires.valid)) in
+    let here : c.deref_mut-in-Union.result.now.current < TERMINATED = omega (arith, c.requires.here, ap (tree_head D) c.in-Union.is, ap (λ (n : GroupNode g.row.S.Denot). n.current) value) in
+    (search (rules, aq.the_lemmas), (search rules, (opened, here)))
+
+pub any_scorer::score_tree-returns-in-Union-clause-score : goal.any_scorer::score_tree-returns-in-Union-clause-score
+any_scorer::score_tree-returns-in-Union-clause-score g t c =
+    let D = g.S.DocSet in
+    let node = c.in-Union.node in
+    let value = rw (c.in-Union.is, outs-Union c.in-Union.node) at c.deref_mut-in-Union.ensures.value in
+    let before : tree_entries D (Union node) ≡ group_entries D c.deref_mut-in-Union.result.now = entries-Union D node ∙ ap (group_entries D) (sym value) in
+    rw c.in-Union.is (c.score_group.ensures.score ∙ sym (ap head_score before))
+
+pub any_scorer::score_tree-returns-in-Union-clause-entries : goal.any_scorer::score_tree-returns-in-Union-clause-entries
+any_scorer::score_tree-returns-in-Union-clause-entries g t c =
+    let D = g.S.DocSet in
+    let node = c.in-Union.node in
+    let value = rw (c.in-Union.is, outs-Union c.in-Union.node) at c.deref_mut-in-Union.ensures.value in
+    let new = record node { value = c.score_group.new.node } in
+    let before : tree_entries D (Union node) ≡ group_entries D c.deref_mut-in-Union.result.now = entries-Union D node ∙ ap (group_entries D) (sym value) in
+    rw (c.in-Union.is, outs-Union c.in-Union.node) (entries-Union D new ∙ (λ i. gathered_list (c.score_group.ensures.shape i) (c.score_group.ensures.lists i)) ∙ sym before)
+
+pub any_scorer::score_tree-returns-in-Union-clause-top : goal.any_scorer::score_tree-returns-in-Union-clause-top
+any_scorer::score_tree-returns-in-Union-clause-top g t c =
+    let D = g.S.DocSet in
+    let value = rw (c.in-Union.is, outs-Union c.in-Union.node) at c.deref_mut-in-Union.ensures.value in
+    rw (c.in-Union.is, outs-Union c.in-Union.node) (ap (λ (s : Shape). s.top) c.score_group.ensures.shape ∙ ap (λ (n : GroupNode g.row.S.Denot). n.shape.top) value)
+
+pub any_scorer::score_tree-returns-in-Union-clause-valid : goal.any_scorer::score_tree-returns-in-Union-clause-valid
+any_scorer::score_tree-returns-in-Union-clause-valid g t c =
+    let node = c.in-Union.node in
+    let new = record node { value = c.score_group.new.node } in
+    rw (c.in-Union.is, outs-Union c.in-Union.node) (closed-Union g.S.DocSet new c.score_group.ensures.valid)
+
+pub any_scorer::score_tree-returns-in-Union-clause-placed : goal.any_scorer::score_tree-returns-in-Union-clause-placed
+any_scorer::score_tree-returns-in-Union-clause-placed g t c = rw (c.in-Union.is, outs-Union c.in-Union.node) tt
+
+pub any_scorer::score_tree-returns-in-Union-clause-head : goal.any_scorer::score_tree-returns-in-Union-clause-head
+any_scorer::score_tree-returns-in-Union-clause-head g t c =
+    let D = g.S.DocSet in
+    let value = rw (c.in-Union.is, outs-Union c.in-Union.node) at c.deref_mut-in-Union.ensures.value in
+    rw (c.in-Union.is, outs-Union c.in-Union.node) (c.score_group.ensures.current ∙ ap (λ (n : GroupNode g.row.S.Denot). n.current) value)
+
+pub any_scorer::score_tree-score_group-requires-in-Disjunction : goal.any_scorer::score_tree-score_group-requires-in-Disjunction
+any_scorer::score_tree-score_group-requires-in-Disjunction g t c κs within =
+    let D = g.S.DocSet in
+    let node = c.in-Disjunction.node in
+    let value = rw (c.in-Disjunction.is, outs-Disjunction c.in-Disjunction.node) at c.deref_mut-in-Disjunction.ensures.value in
+    let opened = subst (IsGroupNode D) (sym value) (opened-Disjunction D node (subst (IsTree D) c.in-Disjunction.is c.requires.valid)) in
+    let here : c.deref_mut-in-Disjunction.result.now.current < TERMINATED = omega (arith, c.requires.here, ap (tree_head D) c.in-Disjunction.is, ap (λ (n : GroupNode g.row.S.Denot). n.current) value) in
+    (search (rules, aq.the_lemmas), (search rules, (opened, here)))
+
+pub any_scorer::score_tree-returns-in-Disjunction-clause-score : goal.any_scorer::score_tree-returns-in-Disjunction-clause-score
+any_scorer::score_tree-returns-in-Disjunction-clause-score g t c =
+    let D = g.S.DocSet in
+    let node = c.in-Disjunction.node in
+    let value = rw (c.in-Disjunction.is, outs-Disjunction c.in-Disjunction.node) at c.deref_mut-in-Disjunction.ensures.value in
+    let before : tree_entries D (Disjunction node) ≡ group_entries D c.deref_mut-in-Disjunction.result.now = entries-Disjunction D node ∙ ap (group_entries D) (sym value) in
+    rw c.in-Disjunction.is (c.score_group-in-Disjunction.ensures.score ∙ sym (ap head_score before))
+
+pub any_scorer::score_tree-returns-in-Disjunction-clause-entries : goal.any_scorer::score_tree-returns-in-Disjunction-clause-entries
+any_scorer::score_tree-returns-in-Disjunction-clause-entries g t c =
+    let D = g.S.DocSet in
+    let node = c.in-Disjunction.node in
+    let value = rw (c.in-Disjunction.is, outs-Disjunction c.in-Disjunction.node) at c.deref_mut-in-Disjunction.ensures.value in
+    let new = record node { value = c.score_group-in-Disjunction.new.node } in
+    let before : tree_entries D (Disjunction node) ≡ group_entries D c.deref_mut-in-Disjunction.result.now = entries-Disjunction D node ∙ ap (group_entries D) (sym value) in
+    rw (c.in-Disjunction.is, outs-Disjunction c.in-Disjunction.node) (entries-Disjunction D new ∙ (λ i. gathered_list (c.score_group-in-Disjunction.ensures.shape i) (c.score_group-in-Disjunction.ensures.lists i)) ∙ sym before)
+
+pub any_scorer::score_tree-returns-in-Disjunction-clause-top : goal.any_scorer::score_tree-returns-in-Disjunction-clause-top
+any_scorer::score_tree-returns-in-Disjunction-clause-top g t c =
+    let D = g.S.DocSet in
+    let value = rw (c.in-Disjunction.is, outs-Disjunction c.in-Disjunction.node) at c.deref_mut-in-Disjunction.ensures.value in
+    rw (c.in-Disjunction.is, outs-Disjunction c.in-Disjunction.node) (ap (λ (s : Shape). s.top) c.score_group-in-Disjunction.ensures.shape ∙ ap (λ (n : GroupNode g.row.S.Denot). n.shape.top) value)
+
+pub any_scorer::score_tree-returns-in-Disjunction-clause-valid : goal.any_scorer::score_tree-returns-in-Disjunction-clause-valid
+any_scorer::score_tree-returns-in-Disjunction-clause-valid g t c =
+    let node = c.in-Disjunction.node in
+    let new = record node { value = c.score_group-in-Disjunction.new.node } in
+    rw (c.in-Disjunction.is, outs-Disjunction c.in-Disjunction.node) (closed-Disjunction g.S.DocSet new c.score_group-in-Disjunction.ensures.valid)
+
+pub any_scorer::score_tree-returns-in-Disjunction-clause-placed : goal.any_scorer::score_tree-returns-in-Disjunction-clause-placed
+any_scorer::score_tree-returns-in-Disjunction-clause-placed g t c = rw (c.in-Disjunction.is, outs-Disjunction c.in-Disjunction.node) tt
+
+pub any_scorer::score_tree-returns-in-Disjunction-clause-head : goal.any_scorer::score_tree-returns-in-Disjunction-clause-head
+any_scorer::score_tree-returns-in-Disjunction-clause-head g t c =
+    let D = g.S.DocSet in
+    let value = rw (c.in-Disjunction.is, outs-Disjunction c.in-Disjunction.node) at c.deref_mut-in-Disjunction.ensures.value in
+    rw (c.in-Disjunction.is, outs-Disjunction c.in-Disjunction.node) (c.score_group-in-Disjunction.ensures.current ∙ ap (λ (n : GroupNode g.row.S.Denot). n.current) value)
+
+pub any_scorer::score_tree-score_intersection-requires : goal.any_scorer::score_tree-score_intersection-requires
+any_scorer::score_tree-score_intersection-requires g t c κs within =
+    let D = g.S.DocSet in
+    let node = c.in-Intersection.node in
+    let value = rw (c.in-Intersection.is, outs-Intersection c.in-Intersection.node) at c.deref_mut-in-Intersection.ensures.value in
+    let trees = subst (AreTrees D) (sym value) (opened-Intersection D node (subst (IsTree D) c.in-Intersection.is c.requires.valid)) in
+    let placed = subst (AreTogether D) (sym value) (standing-Intersection D node (subst (IsTreePlaced D) c.in-Intersection.is c.requires.placed)) in
+    let here : tree_head D c.deref_mut-in-Intersection.result.now.leader < TERMINATED = omega (arith, c.requires.here, ap (tree_head D) c.in-Intersection.is, ap (λ (n : IntersectionNode g.row.S.Denot). tree_head D n.leader) value) in
+    (search (rules, aq.the_lemmas), (search rules, (trees, (placed, here))))
+
+pub any_scorer::score_tree-returns-in-Intersection-clause-score : goal.any_scorer::score_tree-returns-in-Intersection-clause-score
+any_scorer::score_tree-returns-in-Intersection-clause-score g t c =
+    let D = g.S.DocSet in
+    let node = c.in-Intersection.node in
+    let value = rw (c.in-Intersection.is, outs-Intersection c.in-Intersection.node) at c.deref_mut-in-Intersection.ensures.value in
+    let before : tree_entries D (Intersection node) ≡ common_list D c.deref_mut-in-Intersection.result.now = entries-Intersection D node ∙ ap (common_list D) (sym value) in
+    rw c.in-Intersection.is (c.score_intersection.ensures.score ∙ sym (ap head_score before))
+
+pub any_scorer::score_tree-returns-in-Intersection-clause-entries : goal.any_scorer::score_tree-returns-in-Intersection-clause-entries
+any_scorer::score_tree-returns-in-Intersection-clause-entries g t c =
+    let D = g.S.DocSet in
+    let node = c.in-Intersection.node in
+    let value = rw (c.in-Intersection.is, outs-Intersection c.in-Intersection.node) at c.deref_mut-in-Intersection.ensures.value in
+    let new = record node { value = c.score_intersection.new.node } in
+    let before : tree_entries D (Intersection node) ≡ common_list D c.deref_mut-in-Intersection.result.now = entries-Intersection D node ∙ ap (common_list D) (sym value) in
+    rw (c.in-Intersection.is, outs-Intersection c.in-Intersection.node) (entries-Intersection D new ∙ c.score_intersection.ensures.entries ∙ sym before)
+
+pub any_scorer::score_tree-returns-in-Intersection-clause-top : goal.any_scorer::score_tree-returns-in-Intersection-clause-top
+any_scorer::score_tree-returns-in-Intersection-clause-top g t c =
+    let D = g.S.DocSet in
+    let value = rw (c.in-Intersection.is, outs-Intersection c.in-Intersection.node) at c.deref_mut-in-Intersection.ensures.value in
+    rw (c.in-Intersection.is, outs-Intersection c.in-Intersection.node) (c.score_intersection.ensures.top ∙ ap (λ (n : IntersectionNode g.row.S.Denot). n.top) value)
+
+pub any_scorer::score_tree-returns-in-Intersection-clause-valid : goal.any_scorer::score_tree-returns-in-Intersection-clause-valid
+any_scorer::score_tree-returns-in-Intersection-clause-valid g t c =
+    let D = g.S.DocSet in
+    let node = c.in-Intersection.node in
+    let value = rw (c.in-Intersection.is, outs-Intersection c.in-Intersection.node) at c.deref_mut-in-Intersection.ensures.value in
+    let new = record node { value = c.score_intersection.new.node } in
+    let left : common_list D new.value ≡ common_list D node.value = c.score_intersection.ensures.entries ∙ ap (common_list D) value in
+    let same : new.value.top ≡ node.value.top = c.score_intersection.ensures.top ∙ ap (λ (n : IntersectionNode g.row.S.Denot). n.top) value in
+    let bounded = IsBounded-same node.value.top (common_list D node.value) (common_list D new.value) left (bounded-Intersection D node (subst (IsTree D) c.in-Intersection.is c.requires.valid)) in
+    rw (c.in-Intersection.is, outs-Intersection c.in-Intersection.node) (closed-Intersection D new c.score_intersection.ensures.trees (subst (λ n. IsBounded n (common_list D new.value)) (sym same) bounded))
+
+pub any_scorer::score_tree-returns-in-Intersection-clause-placed : goal.any_scorer::score_tree-returns-in-Intersection-clause-placed
+any_scorer::score_tree-returns-in-Intersection-clause-placed g t c =
+    let node = c.in-Intersection.node in
+    let new = record node { value = c.score_intersection.new.node } in
+    rw (c.in-Intersection.is, outs-Intersection c.in-Intersection.node) (placed-Intersection g.S.DocSet new c.score_intersection.ensures.placed)
+
+pub any_scorer::score_tree-returns-in-Intersection-clause-head : goal.any_scorer::score_tree-returns-in-Intersection-clause-head
+any_scorer::score_tree-returns-in-Intersection-clause-head g t c =
+    let D = g.S.DocSet in
+    let value = rw (c.in-Intersection.is, outs-Intersection c.in-Intersection.node) at c.deref_mut-in-Intersection.ensures.value in
+    rw (c.in-Intersection.is, outs-Intersection c.in-Intersection.node) (c.score_intersection.ensures.head ∙ ap (λ (n : IntersectionNode g.row.S.Denot). tree_head D n.leader) value)

@@ -5,8 +5,11 @@ ghost use Rattle.std.specs.Prelude.{◌<◌, IfOk};
 ghost use Rattle.qm_docset.specs.Lists.{IsPlaced};
 
 use super::lawful_cursor::{LawfulCursor, lawful};
-use crate::{AnyScorer, boost, constant, exclude, required_optional};
-use qm_combine::{Scorer, scores_left};
+use crate::{
+    AnyCombiner, AnyScorer, at_least, boost, constant, exclude, intersect_scorers,
+    required_optional, union,
+};
+use qm_combine::{DisjunctionMaxCombiner, Scorer, SumCombiner, scores_left};
 use qm_docset::{
     AliveBitSet, BitSet, DocId, DocSet, Score, SeekDangerResult, TERMINATED, documents_left,
 };
@@ -30,9 +33,21 @@ pub enum Kind {
     Constant,
     Optional,
     Exclude,
+    Union,
+    /// both, with the greater score
+    AtLeast,
+    Intersection,
 }
 
-pub const KINDS: [Kind; 4] = [Kind::Boost, Kind::Constant, Kind::Optional, Kind::Exclude];
+pub const KINDS: [Kind; 7] = [
+    Kind::Boost,
+    Kind::Constant,
+    Kind::Optional,
+    Kind::Exclude,
+    Kind::Union,
+    Kind::AtLeast,
+    Kind::Intersection,
+];
 
 /// Two kinds: a node over a node and a leaf.
 pub type Pair = (Kind, Kind);
@@ -56,6 +71,12 @@ fn node_score(kind: Kind, first: Option<Score>, second: Option<Score>) -> Option
             Some(_) => None,
             None => first,
         },
+        Kind::Union => match second {
+            Some(score) => Some(first.unwrap_or(0).wrapping_add(score)),
+            None => first,
+        },
+        Kind::AtLeast => Some(first?.max(second?)),
+        Kind::Intersection => Some(first?.wrapping_add(second?)),
     }
 }
 
@@ -99,6 +120,15 @@ pub fn node<'a>(
         Kind::Constant => constant(alloc, first, 7),
         Kind::Optional => required_optional(alloc, first, second),
         Kind::Exclude => exclude(alloc, first, vec![in alloc; second]?),
+        Kind::Union => {
+            let sum = AnyCombiner::Sum(SumCombiner::default());
+            union(alloc, vec![in alloc; first, second]?, sum)
+        }
+        Kind::AtLeast => {
+            let greatest = AnyCombiner::DisjunctionMax(DisjunctionMaxCombiner::default());
+            at_least(alloc, vec![in alloc; first, second]?, greatest, 2)
+        }
+        Kind::Intersection => intersect_scorers(alloc, vec![in alloc; first, second]?, END),
     }
 }
 

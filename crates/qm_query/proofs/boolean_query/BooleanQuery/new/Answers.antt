@@ -1,5 +1,3 @@
-use Rattle.std.proofs.Common.{◌≡◌, ap, sym, ◌∙◌}
-use Rattle.qm_query.specs.Query.{boolean, subqueries_of}
 use Rattle.qm_query.proofs.BuilderLemmas.{minimum_of_clauses}
 use Rattle.qm_query.proofs.boolean_query.BooleanQuery.new.Goals as goal
 

@@ -1,4 +1,4 @@
-use Rattle.std.proofs.Common.{◌≡◌, map, take}
+use Rattle.std.proofs.Common.{◌≡◌, map}
 use Rattle.qm_query.specs.Query.{clause_of, term_clauses}
 use Rattle.qm_query.proofs.boolean_query.BooleanQuery.new_multiterms_query.Given as goal
 

@@ -1,4 +1,4 @@
-use Rattle.std.proofs.Common.{◌≡◌, ap, map, ◌∙◌}
+use Rattle.std.proofs.Common.{ap, map, ◌∙◌}
 use Rattle.qm_schema.specs.declared.occur.Occur.TheVariants.{Should}
 use Rattle.qm_query.specs.Query.{boolean_of_clauses, clause_of}
 use Rattle.qm_query.proofs.BuilderLemmas.{clauses_each}

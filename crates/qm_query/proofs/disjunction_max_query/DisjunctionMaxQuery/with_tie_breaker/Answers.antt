@@ -1,4 +1,4 @@
-use Rattle.std.proofs.Common.{◌≡◌, ap}
+use Rattle.std.proofs.Common.{ap}
 use Rattle.qm_query.specs.Query.{disjunction_max, disjuncts_of}
 use Rattle.qm_query.proofs.BuilderLemmas.{same_tie_breaker}
 use Rattle.qm_query.proofs.disjunction_max_query.DisjunctionMaxQuery.with_tie_breaker.Goals as goal

@@ -1,4 +1,4 @@
-use Rattle.std.proofs.Common.{◌≡◌, ◌≤◌, All, rules}
+use Rattle.std.proofs.Common.{◌≤◌, All, rules}
 use Rattle.qm_query.proofs.phrase_prefix_query.PhrasePrefixQuery.new_with_offset.Goals as goal
 
 pub of_sorted-requires-clause-fit : goal.of_sorted-requires-clause-fit

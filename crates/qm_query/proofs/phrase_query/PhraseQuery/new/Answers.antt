@@ -1,4 +1,4 @@
-use Rattle.std.proofs.Common.{◌≡◌, ◌≤◌, arith}
+use Rattle.std.proofs.Common.{arith}
 use Rattle.qm_query.proofs.phrase_query.PhraseQuery.new.Goals as goal
 
 pub invariant_of-result : goal.invariant_of-result

@@ -1,4 +1,4 @@
-use Rattle.std.proofs.Common.{◌≡◌, ◌≤◌, All, arith, rules}
+use Rattle.std.proofs.Common.{◌≤◌, All, arith, rules}
 use Rattle.qm_query.proofs.phrase_query.PhraseQuery.new_with_offset_and_slop.Goals as goal
 
 pub invariant_of-result : goal.invariant_of-result

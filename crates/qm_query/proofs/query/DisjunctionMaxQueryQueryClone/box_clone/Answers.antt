@@ -1,6 +1,6 @@
-use Rattle.std.proofs.Common.{◌≡◌, ap, rules, ◌∙◌}
+use Rattle.std.proofs.Common.{rules}
 use Rattle.qm_query.specs.declared.any_query.AnyQuery as q
-use Rattle.qm_query.proofs.Rows.{row_disjuncts-items, row_subqueries-items}
+use Rattle.qm_query.proofs.Rows.{row_disjuncts-items}
 use Rattle.qm_query.proofs.query.DisjunctionMaxQueryQueryClone.box_clone.Goals as goal
 
 pub returns-clause-same : goal.returns-clause-same

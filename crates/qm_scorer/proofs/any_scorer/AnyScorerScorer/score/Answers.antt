@@ -1,5 +1,5 @@
 use Rattle.std.proofs.Common.{arith}
-use Rattle.qm_scorer.specs.TreeFacts.{tree-head}
+use Rattle.qm_scorer.proofs.Heads.{tree-head}
 use Rattle.qm_scorer.proofs.any_scorer.AnyScorerScorer.score.Goals as goal
 
 pub score_tree-requires-clause-here : goal.score_tree-requires-clause-here

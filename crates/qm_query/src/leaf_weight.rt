@@ -1,0 +1,53 @@
+//! What the terms of a leaf weigh, by what a weight is built under.
+
+ghost use Rattle.std.specs.Prelude.{◌≡◌, ◌⊎◌, IfErr, IfOk};
+ghost use Rattle.qm_schema.specs.declared.error.QueryError.TheVariants.{Memory};
+ghost use Rattle.qm_weight.specs.Weights.{weighing_of};
+ghost use Rattle.qm_query.specs.Offsets.{terms_of};
+ghost use Rattle.qm_query.specs.QueryTree.{leaf_weighing};
+ghost use Rattle.qm_query.specs.WeightRefusals.{IsByProvider};
+
+use crate::enable_scoring::EnableScoring;
+use crate::offsets::clone_without_offsets;
+use qm_postings::Bm25StatisticsProvider;
+use qm_schema::{QueryError, Term};
+use qm_term::Bm25Weight;
+use std::alloc::Global;
+
+// What these terms weigh together. With scoring off that is nothing, and no provider is asked.
+pub(crate) fn leaf_weight<P: Bm25StatisticsProvider>(
+    enable_scoring: EnableScoring<'_, P>,
+    terms: &[Term],
+) -> Result<Option<Bm25Weight>, QueryError>
+    ensures weighing { IfOk result (λ weight. weighing_of weight ≡ leaf_weighing P.Bm25StatisticsProvider enable_scoring.entry terms.now) }
+    ensures refused { IfErr result (IsByProvider P.Bm25StatisticsProvider enable_scoring.entry terms.now) }
+{
+    match enable_scoring {
+        EnableScoring::Enabled {
+            statistics_provider,
+            ..
+        } => Ok(Some(Bm25Weight::for_terms(statistics_provider, terms)?)),
+        EnableScoring::Disabled { .. } => Ok(None),
+    }
+}
+
+// The same of terms with offsets.
+pub(crate) fn phrase_weight<P: Bm25StatisticsProvider>(
+    alloc: Global,
+    enable_scoring: EnableScoring<'_, P>,
+    terms: &[(usize, Term)],
+) -> Result<Option<Bm25Weight>, QueryError>
+    ensures weighing { IfOk result (λ weight. weighing_of weight ≡ leaf_weighing P.Bm25StatisticsProvider enable_scoring.entry (terms_of terms.now)) }
+    ensures refused { IfErr result (λ error. (error ≡ Memory) ⊎ IsByProvider P.Bm25StatisticsProvider enable_scoring.entry (terms_of terms.now) error) }
+{
+    if !enable_scoring.is_scoring_enabled() {
+        return Ok(None);
+    }
+    let terms = clone_without_offsets(alloc, terms)?;
+    leaf_weight(enable_scoring, &terms)
+}
+
+// The weight of a term that isn't to score.
+pub(crate) fn no_weight() -> Bm25Weight {
+    Bm25Weight::new(0, [0; 256]).unwrap()
+}

@@ -1,0 +1,140 @@
+//! What builds the nodes over several scorers.
+
+ghost use Rattle.std.specs.Prelude.{◌≡◌, ◌≤◌, All, IfErr, IfOk, IsOkUnless, map};
+ghost use Rattle.qm_docset.specs.Lists.{ArePlaced};
+ghost use Rattle.qm_combine.specs.HeldSum.{held_sum};
+ghost use Rattle.qm_combine.specs.Union.{IsBoundOrMemory, IsRefusedByBounds};
+ghost use Rattle.qm_scorer.specs.Built.{IsAtLeastOf, IsUnionOf};
+ghost use Rattle.qm_scorer.specs.Group.{IsMadeOf};
+ghost use Rattle.qm_scorer.specs.Intersection.{ListsShared};
+ghost use Rattle.qm_scorer.specs.Tree.{IsTree, tree_top};
+
+use crate::any_combiner::AnyCombiner;
+use crate::any_scorer::{AnyScorer, doc_tree};
+use crate::bounds::GREATEST_SCORE;
+use crate::builders::bound_of;
+use crate::group_node::{GroupNode, Shape, next_match};
+use crate::intersection_node::{IntersectionNode, align};
+use qm_combine::{EmptyScorer, Scorer, by_cost, sum_of_bounds};
+use qm_docset::DocSet;
+use qm_schema::QueryError;
+use std::alloc::Global;
+
+/// The documents that any of several scorers has, each with what the combiner, cleared, makes of the
+/// scores there: none where there are no scorers. A scorer that is given twice counts twice.
+///
+/// Refuses with [`QueryError::ScoreBound`] exactly where the `max_score` of the scorers add up to more
+/// than 9223372036854775807, and else with [`QueryError::Memory`] alone. No scorer is moved. A step, a
+/// seek and a score of the union each ask every scorer.
+pub fn union<'a, S: Scorer>(
+    alloc: Global,
+    members: Vec<AnyScorer<'a, S>>,
+    combiner: AnyCombiner,
+) -> Result<AnyScorer<'a, S>, QueryError>
+    requires placed { ArePlaced ⟦<AnyScorer<'a, S> as DocSet>⟧ members.items }
+    ensures refused { IsRefusedByBounds ⟦<AnyScorer<'a, S> as DocSet>⟧ members.entry.items result }
+    ensures only { IfErr result IsBoundOrMemory }
+    ensures lists { IfOk result (IsUnionOf ⟦<AnyScorer<'a, S> as DocSet>⟧ combiner members.entry.items) }
+{
+    let node = group_of(members, combiner, 1)?;
+    Ok(AnyScorer::Union(Box::new(alloc, node)?))
+}
+
+/// The documents that at least `minimum` of several scorers have, each with what the combiner, cleared,
+/// makes of the scores there: none where there are fewer scorers. A scorer that is given twice counts
+/// twice. Asks for a minimum of 1 or more, which may be `usize::MAX`.
+///
+/// Refuses with [`QueryError::ScoreBound`] exactly where the `max_score` of the scorers add up to more
+/// than 9223372036854775807, and else with [`QueryError::Memory`] alone. The scorers go on up to the
+/// first document that enough of them have. A step and a seek ask every scorer twice for each document
+/// that any has until enough have one, and a score asks every scorer.
+pub fn at_least<'a, S: Scorer>(
+    alloc: Global,
+    members: Vec<AnyScorer<'a, S>>,
+    combiner: AnyCombiner,
+    minimum: usize,
+) -> Result<AnyScorer<'a, S>, QueryError>
+    requires placed { ArePlaced ⟦<AnyScorer<'a, S> as DocSet>⟧ members.items }
+    requires minimum { 1 ≤ minimum }
+    ensures refused { IsRefusedByBounds ⟦<AnyScorer<'a, S> as DocSet>⟧ members.entry.items result }
+    ensures only { IfErr result IsBoundOrMemory }
+    ensures lists { IfOk result (IsAtLeastOf ⟦<AnyScorer<'a, S> as DocSet>⟧ minimum combiner members.entry.items) }
+{
+    let node = group_of(members, combiner, minimum)?;
+    Ok(AnyScorer::Disjunction(Box::new(alloc, node)?))
+}
+
+// A group of the members, on its first document.
+fn group_of<'a, S: Scorer>(
+    members: Vec<AnyScorer<'a, S>>,
+    combiner: AnyCombiner,
+    minimum: usize,
+) -> Result<GroupNode<'a, S>, QueryError>
+    requires placed { ArePlaced ⟦<AnyScorer<'a, S> as DocSet>⟧ members.items }
+    requires minimum { 1 ≤ minimum }
+    ensures refused { IsRefusedByBounds ⟦<AnyScorer<'a, S> as DocSet>⟧ members.entry.items result }
+    ensures only { IfErr result IsBoundOrMemory }
+    ensures made { IfOk result (IsMadeOf S.DocSet minimum combiner members.entry.items) }
+{
+    let Some(sum) = sum_of_bounds(&members) else {
+        return Err(QueryError::ScoreBound);
+    };
+    let shape = Shape {
+        minimum,
+        combiner,
+        top: sum.max(1) as u64,
+    };
+    let mut node = GroupNode {
+        members,
+        shape,
+        current: 0,
+    };
+    node.current = next_match(&mut node, 0);
+    Ok(node)
+}
+
+/// The documents that all of several scorers have, each with the sum of the scores there, held at
+/// 9223372036854775807. No scorer gives the empty scorer, and one is given back as it is. Only the size
+/// hint depends on `num_docs_segment`, the number of the segment's documents.
+///
+/// Refused with [`QueryError::Memory`] alone. Of two or more scorers the one of least
+/// [`cost`](DocSet::cost) leads: the others are only asked for its documents, the cheaper ones first.
+/// No scorer is moved further than the first common document needs.
+pub fn intersect_scorers<'a, S: Scorer>(
+    alloc: Global,
+    members: Vec<AnyScorer<'a, S>>,
+    num_docs_segment: u32,
+) -> Result<AnyScorer<'a, S>, QueryError>
+    requires placed { ArePlaced ⟦<AnyScorer<'a, S> as DocSet>⟧ members.items }
+    ensures refused { IsOkUnless result QueryError.Memory }
+    ensures lists { IfOk result (ListsShared ⟦<AnyScorer<'a, S> as DocSet>⟧ members.entry.items) }
+{
+    let mut members = members;
+    if members.len() < 2 {
+        return Ok(members.pop().unwrap_or(AnyScorer::Empty(EmptyScorer)));
+    }
+    let top = held_bound(&members);
+    let mut others = by_cost(alloc, members)?;
+    let leader = others.remove(0);
+    let first = doc_tree(&leader);
+    let mut node = IntersectionNode {
+        leader,
+        others,
+        num_docs: num_docs_segment,
+        top,
+    };
+    align(&mut node, first);
+    Ok(AnyScorer::Intersection(Box::new(alloc, node)?))
+}
+
+// The sum of the scorers' greatest scores, held at the greatest score.
+fn held_bound<'a, S: Scorer>(members: &[AnyScorer<'a, S>]) -> u64
+    requires valid { All (IsTree S.DocSet) members.now }
+    ensures { result ≡ held_sum (map (tree_top S.DocSet) members.now) }
+{
+    let mut sum = 0;
+    for member in members {
+        sum = (sum + bound_of(member)).min(GREATEST_SCORE);
+    }
+    sum
+}

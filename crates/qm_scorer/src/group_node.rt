@@ -1,0 +1,192 @@
+//! A node over several scorers, of which a minimum has each document.
+
+ghost use Rattle.std.specs.Prelude.{◌≡◌, ◌<◌, ◌≤◌, ◌↔◌, All, length, map, true};
+ghost use Rattle.qm_docset.specs.Cursor.{IsSeekAnswer};
+ghost use Rattle.qm_docset.specs.Entry.{from, greatest_score, head_document, head_score};
+ghost use Rattle.qm_docset.specs.Gather.{scores_at};
+ghost use Rattle.qm_combine.specs.Union.{least_head};
+ghost use Rattle.qm_scorer.specs.AnyCombiner.{AnyHasRoom, any_step};
+ghost use Rattle.qm_scorer.specs.Group.{AreStanding, IsGroupNode, group_entries, group_lists};
+ghost use Rattle.qm_scorer.specs.Tree.{HasRoom, IsTree};
+ghost use Rattle.qm_scorer.specs.declared.group_node.GroupNode.{size-GroupNode};
+
+use crate::any_combiner::AnyCombiner;
+use crate::any_scorer::{AnyScorer, doc_tree, hint_tree, reach_tree, score_tree};
+use qm_combine::{AllScorer, ConstScorer, ScoreCombiner, Scorer};
+use qm_docset::{DocId, Score, SeekDangerResult, TERMINATED};
+
+/// Which documents a group lists, what it makes of their scores, and the bound on that.
+#[derive(Clone, Copy, Debug)]
+pub struct Shape {
+    pub(crate) minimum: usize,
+    pub(crate) combiner: AnyCombiner,
+    pub(crate) top: u64,
+}
+
+/// The documents that at least a minimum of its members have, each with what a combiner makes of the
+/// members' scores there.
+///
+/// A plain scan: a step or a seek asks every member where it stands and moves those below the target,
+/// a score asks again, and nothing is kept between calls but the document. A seek at or below the
+/// document does nothing.
+#[cycle(any)]
+#[derive(Drop)]
+pub struct GroupNode<'a, S> {
+    pub(crate) members: Vec<AnyScorer<'a, S>>,
+    pub(crate) shape: Shape,
+    pub(crate) current: DocId,
+}
+
+// Moves those members that stand below the target to their first document at or past it, and answers
+// the least document that one of them then stands on.
+#[cycle(moves)]
+#[tactic(auto, using(crate::specs::MoveFacts::moves))]
+pub(crate) fn reach_members<'a, S: Scorer>(node: &mut GroupNode<'a, S>, target: DocId) -> DocId
+    requires members { AreStanding S.DocSet node.old }
+    requires target { target ≤ TERMINATED }
+    ensures least { result ≡ least_head (group_lists S.DocSet node.new) }
+    ensures lists { group_lists S.DocSet node.new ≡ map (from target) (group_lists S.DocSet node.old) }
+    ensures members { AreStanding S.DocSet node.new }
+    ensures shape { node.new.shape ≡ node.old.shape }
+    ensures current { node.new.current ≡ node.old.current }
+    ensures depth { size-GroupNode _ node.new ≤ size-GroupNode _ node.old }
+{
+    let mut least = TERMINATED;
+    for i in 0..node.members.len() {
+        least = reach_tree(&mut node.members[i], target).min(least);
+    }
+    least
+}
+
+// Whether at least a minimum of the members, all of which stand at or past a document, has it.
+fn has_enough<'a, S: Scorer>(node: &GroupNode<'a, S>, doc: DocId) -> bool
+    requires members { AreStanding S.DocSet node.now }
+    requires doc { doc < TERMINATED }
+    requires least { doc ≡ least_head (group_lists S.DocSet node.now) }
+    ensures { (result ≡ true) ↔ (node.now.shape.minimum ≤ length (scores_at doc (group_lists S.DocSet node.now))) }
+{
+    if node.shape.minimum <= 1 {
+        return true;
+    }
+    let mut count = 0;
+    for member in &node.members {
+        if doc_tree(member) == doc {
+            count += 1;
+        }
+    }
+    node.shape.minimum <= count
+}
+
+// Moves the members to the first document at or past the target that enough of them have, and
+// answers it. The node's own document is not changed.
+#[cycle(moves)]
+#[tactic(auto, using(crate::specs::MoveFacts::moves))]
+pub(crate) fn next_match<'a, S: Scorer>(node: &mut GroupNode<'a, S>, target: DocId) -> DocId
+    requires members { AreStanding S.DocSet node.old }
+    requires some { 1 ≤ node.old.shape.minimum }
+    requires room { HasRoom (group_lists S.DocSet node.old) }
+    requires target { target ≤ TERMINATED }
+    ensures head { result ≡ head_document (group_entries S.DocSet node.new) }
+    ensures least { result ≡ least_head (group_lists S.DocSet node.new) }
+    ensures entries { group_entries S.DocSet node.new ≡ from target (group_entries S.DocSet node.old) }
+    ensures members { AreStanding S.DocSet node.new }
+    ensures room { HasRoom (group_lists S.DocSet node.new) }
+    ensures shape { node.new.shape ≡ node.old.shape }
+    ensures depth { size-GroupNode _ node.new ≤ size-GroupNode _ node.old }
+{
+    let mut doc = reach_members(node, target);
+    // no document before this one is left in any member
+    while doc < TERMINATED && !has_enough(node, doc) {
+        doc = reach_members(node, doc + 1);
+    }
+    doc
+}
+
+// Moves the node to its first document at or past the target.
+#[cycle(moves)]
+#[tactic(auto, using(crate::specs::MoveFacts::moves))]
+pub(crate) fn seek_group<'a, S: Scorer>(node: &mut GroupNode<'a, S>, target: DocId) -> DocId
+    requires valid { IsGroupNode S.DocSet node.old }
+    requires target { target ≤ TERMINATED }
+    ensures head { result ≡ head_document (group_entries S.DocSet node.new) }
+    ensures entries { group_entries S.DocSet node.new ≡ from target (group_entries S.DocSet node.old) }
+    ensures valid { IsGroupNode S.DocSet node.new }
+    ensures shape { node.new.shape ≡ node.old.shape }
+    ensures depth { size-GroupNode _ node.new ≤ size-GroupNode _ node.old }
+{
+    if node.current < target {
+        node.current = next_match(node, target);
+    }
+    node.current
+}
+
+// Drops what lies below the target, and says whether the target is the first that is left. The node
+// is placed in either case.
+#[cycle(moves)]
+#[tactic(auto, using(crate::specs::MoveFacts::moves))]
+pub(crate) fn danger_group<'a, S: Scorer>(
+    node: &mut GroupNode<'a, S>,
+    target: DocId,
+) -> SeekDangerResult
+    requires valid { IsGroupNode S.DocSet node.old }
+    requires target { target ≤ TERMINATED }
+    ensures answer { IsSeekAnswer target (group_entries S.DocSet node.new) result }
+    ensures entries { group_entries S.DocSet node.new ≡ from target (group_entries S.DocSet node.old) }
+    ensures valid { IsGroupNode S.DocSet node.new }
+    ensures shape { node.new.shape ≡ node.old.shape }
+    ensures depth { size-GroupNode _ node.new ≤ size-GroupNode _ node.old }
+{
+    let doc = seek_group(node, target);
+    if doc == target && target < TERMINATED {
+        SeekDangerResult::Found
+    } else {
+        SeekDangerResult::SeekLowerBound(doc)
+    }
+}
+
+// Hands a score to a combiner.
+fn take_score(combiner: &mut AnyCombiner, score: u64)
+    requires score { score ≤ greatest_score }
+    requires room { AnyHasRoom combiner.old score }
+    ensures { combiner.new ≡ any_step combiner.old score }
+{
+    combiner.update(&mut ConstScorer::new(AllScorer::new(1), score as Score));
+}
+
+// The score of the node's document: what the combiner, cleared, makes of those of the members that
+// stand on it.
+#[cycle(scores)]
+#[tactic(auto, using(crate::specs::MoveFacts::scores))]
+pub(crate) fn score_group<'a, S: Scorer>(node: &mut GroupNode<'a, S>) -> u64
+    requires valid { IsGroupNode S.DocSet node.old }
+    requires here { node.old.current < TERMINATED }
+    ensures score { result ≡ head_score (group_entries S.DocSet node.old) }
+    ensures fits { result ≤ greatest_score }
+    ensures lists { group_lists S.DocSet node.new ≡ group_lists S.DocSet node.old }
+    ensures valid { IsGroupNode S.DocSet node.new }
+    ensures shape { node.new.shape ≡ node.old.shape }
+    ensures current { node.new.current ≡ node.old.current }
+    ensures depth { size-GroupNode _ node.new ≤ size-GroupNode _ node.old }
+{
+    let doc = node.current;
+    let mut combiner = node.shape.combiner;
+    combiner.clear();
+    for i in 0..node.members.len() {
+        if doc_tree(&node.members[i]) == doc {
+            take_score(&mut combiner, score_tree(&mut node.members[i]));
+        }
+    }
+    combiner.score() as u64
+}
+
+// About how many documents remain: as many as the largest of the members has.
+#[cycle(hints)]
+pub(crate) fn hint_group<'a, S: Scorer>(node: &GroupNode<'a, S>) -> u32
+    requires members { All (IsTree S.DocSet) node.now.members.items }
+{
+    let mut hint = 0;
+    for member in &node.members {
+        hint = hint_tree(member).max(hint);
+    }
+    hint
+}

@@ -1,0 +1,181 @@
+//! Weights with other weights inside, over a segment of three documents, which are "a a", "b" and "a b c".
+
+use crate::tests::weights::{assert_lists, segment, term};
+use crate::{AllWeight, AnyWeight, BooleanWeight, BoostWeight, ConstWeight, EmptyWeight, Weight};
+use qm_combine::{DisjunctionMaxCombiner, EmptyScorer, SumCombiner};
+use qm_docset::{DocId, Score};
+use qm_schema::{IndexRecordOption, Occur, QueryError};
+use qm_scorer::{AnyCombiner, AnyScorer};
+use std::alloc::Global;
+use std::process::Abort;
+use std::test::Fail;
+
+/// What a clause matches.
+#[derive(Clone, Copy)]
+enum Inside {
+    /// Every document, with the score 1.
+    All,
+    /// No document.
+    Nothing,
+    /// Every document, with this score.
+    Constant(u32),
+    /// The documents 0 and 2, with the scores 500 and 250.
+    Term,
+}
+
+fn weight_of(alloc: Global, inside: Inside) -> Result<Box<AnyWeight>, QueryError> {
+    let weight = match inside {
+        Inside::All => AnyWeight::All(AllWeight),
+        Inside::Nothing => AnyWeight::Empty(EmptyWeight),
+        Inside::Constant(score) => {
+            let all = Box::new(alloc, AnyWeight::All(AllWeight))?;
+            AnyWeight::Const(ConstWeight::new(all, Score::from(score)))
+        }
+        Inside::Term => AnyWeight::Term(term(alloc, "a", IndexRecordOption::WithFreqs, 1000)?),
+    };
+    Ok(Box::new(alloc, weight)?)
+}
+
+/// The weight of clauses, with scoring on.
+fn boolean(
+    alloc: Global,
+    clauses: &[(Occur, Inside)],
+    minimum: usize,
+    combiner: AnyCombiner,
+) -> Result<BooleanWeight, QueryError> {
+    let mut weights = Vec::new(alloc);
+    for (occur, inside) in clauses {
+        weights.push((*occur, weight_of(alloc, *inside)?))?;
+    }
+    Ok(BooleanWeight::with_minimum_number_should_match(weights, minimum, true, combiner))
+}
+
+fn sum() -> AnyCombiner {
+    AnyCombiner::Sum(SumCombiner::default())
+}
+
+/// The greatest score, with so many thousandths of the others.
+fn greatest(tie_breaker: u32) -> Result<AnyCombiner, QueryError> {
+    Ok(AnyCombiner::DisjunctionMax(DisjunctionMaxCombiner::with_tie_breaker(tie_breaker)?))
+}
+
+/// Asserts that a weight lists every document with this score, or no document.
+fn assert_everywhere<W: Weight>(
+    rt: &(impl Abort + AllocGlobal),
+    weight: &W,
+    want: Option<Score>,
+) -> Result<(), Fail> {
+    match want {
+        Some(score) => assert_lists(rt, weight, &[(0, score), (1, score), (2, score)]),
+        None => assert_lists(rt, weight, &[]),
+    }
+}
+
+#[test]
+fn clauses_over_every_document(rt: HostRuntime) -> Result<(), Fail> {
+    use Inside::{All, Constant, Nothing};
+    use Occur::{Must, MustNot, Should};
+    let rows: [(&[(Occur, Inside)], usize, AnyCombiner, Option<Score>); 8] = [
+        (&[(Must, All), (Should, Constant(4))], 0, sum(), Some(5)),
+        (
+            &[(Should, All), (Should, All), (Should, All)],
+            2,
+            sum(),
+            Some(3),
+        ),
+        (&[(MustNot, Nothing)], 0, sum(), None),
+        (&[], 0, sum(), None),
+        (&[(Should, Constant(300))], 2, sum(), None),
+        (
+            &[(Should, Constant(300)), (Should, Constant(500))],
+            1,
+            greatest(700)?,
+            Some(710),
+        ),
+        (
+            &[(Should, Constant(300)), (Should, Constant(500))],
+            2,
+            greatest(0)?,
+            Some(500),
+        ),
+        (&[(Must, All), (MustNot, All)], 0, sum(), None),
+    ];
+    for (clauses, minimum, combiner, want) in rows {
+        assert_everywhere(&rt, &boolean(rt.alloc(), clauses, minimum, combiner)?, want)?;
+    }
+    Ok(())
+}
+
+#[test]
+fn clauses_beside_a_term(rt: HostRuntime) -> Result<(), Fail> {
+    use Inside::{All, Constant, Term};
+    use Occur::{Must, MustNot, Should};
+    let rows: [(&[(Occur, Inside)], usize, AnyCombiner, &[(DocId, Score)]); 5] = [
+        (
+            &[(Must, Term), (Should, Constant(3)), (Should, Constant(5))],
+            1,
+            greatest(1000)?,
+            &[(0, 508), (2, 258)],
+        ),
+        (
+            &[(Must, Term), (Should, Constant(3)), (Should, Constant(5))],
+            0,
+            greatest(0)?,
+            &[(0, 505), (2, 255)],
+        ),
+        (
+            &[(Must, All), (Should, Term)],
+            0,
+            sum(),
+            &[(0, 501), (1, 1), (2, 251)],
+        ),
+        (&[(Must, All), (MustNot, Term)], 1, sum(), &[]),
+        (&[(Should, All), (MustNot, Term)], 1, sum(), &[(1, 1)]),
+    ];
+    for (clauses, minimum, combiner, want) in rows {
+        assert_lists(&rt, &boolean(rt.alloc(), clauses, minimum, combiner)?, want)?;
+    }
+    Ok(())
+}
+
+#[test]
+fn a_boost_over_the_greatest_of_constants(rt: HostRuntime) -> Result<(), Fail> {
+    let clauses = [
+        (Occur::Should, Inside::Constant(1)),
+        (Occur::Should, Inside::Constant(2)),
+    ];
+    let inside = AnyWeight::Boolean(boolean(rt.alloc(), &clauses, 1, greatest(500)?)?);
+    let weight = BoostWeight::new(Box::new(rt.alloc(), inside)?, 3);
+    assert_everywhere(&rt, &AnyWeight::Boost(weight), Some(7))
+}
+
+#[test]
+fn scores_past_the_greatest(rt: HostRuntime) -> Result<(), Fail> {
+    let reader = segment(rt.alloc())?;
+    let heavy = AnyWeight::Term(term(rt.alloc(), "a", IndexRecordOption::Basic, 2)?);
+    let boosted = BoostWeight::new(Box::new(rt.alloc(), heavy)?, Score::MAX);
+    let scorer: Result<AnyScorer<'_, EmptyScorer>, QueryError> = boosted.scorer(
+        rt.alloc(),
+        &reader,
+        1,
+    );
+    assert_eq!(&rt; scorer.err(), Some(QueryError::ScoreBound));
+
+    let all = Box::new(rt.alloc(), AnyWeight::All(AllWeight))?;
+    assert_everywhere(&rt, &ConstWeight::new(all, Score::MAX), Some(Score::MAX))?;
+
+    let mut clauses = Vec::new(rt.alloc());
+    for _ in 0..2 {
+        let all = Box::new(rt.alloc(), AnyWeight::All(AllWeight))?;
+        let constant = AnyWeight::Const(ConstWeight::new(all, Score::MAX));
+        clauses.push((Occur::Should, Box::new(rt.alloc(), constant)?))?;
+    }
+    let both = BooleanWeight::new(clauses, true, sum());
+    let scorer: Result<AnyScorer<'_, EmptyScorer>, QueryError> = both.scorer(
+        rt.alloc(),
+        &reader,
+        1,
+    );
+    assert_eq!(&rt; scorer.err(), Some(QueryError::ScoreBound));
+    Ok(())
+}
