@@ -7,3 +7,4 @@ pub mod Refusals
 pub mod Query
 pub mod QueryTree
 pub mod WeightRefusals
+pub mod QueryScorers

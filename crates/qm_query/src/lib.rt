@@ -19,6 +19,7 @@ mod offsets;
 mod phrase_prefix_query;
 mod phrase_query;
 mod query;
+mod scorers;
 mod term_query;
 
 pub use all_query::AllQuery;
@@ -32,6 +33,7 @@ pub use enable_scoring::EnableScoring;
 pub use phrase_prefix_query::PhrasePrefixQuery;
 pub use phrase_query::PhraseQuery;
 pub use query::{Query, QueryClone};
+pub use scorers::query_scorer;
 pub use term_query::TermQuery;
 
 #[cfg(test)]
