@@ -2,3 +2,6 @@ pub mod BuilderLemmas
 pub mod ClauseWeights
 pub mod NoWeight
 pub mod Rows
+pub mod VisitSteps
+pub mod SearchFacts
+pub mod ScoringTrees

@@ -5,6 +5,9 @@ pub mod Offsets
 pub mod Parts
 pub mod Refusals
 pub mod Query
+pub mod QueryMatches
 pub mod QueryTree
 pub mod WeightRefusals
 pub mod QueryScorers
+pub mod QueryTerms
+pub mod Searches

@@ -4,6 +4,7 @@ ghost use Rattle.std.specs.Prelude.{◌≡◌, IfErr, IfOk, IsOkUnless, IsTrue};
 ghost use Rattle.qm_weight.specs.Weights.{tree_of};
 ghost use Rattle.qm_query.specs.EnableScoring.{schema_of};
 ghost use Rattle.qm_query.specs.Fields.{is_served};
+ghost use Rattle.qm_query.specs.QueryTerms.{MayVisitTerms, VisitsTerms, terms_of_query};
 ghost use Rattle.qm_query.specs.QueryTree.{query_tree};
 ghost use Rattle.qm_query.specs.WeightRefusals.{IsWeightRefusal};
 
@@ -19,7 +20,7 @@ use crate::phrase_query::PhraseQuery;
 use crate::query::Query;
 use crate::term_query::TermQuery;
 use qm_postings::Bm25StatisticsProvider;
-use qm_schema::QueryError;
+use qm_schema::{QueryError, Term};
 use qm_weight::AnyWeight;
 use std::alloc::Global;
 
@@ -92,6 +93,25 @@ impl AnyQuery {
             AnyQuery::Boost(query) => query.build_weight(alloc, enable_scoring),
             AnyQuery::ConstScore(query) => query.build_weight(alloc, enable_scoring),
             AnyQuery::DisjunctionMax(query) => query.build_weight(alloc, enable_scoring),
+        }
+    }
+
+    // A call with each term that the query names; see [`Query::query_terms`].
+    #[cycle(visits)]
+    pub(crate) fn visit_terms<F: FnMut(&Term, bool)>(&self, visitor: &mut F)
+        requires allowed { MayVisitTerms F.FnMut visitor.old (terms_of_query (query_of self.now)) }
+        ensures calls { VisitsTerms F.FnMut visitor.old (terms_of_query (query_of self.now)) visitor.new }
+    {
+        match self {
+            AnyQuery::All(query) => query.query_terms(visitor),
+            AnyQuery::Empty(query) => query.query_terms(visitor),
+            AnyQuery::Term(query) => query.query_terms(visitor),
+            AnyQuery::Phrase(query) => query.query_terms(visitor),
+            AnyQuery::PhrasePrefix(query) => query.query_terms(visitor),
+            AnyQuery::Boolean(query) => query.visit_terms(visitor),
+            AnyQuery::Boost(query) => query.visit_terms(visitor),
+            AnyQuery::ConstScore(query) => query.visit_terms(visitor),
+            AnyQuery::DisjunctionMax(query) => query.visit_terms(visitor),
         }
     }
 }

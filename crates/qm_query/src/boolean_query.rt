@@ -4,6 +4,8 @@ ghost use Rattle.std.specs.Prelude.{◌≡◌, IfErr, IfOk, IsOkUnless, IsTrue, 
 ghost use Rattle.qm_weight.specs.Weights.{tree_of};
 ghost use Rattle.qm_query.specs.EnableScoring.{schema_of};
 ghost use Rattle.qm_query.specs.Fields.{is_served};
+ghost use Rattle.qm_query.specs.Query.{query_of};
+ghost use Rattle.qm_query.specs.QueryTerms.{MayVisitTerms, VisitsTerms, terms_of_query};
 ghost use Rattle.qm_query.specs.QueryTree.{query_tree};
 ghost use Rattle.qm_query.specs.WeightRefusals.{IsWeightRefusal};
 ghost use Rattle.std.specs.List.{list_all};
@@ -12,12 +14,14 @@ ghost use Rattle.qm_query.specs.Occurs.{is_should};
 use crate::any_query::AnyQuery;
 use crate::enable_scoring::EnableScoring;
 use crate::query::Query;
+use crate::searches::{count_alive, segment_at};
 use crate::term_query::TermQuery;
 use qm_combine::SumCombiner;
-use qm_postings::Bm25StatisticsProvider;
+use qm_postings::{Bm25StatisticsProvider, DocAddress, Searcher};
 use qm_schema::{IndexRecordOption, Occur, QueryError, Term};
 use qm_scorer::AnyCombiner;
-use qm_weight::{AnyWeight, BooleanWeight};
+use qm_term::Explanation;
+use qm_weight::{AnyWeight, BooleanWeight, Weight};
 use std::alloc::Global;
 
 /// Matches the documents that every Must clause matches, no MustNot clause does, and at least so many
@@ -200,6 +204,27 @@ impl BooleanQuery {
         );
         Ok(Box::new(alloc, AnyWeight::Boolean(weight))?)
     }
+
+    // A call with each term that the query names; see [`Query::query_terms`].
+    #[cycle(visits)]
+    pub(crate) fn visit_terms<F: FnMut(&Term, bool)>(&self, visitor: &mut F)
+        requires allowed { MayVisitTerms F.FnMut visitor.old (terms_of_query (boolean_of self.now)) }
+        ensures calls { VisitsTerms F.FnMut visitor.old (terms_of_query (boolean_of self.now)) visitor.new }
+    {
+        // the calls for the clauses that are left are those that are still to come
+        for clause in &self.subqueries {
+            visit_clause(clause, visitor);
+        }
+    }
+}
+
+// The calls for one clause, however it occurs.
+#[cycle(visits)]
+fn visit_clause<F: FnMut(&Term, bool)>(clause: &(Occur, Box<AnyQuery>), visitor: &mut F)
+    requires allowed { MayVisitTerms F.FnMut visitor.old (terms_of_query (query_of clause.now.1.value)) }
+    ensures calls { VisitsTerms F.FnMut visitor.old (terms_of_query (query_of clause.now.1.value)) visitor.new }
+{
+    (*clause.1).visit_terms(visitor);
 }
 
 // Whether all clauses are Should clauses.
@@ -243,5 +268,26 @@ impl Query for BooleanQuery {
         enable_scoring: EnableScoring<'_, P>,
     ) -> Result<Box<AnyWeight>, QueryError> {
         self.build_weight(alloc, enable_scoring)
+    }
+
+    fn count(&self, alloc: Global, searcher: &Searcher) -> Result<usize, QueryError> {
+        let enable_scoring = EnableScoring::<Searcher>::disabled_from_searcher(searcher);
+        let weight = self.weight(alloc, enable_scoring)?;
+        count_alive(&weight, alloc, searcher)
+    }
+
+    fn explain(
+        &self,
+        alloc: Global,
+        searcher: &Searcher,
+        address: DocAddress,
+    ) -> Result<Explanation, QueryError> {
+        let reader = segment_at(searcher, address)?;
+        let weight = self.weight(alloc, EnableScoring::enabled_from_searcher(searcher))?;
+        (*weight).explain(alloc, reader, address.doc_id)
+    }
+
+    fn query_terms<F: FnMut(&Term, bool)>(&self, visitor: &mut F) {
+        self.visit_terms(visitor);
     }
 }

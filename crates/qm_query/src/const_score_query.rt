@@ -4,6 +4,7 @@ ghost use Rattle.std.specs.Prelude.{◌≡◌, ◌≤ℤ◌, IfErr, IfOk, IsOkUn
 ghost use Rattle.qm_weight.specs.Weights.{tree_of};
 ghost use Rattle.qm_query.specs.EnableScoring.{schema_of};
 ghost use Rattle.qm_query.specs.Fields.{is_served};
+ghost use Rattle.qm_query.specs.QueryTerms.{MayVisitTerms, VisitsTerms, terms_of_query};
 ghost use Rattle.qm_query.specs.QueryTree.{query_tree};
 ghost use Rattle.qm_query.specs.WeightRefusals.{IsWeightRefusal};
 
@@ -11,10 +12,12 @@ use crate::any_query::AnyQuery;
 use crate::enable_scoring::EnableScoring;
 use crate::factor::Factor;
 use crate::query::Query;
+use crate::searches::{count_alive, segment_at};
 use qm_docset::Score;
-use qm_postings::Bm25StatisticsProvider;
-use qm_schema::QueryError;
-use qm_weight::{AnyWeight, ConstWeight};
+use qm_postings::{Bm25StatisticsProvider, DocAddress, Searcher};
+use qm_schema::{QueryError, Term};
+use qm_term::Explanation;
+use qm_weight::{AnyWeight, ConstWeight, Weight};
 use std::alloc::Global;
 
 /// Matches what another query matches, and gives each document one score, times the boost that the
@@ -72,6 +75,15 @@ impl ConstScoreQuery {
         let weight = ConstWeight::new(inside, self.score.score());
         Ok(Box::new(alloc, AnyWeight::Const(weight))?)
     }
+
+    // A call with each term that the query names; see [`Query::query_terms`].
+    #[cycle(visits)]
+    pub(crate) fn visit_terms<F: FnMut(&Term, bool)>(&self, visitor: &mut F)
+        requires allowed { MayVisitTerms F.FnMut visitor.old (terms_of_query (constant_of self.now)) }
+        ensures calls { VisitsTerms F.FnMut visitor.old (terms_of_query (constant_of self.now)) visitor.new }
+    {
+        (*self.underlying).visit_terms(visitor);
+    }
 }
 
 impl Query for ConstScoreQuery {
@@ -85,5 +97,26 @@ impl Query for ConstScoreQuery {
         enable_scoring: EnableScoring<'_, P>,
     ) -> Result<Box<AnyWeight>, QueryError> {
         self.build_weight(alloc, enable_scoring)
+    }
+
+    fn count(&self, alloc: Global, searcher: &Searcher) -> Result<usize, QueryError> {
+        let enable_scoring = EnableScoring::<Searcher>::disabled_from_searcher(searcher);
+        let weight = self.weight(alloc, enable_scoring)?;
+        count_alive(&weight, alloc, searcher)
+    }
+
+    fn explain(
+        &self,
+        alloc: Global,
+        searcher: &Searcher,
+        address: DocAddress,
+    ) -> Result<Explanation, QueryError> {
+        let reader = segment_at(searcher, address)?;
+        let weight = self.weight(alloc, EnableScoring::enabled_from_searcher(searcher))?;
+        (*weight).explain(alloc, reader, address.doc_id)
+    }
+
+    fn query_terms<F: FnMut(&Term, bool)>(&self, visitor: &mut F) {
+        self.visit_terms(visitor);
     }
 }

@@ -4,17 +4,20 @@ ghost use Rattle.std.specs.Prelude.{◌≡◌, ◌<◌, ◌↔◌, IfErr, IfOk, 
 ghost use Rattle.qm_weight.specs.Weights.{tree_of};
 ghost use Rattle.qm_query.specs.EnableScoring.{schema_of};
 ghost use Rattle.qm_query.specs.Fields.{is_served};
+ghost use Rattle.qm_query.specs.QueryTerms.{MayVisitTerms, VisitsTerms, terms_of_query};
 ghost use Rattle.qm_query.specs.QueryTree.{query_tree};
 ghost use Rattle.qm_query.specs.WeightRefusals.{IsWeightRefusal};
 
 use crate::any_query::AnyQuery;
 use crate::enable_scoring::EnableScoring;
 use crate::query::Query;
+use crate::searches::{count_alive, segment_at};
 use qm_combine::DisjunctionMaxCombiner;
-use qm_postings::Bm25StatisticsProvider;
-use qm_schema::{Occur, QueryError};
+use qm_postings::{Bm25StatisticsProvider, DocAddress, Searcher};
+use qm_schema::{Occur, QueryError, Term};
 use qm_scorer::AnyCombiner;
-use qm_weight::{AnyWeight, BooleanWeight};
+use qm_term::Explanation;
+use qm_weight::{AnyWeight, BooleanWeight, Weight};
 use std::alloc::Global;
 
 /// Matches what at least one of several queries matches, and scores the greatest of their scores, and
@@ -94,6 +97,18 @@ impl DisjunctionMaxQuery {
         let weight = BooleanWeight::new(weights, scoring, AnyCombiner::from(self.combiner));
         Ok(Box::new(alloc, AnyWeight::Boolean(weight))?)
     }
+
+    // A call with each term that the query names; see [`Query::query_terms`].
+    #[cycle(visits)]
+    pub(crate) fn visit_terms<F: FnMut(&Term, bool)>(&self, visitor: &mut F)
+        requires allowed { MayVisitTerms F.FnMut visitor.old (terms_of_query (disjunction_max_of self.now)) }
+        ensures calls { VisitsTerms F.FnMut visitor.old (terms_of_query (disjunction_max_of self.now)) visitor.new }
+    {
+        // the calls for the disjuncts that are left are those that are still to come
+        for query in &self.disjuncts {
+            (**query).visit_terms(visitor);
+        }
+    }
 }
 
 impl Query for DisjunctionMaxQuery {
@@ -107,5 +122,26 @@ impl Query for DisjunctionMaxQuery {
         enable_scoring: EnableScoring<'_, P>,
     ) -> Result<Box<AnyWeight>, QueryError> {
         self.build_weight(alloc, enable_scoring)
+    }
+
+    fn count(&self, alloc: Global, searcher: &Searcher) -> Result<usize, QueryError> {
+        let enable_scoring = EnableScoring::<Searcher>::disabled_from_searcher(searcher);
+        let weight = self.weight(alloc, enable_scoring)?;
+        count_alive(&weight, alloc, searcher)
+    }
+
+    fn explain(
+        &self,
+        alloc: Global,
+        searcher: &Searcher,
+        address: DocAddress,
+    ) -> Result<Explanation, QueryError> {
+        let reader = segment_at(searcher, address)?;
+        let weight = self.weight(alloc, EnableScoring::enabled_from_searcher(searcher))?;
+        (*weight).explain(alloc, reader, address.doc_id)
+    }
+
+    fn query_terms<F: FnMut(&Term, bool)>(&self, visitor: &mut F) {
+        self.visit_terms(visitor);
     }
 }

@@ -8,7 +8,7 @@ ghost use Rattle.qm_query.specs.QueryTree.{leaf_weighing};
 ghost use Rattle.qm_query.specs.WeightRefusals.{IsByProvider};
 
 use crate::enable_scoring::EnableScoring;
-use crate::offsets::clone_without_offsets;
+use crate::offsets::{clone_without_offsets, put_at_offsets};
 use qm_postings::Bm25StatisticsProvider;
 use qm_schema::{QueryError, Term};
 use qm_term::Bm25Weight;
@@ -31,20 +31,21 @@ pub(crate) fn leaf_weight<P: Bm25StatisticsProvider>(
     }
 }
 
-// The same of terms with offsets.
-pub(crate) fn phrase_weight<P: Bm25StatisticsProvider>(
+// The terms of a phrase with their offsets, in memory of their own, and what they weigh together. Each
+// is copied once: the provider is shown the copies that the weight is to keep.
+pub(crate) fn weighed_terms<P: Bm25StatisticsProvider>(
     alloc: Global,
     enable_scoring: EnableScoring<'_, P>,
     terms: &[(usize, Term)],
-) -> Result<Option<Bm25Weight>, QueryError>
-    ensures weighing { IfOk result (λ weight. weighing_of weight ≡ leaf_weighing P.Bm25StatisticsProvider enable_scoring.entry (terms_of terms.now)) }
+) -> Result<(Vec<(usize, Term)>, Option<Bm25Weight>), QueryError>
+    ensures terms { IfOk result (λ weighed. weighed.0.items ≡ terms.now) }
+    ensures weighing { IfOk result (λ weighed. weighing_of weighed.1 ≡ leaf_weighing P.Bm25StatisticsProvider enable_scoring.entry (terms_of terms.now)) }
     ensures refused { IfErr result (λ error. (error ≡ Memory) ⊎ IsByProvider P.Bm25StatisticsProvider enable_scoring.entry (terms_of terms.now) error) }
 {
-    if !enable_scoring.is_scoring_enabled() {
-        return Ok(None);
-    }
-    let terms = clone_without_offsets(alloc, terms)?;
-    leaf_weight(enable_scoring, &terms)
+    let copies = clone_without_offsets(alloc, terms)?;
+    let weight = leaf_weight(enable_scoring, &copies)?;
+    let copies = put_at_offsets(alloc, terms, copies)?;
+    Ok((copies, weight))
 }
 
 // The weight of a term that isn't to score.

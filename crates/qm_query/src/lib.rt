@@ -20,7 +20,9 @@ mod phrase_prefix_query;
 mod phrase_query;
 mod query;
 mod scorers;
+mod searches;
 mod term_query;
+mod visits;
 
 pub use all_query::AllQuery;
 pub use any_query::AnyQuery;

@@ -13,14 +13,17 @@ ghost use Rattle.qm_weight.specs.Weights.{prefix_alone, tree_of};
 
 use crate::enable_scoring::EnableScoring;
 use crate::fields::{phrase_field_refusal, term_field_refusal};
-use crate::leaf_weight::phrase_weight;
+use crate::leaf_weight::weighed_terms;
 use crate::offsets::{
     clone_terms, clone_without_offsets, enumerate_terms, row_refusal, sort_by_offset, terms_refusal,
 };
 use crate::query::Query;
-use qm_postings::Bm25StatisticsProvider;
+use crate::searches::{count_alive, segment_at};
+use crate::visits::visit_phrase;
+use qm_postings::{Bm25StatisticsProvider, DocAddress, Searcher};
 use qm_schema::{Field, QueryError, Schema, Term};
-use qm_weight::{AnyWeight, PhrasePrefixWeight, PrefixWeight};
+use qm_term::Explanation;
+use qm_weight::{AnyWeight, PhrasePrefixWeight, PrefixWeight, Weight};
 use std::alloc::Global;
 use std::marker::Model;
 
@@ -142,8 +145,7 @@ impl PhrasePrefixQuery {
         if let Some(refusal) = phrase_field_refusal(enable_scoring.schema(), self.field()) {
             return Err(refusal);
         }
-        let weight = phrase_weight(alloc, enable_scoring, &self.phrase_terms)?;
-        let terms = clone_terms(alloc, &self.phrase_terms)?;
+        let (terms, weight) = weighed_terms(alloc, enable_scoring, &self.phrase_terms)?;
         let prefix = (self.prefix.0, self.prefix.1.clone(alloc)?);
         let weight = PhrasePrefixWeight::new(terms, prefix, weight, self.max_expansions);
         Ok(Box::new(alloc, AnyWeight::PhrasePrefix(weight))?)
@@ -205,5 +207,26 @@ impl Query for PhrasePrefixQuery {
         } else {
             self.full_weight(alloc, enable_scoring)
         }
+    }
+
+    fn count(&self, alloc: Global, searcher: &Searcher) -> Result<usize, QueryError> {
+        let enable_scoring = EnableScoring::<Searcher>::disabled_from_searcher(searcher);
+        let weight = self.weight(alloc, enable_scoring)?;
+        count_alive(&weight, alloc, searcher)
+    }
+
+    fn explain(
+        &self,
+        alloc: Global,
+        searcher: &Searcher,
+        address: DocAddress,
+    ) -> Result<Explanation, QueryError> {
+        let reader = segment_at(searcher, address)?;
+        let weight = self.weight(alloc, EnableScoring::enabled_from_searcher(searcher))?;
+        (*weight).explain(alloc, reader, address.doc_id)
+    }
+
+    fn query_terms<F: FnMut(&Term, bool)>(&self, visitor: &mut F) {
+        visit_phrase(&self.phrase_terms, visitor);
     }
 }

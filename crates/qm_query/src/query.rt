@@ -1,11 +1,14 @@
 //! What every query can do.
 
 ghost use Rattle.std.specs.Prelude.{◌≡◌, IfErr, IfOk, IsOkUnless, IsTrue};
+ghost use Rattle.qm_term.specs.Explained.{value_of};
 ghost use Rattle.qm_weight.specs.Weights.{tree_of};
 ghost use Rattle.qm_query.specs.EnableScoring.{schema_of};
 ghost use Rattle.qm_query.specs.Fields.{is_served};
 ghost use Rattle.qm_query.specs.Query.{Query, query_of};
+ghost use Rattle.qm_query.specs.QueryTerms.{MayVisitTerms, VisitsTerms, terms_of_query};
 ghost use Rattle.qm_query.specs.QueryTree.{query_tree};
+ghost use Rattle.qm_query.specs.Searches.{IsCountOf, IsCountRefusal, IsExplainedAt, IsUnexplainedAt};
 ghost use Rattle.qm_query.specs.WeightRefusals.{IsWeightRefusal};
 
 use crate::all_query::AllQuery;
@@ -18,10 +21,12 @@ use crate::empty_query::EmptyQuery;
 use crate::enable_scoring::EnableScoring;
 use crate::phrase_prefix_query::PhrasePrefixQuery;
 use crate::phrase_query::PhraseQuery;
+use crate::searches::{count_alive, segment_at};
 use crate::term_query::TermQuery;
-use qm_postings::Bm25StatisticsProvider;
-use qm_schema::QueryError;
-use qm_weight::AnyWeight;
+use qm_postings::{Bm25StatisticsProvider, DocAddress, Searcher};
+use qm_schema::{QueryError, Term};
+use qm_term::Explanation;
+use qm_weight::{AnyWeight, Weight};
 use std::alloc::Global;
 
 /// What is asked for, whatever segment it is asked of.
@@ -49,6 +54,41 @@ pub trait Query {
         ensures tree { IfOk result (λ weight. tree_of weight.value ≡ query_tree P.Bm25StatisticsProvider enable_scoring.entry (query self.now)) }
         ensures served { IfOk result (λ _. IsTrue (is_served (schema_of enable_scoring.entry) (query self.now))) }
         ensures refused { IfErr result (IsWeightRefusal P.Bm25StatisticsProvider enable_scoring.entry (query self.now)) };
+
+    /// How many documents of all segments of a searcher match and weren't deleted, with scoring off.
+    ///
+    /// Refused as [`weight`](Query::weight) is, and then as `Weight::count` is for a segment. Builds
+    /// the weight once, and costs what `Weight::count` does for each segment.
+    fn count(&self, alloc: Global, searcher: &Searcher) -> Result<usize, QueryError>
+        ensures count { IfOk result (IsCountOf ⟦<Searcher as Bm25StatisticsProvider>⟧ searcher.now (query self.now)) }
+        ensures refused { IfErr result (IsCountRefusal ⟦<Searcher as Bm25StatisticsProvider>⟧ searcher.now (query self.now)) };
+
+    /// Why a document of a segment of the searcher scores what it does, by the weights that the
+    /// searcher gives to terms; a deleted one too. The value is its score, at a boost of 1.
+    ///
+    /// Refused with [`QueryError::NoSuchSegment`], before anything else is done, exactly where the
+    /// searcher has no such segment; with [`QueryError::DoesNotMatch`] only where the query doesn't
+    /// match the document; and else as [`weight`](Query::weight) is, and then as `Weight::explain` is.
+    /// Costs what these two cost.
+    fn explain(
+        &self,
+        alloc: Global,
+        searcher: &Searcher,
+        address: DocAddress,
+    ) -> Result<Explanation, QueryError>
+        ensures explained { IfOk result (λ e. IsExplainedAt ⟦<Searcher as Bm25StatisticsProvider>⟧ searcher.now (query self.now) address (value_of e)) }
+        ensures refused { IfErr result (IsUnexplainedAt ⟦<Searcher as Bm25StatisticsProvider>⟧ searcher.now (query self.now) address) };
+
+    /// Calls `visitor` with each term that the query names, and with whether its positions are wanted, in
+    /// the order of the clauses, those of a MustNot too: with a term that is asked for by itself and
+    /// `false`, with each term of a phrase, in the order of the offsets, and `true`, and of a phrase
+    /// prefix with the full terms and `true`, and not with the prefix.
+    ///
+    /// Asks that the visitor may be called so, whatever the calls before left of it. Takes no memory and
+    /// is never refused. Costs a call a term.
+    fn query_terms<F: FnMut(&Term, bool)>(&self, visitor: &mut F)
+        requires allowed { MayVisitTerms F.FnMut visitor.old (terms_of_query (query self.now)) }
+        ensures calls { VisitsTerms F.FnMut visitor.old (terms_of_query (query self.now)) visitor.new };
 }
 
 /// A query that can be copied as a query of any kind.
@@ -177,6 +217,27 @@ impl Query for AnyQuery {
     ) -> Result<Box<AnyWeight>, QueryError> {
         self.build_weight(alloc, enable_scoring)
     }
+
+    fn count(&self, alloc: Global, searcher: &Searcher) -> Result<usize, QueryError> {
+        let enable_scoring = EnableScoring::<Searcher>::disabled_from_searcher(searcher);
+        let weight = self.weight(alloc, enable_scoring)?;
+        count_alive(&weight, alloc, searcher)
+    }
+
+    fn explain(
+        &self,
+        alloc: Global,
+        searcher: &Searcher,
+        address: DocAddress,
+    ) -> Result<Explanation, QueryError> {
+        let reader = segment_at(searcher, address)?;
+        let weight = self.weight(alloc, EnableScoring::enabled_from_searcher(searcher))?;
+        (*weight).explain(alloc, reader, address.doc_id)
+    }
+
+    fn query_terms<F: FnMut(&Term, bool)>(&self, visitor: &mut F) {
+        self.visit_terms(visitor);
+    }
 }
 
 impl Query for Box<AnyQuery> {
@@ -190,6 +251,27 @@ impl Query for Box<AnyQuery> {
         enable_scoring: EnableScoring<'_, P>,
     ) -> Result<Box<AnyWeight>, QueryError> {
         (**self).build_weight(alloc, enable_scoring)
+    }
+
+    fn count(&self, alloc: Global, searcher: &Searcher) -> Result<usize, QueryError> {
+        let enable_scoring = EnableScoring::<Searcher>::disabled_from_searcher(searcher);
+        let weight = self.weight(alloc, enable_scoring)?;
+        count_alive(&weight, alloc, searcher)
+    }
+
+    fn explain(
+        &self,
+        alloc: Global,
+        searcher: &Searcher,
+        address: DocAddress,
+    ) -> Result<Explanation, QueryError> {
+        let reader = segment_at(searcher, address)?;
+        let weight = self.weight(alloc, EnableScoring::enabled_from_searcher(searcher))?;
+        (*weight).explain(alloc, reader, address.doc_id)
+    }
+
+    fn query_terms<F: FnMut(&Term, bool)>(&self, visitor: &mut F) {
+        (**self).visit_terms(visitor);
     }
 }
 

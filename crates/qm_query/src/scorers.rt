@@ -1,7 +1,7 @@
 //! The scorer of a query over a segment, in one call.
 
 ghost use Rattle.std.specs.Prelude.{◌≤ℤ◌, IfErr, IfOk, nat_abs, pos};
-ghost use Rattle.qm_query.specs.QueryScorers.{IsQueryRefusal, IsQueryScorer};
+ghost use Rattle.qm_query.specs.QueryScorers.{IsQueryRefusal, IsQueryScorer, IsScoringIfEnabled};
 
 use crate::enable_scoring::EnableScoring;
 use crate::query::Query;
@@ -29,6 +29,7 @@ pub fn query_scorer<'a, Q: Query, P: Bm25StatisticsProvider, S: Scorer>(
 ) -> Result<AnyScorer<'a, S>, QueryError>
     requires boost { pos 0 ≤ℤ boost }
     ensures scorer { IfOk result (IsQueryScorer ⟦<AnyScorer<'a, S> as DocSet>⟧ P.Bm25StatisticsProvider enable_scoring.entry (Q.query query.now) (nat_abs boost) reader.now.segment) }
+    ensures scoring { IsScoringIfEnabled P.Bm25StatisticsProvider enable_scoring.entry (Q.query query.now) }
     ensures refused { IfErr result (IsQueryRefusal P.Bm25StatisticsProvider enable_scoring.entry (Q.query query.now) (nat_abs boost)) }
 {
     let weight = query.weight(alloc, enable_scoring)?;

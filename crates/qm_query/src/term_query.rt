@@ -11,9 +11,12 @@ use crate::enable_scoring::EnableScoring;
 use crate::fields::term_field_refusal;
 use crate::leaf_weight::{leaf_weight, no_weight};
 use crate::query::Query;
-use qm_postings::Bm25StatisticsProvider;
+use crate::searches::{count_alive, segment_at};
+use crate::visits::visit_term;
+use qm_postings::{Bm25StatisticsProvider, DocAddress, Searcher};
 use qm_schema::{IndexRecordOption, QueryError, Term};
-use qm_weight::{AnyWeight, TermWeight};
+use qm_term::Explanation;
+use qm_weight::{AnyWeight, TermWeight, Weight};
 use std::alloc::Global;
 use std::marker::Model;
 use std::slice;
@@ -108,5 +111,26 @@ impl Query for TermQuery {
     ) -> Result<Box<AnyWeight>, QueryError> {
         let weight = self.specialized_weight(alloc, enable_scoring)?;
         Ok(Box::new(alloc, AnyWeight::Term(weight))?)
+    }
+
+    fn count(&self, alloc: Global, searcher: &Searcher) -> Result<usize, QueryError> {
+        let enable_scoring = EnableScoring::<Searcher>::disabled_from_searcher(searcher);
+        let weight = self.weight(alloc, enable_scoring)?;
+        count_alive(&weight, alloc, searcher)
+    }
+
+    fn explain(
+        &self,
+        alloc: Global,
+        searcher: &Searcher,
+        address: DocAddress,
+    ) -> Result<Explanation, QueryError> {
+        let reader = segment_at(searcher, address)?;
+        let weight = self.weight(alloc, EnableScoring::enabled_from_searcher(searcher))?;
+        (*weight).explain(alloc, reader, address.doc_id)
+    }
+
+    fn query_terms<F: FnMut(&Term, bool)>(&self, visitor: &mut F) {
+        visit_term(&self.term, false, visitor);
     }
 }

@@ -1,10 +1,12 @@
 -- What a builder puts into an intersection.
 use Rattle.std.proofs.Common.{◌≡◌, ℕ, ◌<◌, ◌≤◌, List, [], ◌∷◌, All, get_or, length, map, remove, IsPermutation, arith, sym, ap, subst, ◌∙◌}
+use Rattle.std.proofs.lemmas.List.Elements.{All-head}
 use Rattle.std.proofs.lemmas.List.Sorted.{IsPermutation-map}
 use Rattle.qm_docset.specs.Entry.{AreEntries, Entry, Limits}
 use Rattle.qm_docset.specs.Gather.{common_entries}
 use Rattle.qm_docset.specs.GatherFacts.{AreMembers-map}
 use Rattle.qm_docset.specs.ListFacts.{map-map}
+use Rattle.qm_docset.specs.Lists.{ArePlaced, IsPlaced}
 use Rattle.qm_docset.specs.declared.docset.DocSet.{Ghosts}
 use Rattle.qm_docset.proofs.CommonEntries.{common_entries-permutation}
 use Rattle.qm_combine.specs.HeldSum.{ListsCommon, held_limits, held_sum}
@@ -21,6 +23,12 @@ pub shared-many : {T : Type 0} (D : Ghosts T) (xs : List T) (s : T) → 2 ≤ le
 shared-many D [] s h common = absurd (omega arith)
 shared-many D (x ∷ []) s h common = absurd (omega arith)
 shared-many D (x ∷ y ∷ others) s h common = common
+
+-- what placed cursors share is placed, however many they are
+pub shared-placed : {T : Type 0} (D : Ghosts T) (xs : List T) (s : T) → ArePlaced D xs → ListsShared D xs s → IsPlaced D s
+shared-placed D [] s h shared = record { valid = shared.valid; placed = shared.placed }
+shared-placed D (x ∷ []) s h same = subst (IsPlaced D) (sym same) (record { valid = All-head D.valid x [] h.valid; placed = All-head D.placed x [] h.placed })
+shared-placed D (x ∷ y ∷ others) s h shared = record { valid = shared.valid; placed = shared.placed }
 
 -- the first of a row in another order leads the others
 pub led : {X : Type 0} (xs ys others : List X) (x : X) → IsPermutation xs ys → 0 < length ys → x ≡ get_or ys 0 x → others ≡ remove ys 0 → IsPermutation xs (x ∷ others)

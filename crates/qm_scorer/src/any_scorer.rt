@@ -25,11 +25,15 @@ use qm_phrase::{PhrasePrefixScorer, PhraseScorer};
 use qm_postings::SegmentPostings;
 use qm_term::TermScorer;
 
-/// A scorer of a query: a leaf, or a node over other such scorers. It borrows from the segment whose
-/// terms it goes through, and its leaves may be scorers of the caller's own type `S`.
+/// A scorer of a query, as a tree: a leaf lists documents by itself, and a node makes one list of those
+/// of the scorers below it. It borrows from the segment whose terms it goes through, and its leaves may
+/// be scorers of the caller's own type `S`. A leaf is made by its variant, a node by its builder.
 ///
-/// A call costs what that of the same combinator of `qm_combine` does, and the choice of the variant;
-/// none takes memory.
+/// A call costs the choice of the variant in each node that it comes through, and what the same call of
+/// the combinator of that name in `qm_combine` costs; but a `Disjunction` asks each member where it
+/// stands, and keeps no heap. A leaf answers each call as its cursor does, and so does a `Boost` or a
+/// `Const` over it; every other node goes to its next document by a seek, and fills buffers and counts
+/// by such steps. No call takes memory; each takes stack for every level of the tree that it goes down.
 #[cycle(any)]
 #[derive(Drop)]
 pub enum AnyScorer<'a, S> {
@@ -89,9 +93,31 @@ pub(crate) fn doc_tree<'a, S: Scorer>(scorer: &AnyScorer<'a, S>) -> DocId
 }
 
 // Moves a tree to its first document at or past the target.
+// A term comes first, in a body that is inlined: most of what nodes move are terms.
 #[cycle(moves)]
+#[inline(always)]
 #[tactic(auto, using(crate::specs::MoveFacts::moves))]
 pub(crate) fn seek_tree<'a, S: Scorer>(scorer: &mut AnyScorer<'a, S>, target: DocId) -> DocId
+    requires valid { IsTree S.DocSet scorer.old }
+    requires target { target ≤ TERMINATED }
+    ensures head { result ≡ head_document (tree_entries S.DocSet scorer.new) }
+    ensures entries { tree_entries S.DocSet scorer.new ≡ from target (tree_entries S.DocSet scorer.old) }
+    ensures top { tree_top S.DocSet scorer.new ≡ tree_top S.DocSet scorer.old }
+    ensures valid { IsTree S.DocSet scorer.new }
+    ensures placed { IsTreePlaced S.DocSet scorer.new }
+    ensures depth { size-AnyScorer _ scorer.new ≤ size-AnyScorer _ scorer.old }
+{
+    match scorer {
+        AnyScorer::Term(leaf) => leaf.seek(target),
+        _ => seek_other(scorer, target),
+    }
+}
+
+// The same, whatever the tree is.
+#[cycle(moves)]
+#[inline(never)]
+#[tactic(auto, using(crate::specs::MoveFacts::moves))]
+fn seek_other<'a, S: Scorer>(scorer: &mut AnyScorer<'a, S>, target: DocId) -> DocId
     requires valid { IsTree S.DocSet scorer.old }
     requires target { target ≤ TERMINATED }
     ensures head { result ≡ head_document (tree_entries S.DocSet scorer.new) }
@@ -145,11 +171,32 @@ pub(crate) fn reach_tree<'a, S: Scorer>(scorer: &mut AnyScorer<'a, S>, target: D
 // Drops what lies below the target, and says whether the target is the first that is left; where it is
 // not, the tree may stand nowhere.
 #[cycle(moves)]
+#[inline(always)]
 #[tactic(auto, using(crate::specs::MoveFacts::moves))]
 pub(crate) fn danger_tree<'a, S: Scorer>(
     scorer: &mut AnyScorer<'a, S>,
     target: DocId,
 ) -> SeekDangerResult
+    requires valid { IsTree S.DocSet scorer.old }
+    requires target { target ≤ TERMINATED }
+    ensures answer { IsSeekAnswer target (tree_entries S.DocSet scorer.new) result }
+    ensures entries { tree_entries S.DocSet scorer.new ≡ from target (tree_entries S.DocSet scorer.old) }
+    ensures top { tree_top S.DocSet scorer.new ≡ tree_top S.DocSet scorer.old }
+    ensures valid { IsTree S.DocSet scorer.new }
+    ensures placed { OnFound result (IsTreePlaced S.DocSet scorer.new) }
+    ensures depth { size-AnyScorer _ scorer.new ≤ size-AnyScorer _ scorer.old }
+{
+    match scorer {
+        AnyScorer::Term(leaf) => leaf.seek_danger(target),
+        _ => danger_other(scorer, target),
+    }
+}
+
+// The same, whatever the tree is.
+#[cycle(moves)]
+#[inline(never)]
+#[tactic(auto, using(crate::specs::MoveFacts::moves))]
+fn danger_other<'a, S: Scorer>(scorer: &mut AnyScorer<'a, S>, target: DocId) -> SeekDangerResult
     requires valid { IsTree S.DocSet scorer.old }
     requires target { target ≤ TERMINATED }
     ensures answer { IsSeekAnswer target (tree_entries S.DocSet scorer.new) result }
@@ -179,8 +226,32 @@ pub(crate) fn danger_tree<'a, S: Scorer>(
 
 // The score of the document that a tree stands on.
 #[cycle(scores)]
+#[inline(always)]
 #[tactic(auto, using(crate::specs::MoveFacts::scores))]
 pub(crate) fn score_tree<'a, S: Scorer>(scorer: &mut AnyScorer<'a, S>) -> u64
+    requires valid { IsTree S.DocSet scorer.old }
+    requires placed { IsTreePlaced S.DocSet scorer.old }
+    requires here { tree_head S.DocSet scorer.old < TERMINATED }
+    ensures score { result ≡ head_score (tree_entries S.DocSet scorer.old) }
+    ensures fits { result ≤ greatest_score }
+    ensures entries { tree_entries S.DocSet scorer.new ≡ tree_entries S.DocSet scorer.old }
+    ensures top { tree_top S.DocSet scorer.new ≡ tree_top S.DocSet scorer.old }
+    ensures valid { IsTree S.DocSet scorer.new }
+    ensures placed { IsTreePlaced S.DocSet scorer.new }
+    ensures head { tree_head S.DocSet scorer.new ≡ tree_head S.DocSet scorer.old }
+    ensures depth { size-AnyScorer _ scorer.new ≤ size-AnyScorer _ scorer.old }
+{
+    match scorer {
+        AnyScorer::Term(leaf) => leaf.score() as u64,
+        _ => score_other(scorer),
+    }
+}
+
+// The same, whatever the tree is.
+#[cycle(scores)]
+#[inline(never)]
+#[tactic(auto, using(crate::specs::MoveFacts::scores))]
+fn score_other<'a, S: Scorer>(scorer: &mut AnyScorer<'a, S>) -> u64
     requires valid { IsTree S.DocSet scorer.old }
     requires placed { IsTreePlaced S.DocSet scorer.old }
     requires here { tree_head S.DocSet scorer.old < TERMINATED }

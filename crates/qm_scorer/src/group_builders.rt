@@ -1,7 +1,7 @@
 //! What builds the nodes over several scorers.
 
 ghost use Rattle.std.specs.Prelude.{◌≡◌, ◌≤◌, All, IfErr, IfOk, IsOkUnless, map};
-ghost use Rattle.qm_docset.specs.Lists.{ArePlaced};
+ghost use Rattle.qm_docset.specs.Lists.{ArePlaced, IsPlaced};
 ghost use Rattle.qm_combine.specs.HeldSum.{held_sum};
 ghost use Rattle.qm_combine.specs.Union.{IsBoundOrMemory, IsRefusedByBounds};
 ghost use Rattle.qm_scorer.specs.Built.{IsAtLeastOf, IsUnionOf};
@@ -107,6 +107,7 @@ pub fn intersect_scorers<'a, S: Scorer>(
 ) -> Result<AnyScorer<'a, S>, QueryError>
     requires placed { ArePlaced ⟦<AnyScorer<'a, S> as DocSet>⟧ members.items }
     ensures refused { IsOkUnless result QueryError.Memory }
+    ensures placed { IfOk result (IsPlaced ⟦<AnyScorer<'a, S> as DocSet>⟧) }
     ensures lists { IfOk result (ListsShared ⟦<AnyScorer<'a, S> as DocSet>⟧ members.entry.items) }
 {
     let mut members = members;

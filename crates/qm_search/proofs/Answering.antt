@@ -1,43 +1,73 @@
--- What is answered where something was listed, or was not.
-use Rattle.std.proofs.Common.{◌≡◌, ℕ, ◌+◌, List, [], ◌∷◌, ◌++◌, Option, None, Some, Result, Ok, Err, IsSome, IfErr, OnOk, map, length, refl, ap, sym, ◌∙◌, subst, arith, inl}
-use Rattle.std.specs.FinMap.{empty}
+-- What is answered where a query was listed, or was not.
+use Rattle.std.proofs.Common.{◌≡◌, ◌⊎◌, inl, inr, ℕ, Bool, true, false, List, [], Option, None, Some, Result, Ok, Err, IfOk, IfErr, OnOk, refl, ap, sym, subst, ◌∙◌}
+use Rattle.std.specs.Borrow.{Bor}
 use Rattle.std.specs.List.{range_with_len}
 use Rattle.qm_postings.specs.Segment.{Segment}
 use Rattle.qm_postings.specs.Statistics.{Searched}
+use Rattle.qm_query.specs.EnableScoring.{is_enabled}
+use Rattle.qm_query.specs.Query.{Query, query_of as built_query}
+use Rattle.qm_query.specs.declared.any_query.AnyQuery.{AnyQuery}
+use Rattle.qm_query.specs.declared.enable_scoring.EnableScoring.{EnableScoring}
+use Rattle.qm_query.specs.declared.enable_scoring.EnableScoring.TheVariants.{Enabled, Disabled}
+use Rattle.qm_schema.specs.Refusals.{refusal_number}
 use Rattle.qm_schema.specs.declared.error.QueryError.{QueryError}
-use Rattle.qm_search.specs.AllSegments.{all_listed, known_score, listed_from, numbered}
-use Rattle.qm_search.specs.Answers.{IsListingAnswer, IsListingRefusal, ListsMatches}
-use Rattle.qm_search.specs.ScriptSegments.{AreSegments, Script}
+use Rattle.qm_schema.specs.declared.error.QueryError.TheVariants.{Memory}
+use Rattle.qm_search.specs.AllSegments.{all_listed}
+use Rattle.qm_search.specs.Answers.{IsLineRefusal, IsListingAnswer, IsSegmentsRefusal, Lists}
+use Rattle.qm_search.specs.Asked.{Builds, asked}
+use Rattle.qm_search.specs.PrefixFree.{has_no_prefix}
+use Rattle.qm_search.specs.Prefixes.{has_prefix}
+use Rattle.qm_search.specs.Script as language
+use Rattle.qm_search.specs.ScriptSegments.{AreOnePart, AreSegments, Script, all_segments}
+use Rattle.qm_search.specs.State.{State}
 use Rattle.qm_search.specs.Text.{IsListing, listing_text}
-use Rattle.qm_search.specs.Trees.{matches}
+use Rattle.qm_search.specs.Under.{IsForDocuments, IsForScores, IsListingRefusal, tree_of}
 use Rattle.qm_search.specs.declared.answer.Answer.{Answer}
-use Rattle.qm_search.specs.declared.tree.Tree.{Tree}
-use Rattle.qm_search.specs.declared.tree.Tree.TheVariants.{Empty}
-use Rattle.qm_search.proofs.Matching.{filter-none}
-use Rattle.qm_search.proofs.OverParts.{listed-segments}
+use Rattle.qm_search.specs.declared.answer.Answer.TheVariants.{Refused}
+use Rattle.qm_search.proofs.AskedTrees.{asked-free}
+use Rattle.qm_search.proofs.OverParts.{listed-one_part, listed-segments}
 
--- no document is listed where none matches
-listed-none : (searched : Option Searched) (first : ℕ) (segments : List Segment) → listed_from first searched Empty segments ≡ []
-listed-none searched first [] = refl
-listed-none searched first (s ∷ segments) =
-    ap (λ ds. numbered first (map (λ d. (d, known_score searched Empty s d)) ds) ++ listed_from (first + length s.documents) searched Empty segments) (filter-none (matches Empty s) (range_with_len 0 (length s.documents)) (λ d. refl))
-    ∙ listed-none searched (first + length s.documents) segments
+abbrev lent : {X : Type 0} → X → Bor X
+lent x = record { ref_ptr = (0, 0); now = x }
 
-no_text : (text : List ℕ) → length text ≡ 0 → text ≡ []
-no_text [] none = refl
-no_text (x ∷ text) none = absurd (omega arith)
+-- what a refused line would have been asked under
+abbrev pub for_documents : Script → EnableScoring Searched
+for_documents s = Disabled (lent s.current.schema) None
 
-pub nothing-listed : (searched : Option Searched) (tree : Tree) (segments : List Segment) (text : List ℕ) → tree ≡ Empty → length text ≡ 0 → text ≡ listing_text (all_listed searched tree segments)
-nothing-listed searched tree segments text is none = no_text text none ∙ ap listing_text (sym (listed-none searched 0 segments) ∙ ap (λ t. all_listed searched t segments) (sym is))
+pub IsForDocuments-refused : (s : Script) → IsForDocuments s (for_documents s)
+IsForDocuments-refused s = record { fields = refl; scores = refl }
 
--- a searcher that knows no word
-pub nothing_searched : Searched
-nothing_searched = record { schema = []; segments = []; weights = empty; default_weight = 0; norms = [] }
+abbrev pub nothing_searched : State → Searched
+nothing_searched s = record { schema = s.documents.current.schema; segments = []; weights = s.weights; default_weight = 1000; norms = range_with_len 0 256 }
 
-pub some-of : (found : Option Searched) → IsSome found → (searched : Searched) × (found ≡ Some searched)
-some-of None some = absurd (cc)
-some-of (Some searched) some = (searched, refl)
+abbrev pub for_scores : State → EnableScoring Searched
+for_scores s = Enabled (lent (nothing_searched s)) (lent (nothing_searched s))
 
-pub listing-answer : (searched : Option Searched) (tree : Tree) (s : Script) (segments : List Segment) (text : List ℕ) (listed : Result (Unit {0}) QueryError) (answer : Answer) → AreSegments s segments → OnOk listed (IsListing (all_listed searched tree segments) text) → IfErr listed (IsListingRefusal searched tree) → IsListingAnswer listed answer → ListsMatches searched tree s answer text
-listing-answer searched tree s segments text (Ok done) answer are lists refused is = subst (λ a. ListsMatches searched tree s a text) (sym is) (lists.listed ∙ ap listing_text (listed-segments searched tree s segments are))
-listing-answer searched tree s segments text (Err e) answer are lists refused is = subst (λ a. ListsMatches searched tree s a text) (sym is) (inl (e, refl, refused))
+pub IsForScores-refused : (s : State) → IsForScores s (nothing_searched s) (for_scores s)
+IsForScores-refused s = record { fields = refl; scores = refl; weights = record { given = λ q. refl; others = refl; norms = refl } }
+
+module _ (enable : EnableScoring Searched) (s : Script) (q : language.Query) (text : List ℕ) where
+  -- the query could not be built
+  pub unbuilt-answer : (e : QueryError) (number : ℕ) → number ≡ refusal_number e → Builds (asked q) (let r : Result AnyQuery QueryError = Err e in r) → Lists enable q s (Refused number) text
+  unbuilt-answer e number is (inl memory) = (e, is, inl memory)
+  unbuilt-answer e number is (inr due) = (e, is, inr (inl due))
+
+  -- the segments could not be built
+  pub segments-answer : (e : QueryError) (answer : Answer) → (answer ≡ Refused (refusal_number e)) × (¬ (e ≡ Memory)) → (e ≡ Memory) ⊎ IsSegmentsRefusal s e → Lists enable q s answer text
+  segments-answer e answer is (inl memory) = absurd (is.1 memory)
+  segments-answer e answer is (inr many) = subst (λ a. Lists enable q s a text) (sym is.0) (e, refl, inr (inr (inl many)))
+
+  -- it was listed, or refused
+  pub listing-answer : (query : Query) (segments : List Segment) (r : Result (Unit {0}) QueryError) (answer : Answer) → asked q ≡ Ok query → all_listed (is_enabled enable) (tree_of enable query) segments ≡ all_listed (is_enabled enable) (tree_of enable query) (all_segments s) → OnOk r (IsListing (all_listed (is_enabled enable) (tree_of enable query) segments) text) → IfErr r (IsListingRefusal enable query) → IsListingAnswer r answer → Lists enable q s answer text
+  listing-answer query segments (Ok done) answer built same lists refused is = subst (λ a. Lists enable q s a text) (sym is) (query, built, lists.listed ∙ ap listing_text same)
+  listing-answer query segments (Err e) answer built same lists refused is = subst (λ a. Lists enable q s a text) (sym is) (e, refl, inr (inr (inr (query, built, refused))))
+
+-- the open segment may be in parts where the query has no prefix
+by-prefix : (b : Bool) (enable : EnableScoring Searched) (s : Script) (q : language.Query) (query : Query) (segments : List Segment) → has_prefix q ≡ b → asked q ≡ Ok query → AreSegments s segments → (b ≡ true → AreOnePart s segments) → all_listed (is_enabled enable) (tree_of enable query) segments ≡ all_listed (is_enabled enable) (tree_of enable query) (all_segments s)
+by-prefix true enable s q query segments has built are whole = listed-one_part (tree_of enable query) (is_enabled enable) s segments (whole refl)
+by-prefix false enable s q query segments has built are whole =
+    let free : has_no_prefix (tree_of enable query) ≡ true = subst (λ r. IfOk r (λ p. has_no_prefix (tree_of enable p) ≡ true)) built (asked-free enable q has) in
+    listed-segments (tree_of enable query) (is_enabled enable) s segments free are
+
+pub parts-same : (b : Bool) (enable : EnableScoring Searched) (s : Script) (q : language.Query) (query : Query) (segments : List Segment) → b ≡ has_prefix q → asked q ≡ Ok query → AreSegments s segments → (b ≡ true → AreOnePart s segments) → all_listed (is_enabled enable) (tree_of enable query) segments ≡ all_listed (is_enabled enable) (tree_of enable query) (all_segments s)
+parts-same b enable s q query segments has built are whole = by-prefix b enable s q query segments (sym has) built are whole

@@ -17,7 +17,7 @@ pub has_break-append : (xs ys : List ℕ) → has_break xs ≡ false → has_bre
 has_break-append xs ys x y = list_any-append (λ b. b == 10) xs ys ∙ ap (λ b. b || has_break ys) x ∙ y
 
 -- a first byte that is no break, and the rest
-has_break-cons : (x : ℕ) (xs : List ℕ) → has_break (x ∷ xs) ≡ false → ((x == 10) ≡ false) × (has_break xs ≡ false)
+pub has_break-cons : (x : ℕ) (xs : List ℕ) → has_break (x ∷ xs) ≡ false → ((x == 10) ≡ false) × (has_break xs ≡ false)
 has_break-cons x xs none = go (x == 10) refl
   where
     go : (b : Bool) → (x == 10) ≡ b → ((x == 10) ≡ false) × (has_break xs ≡ false)

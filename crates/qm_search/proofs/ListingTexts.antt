@@ -5,7 +5,7 @@ use Rattle.std.specs.List.{join_with_byte}
 use Rattle.std.specs.Fmt.{decimal}
 use Rattle.std.proofs.lemmas.Fmt.{decimal_nonempty}
 use Rattle.std.proofs.lemmas.List.{map-append, take_more}
-use Rattle.qm_search.specs.AllSegments.{numbered}
+use Rattle.qm_search.specs.Text.{numbered}
 use Rattle.qm_search.specs.Text.{IsListing, item_text, score_text}
 
 abbrev Item : Type 0

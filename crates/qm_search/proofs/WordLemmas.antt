@@ -50,7 +50,7 @@ kept_if t w words h = rw h refl
 not_zero : (n : ℕ) → 0 < n → (n == 0) ≡ false
 not_zero n h = ne_eqb n 0 (λ e. absurd (omega arith))
 
-non_empty-cons : (w : List ℕ) (words : List (List ℕ)) → 0 < length w → non_empty (w ∷ words) ≡ w ∷ non_empty words
+pub non_empty-cons : (w : List ℕ) (words : List (List ℕ)) → 0 < length w → non_empty (w ∷ words) ≡ w ∷ non_empty words
 non_empty-cons w words h = kept_if (length w == 0) w (non_empty words) (not_zero (length w) h)
 
 non_empty-words : (words : List (List ℕ)) → AllByRecursion (AllByRecursion (λ b. (b == 32) ≡ false)) words → AreWords (non_empty words)
@@ -66,7 +66,7 @@ line-words line = non_empty-words (flat_map cut_at_tabs (slice_split (λ b. b ==
 
 -- ---- words from one on
 
-pub drop_mapped : {A : Type 0} (bytes : A → List ℕ) (xs : List A) (i : ℕ) (x d : A) → i < length xs → x ≡ get_or xs i d → drop i (map bytes xs) ≡ bytes x ∷ drop (i + 1) (map bytes xs)
+pub drop_mapped : {A B : Type 0} (bytes : A → B) (xs : List A) (i : ℕ) (x d : A) → i < length xs → x ≡ get_or xs i d → drop i (map bytes xs) ≡ bytes x ∷ drop (i + 1) (map bytes xs)
 drop_mapped bytes xs i x d below is = drop-map bytes i xs ∙ ap (map bytes) (drop_more xs i d below) ∙ (λ j. bytes (sym is j) ∷ sym (drop-map bytes (i + 1) xs) j)
 
 drop_past : {A : Type 0} (xs : List A) (i : ℕ) → length xs ≤ i → drop i xs ≡ []
@@ -75,7 +75,7 @@ drop_past [] (suc i) h = refl
 drop_past (x ∷ xs) zero h = absurd (omega arith)
 drop_past (x ∷ xs) (suc i) h = drop_past xs i (omega arith)
 
-pub none_left : {A : Type 0} (bytes : A → List ℕ) (xs : List A) (i : ℕ) → length xs ≤ i → drop i (map bytes xs) ≡ []
+pub none_left : {A B : Type 0} (bytes : A → B) (xs : List A) (i : ℕ) → length xs ≤ i → drop i (map bytes xs) ≡ []
 none_left bytes xs i past = drop-map bytes i xs ∙ ap (map bytes) (drop_past xs i past)
 
 pub not-whole : {A X : Type 0} (bytes : A → List ℕ) (xs : List A) (i : ℕ) (x : X) → i < length xs → whole (x, drop i (map bytes xs)) ≡ None

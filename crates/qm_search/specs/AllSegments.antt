@@ -1,28 +1,22 @@
--- What a tree lists over several segments: documents are numbered over all of them, in order.
-use Rattle.std.specs.Prelude.{ℕ, ℤ, ◌+◌, List, [], ◌∷◌, ◌++◌, Option, None, Some, length, map, pos}
+-- What a query's tree lists over several segments: documents are numbered over all of them, in order.
+use Rattle.std.specs.Prelude.{ℕ, ℤ, ◌+◌, Bool, true, false, List, [], ◌∷◌, ◌++◌, Option, None, Some, length, map, pos}
 use Rattle.qm_postings.specs.Segment.{Segment}
-use Rattle.qm_postings.specs.Statistics.{Searched}
-use Rattle.qm_search.specs.Scores.{tree_score}
-use Rattle.qm_search.specs.Trees.{matching}
-use Rattle.qm_search.specs.declared.tree.Tree.{Tree}
+use Rattle.qm_weight.specs.Tree.{Tree, matching, score}
 
--- what a document scores that the tree matches, where it is known what words weigh
-abbrev pub known_score : Option Searched → Tree → Segment → ℕ → Option ℤ
-known_score None tree segment d = None
-known_score (Some searched) tree segment d = Some (pos (tree_score tree searched segment d))
+-- what a document scores that the tree matches, where scores are wanted
+abbrev pub wanted_score : Bool → Tree → Segment → ℕ → Option ℤ
+wanted_score false tree segment d = None
+wanted_score true tree segment d = Some (pos (score tree 1 segment d))
 
--- the documents of a segment that the tree matches, ascending, with their scores where these are known
-abbrev pub listed : Option Searched → Tree → Segment → List (ℕ × Option ℤ)
-listed searched tree segment = map (λ d. (d, known_score searched tree segment d)) (matching tree segment)
-
--- documents of a segment, of which the first document has this number over all segments
-abbrev pub numbered : ℕ → List (ℕ × Option ℤ) → List (ℕ × Option ℤ)
-numbered first items = map (λ i. (first + i.0, i.1)) items
+-- the documents of a segment that the tree matches, ascending, numbered from that of its first document on,
+-- and with their scores where these are wanted
+abbrev pub listed : Bool → Tree → ℕ → Segment → List (ℕ × Option ℤ)
+listed scored tree first segment = map (λ d. (first + d, wanted_score scored tree segment d)) (matching tree segment)
 
 -- what the tree lists, from the number of the first document of the first segment on
-abbrev pub listed_from : ℕ → Option Searched → Tree → List Segment → List (ℕ × Option ℤ)
-listed_from first searched tree [] = []
-listed_from first searched tree (s ∷ ss) = numbered first (listed searched tree s) ++ listed_from (first + length s.documents) searched tree ss
+abbrev pub listed_from : Bool → Tree → ℕ → List Segment → List (ℕ × Option ℤ)
+listed_from scored tree first [] = []
+listed_from scored tree first (s ∷ ss) = listed scored tree first s ++ listed_from scored tree (first + length s.documents) ss
 
-abbrev pub all_listed : Option Searched → Tree → List Segment → List (ℕ × Option ℤ)
-all_listed searched tree segments = listed_from 0 searched tree segments
+abbrev pub all_listed : Bool → Tree → List Segment → List (ℕ × Option ℤ)
+all_listed scored tree segments = listed_from scored tree 0 segments

@@ -1,5 +1,5 @@
 -- The segments of a script: those that were ended, and the open one, which may be kept in parts.
-use Rattle.std.specs.Prelude.{◌≡◌, ℕ, List, [], ◌∷◌, ◌++◌, map, take, vec_len}
+use Rattle.std.specs.Prelude.{◌≡◌, ◌<◌, ◌≤◌, ◌+◌, ℕ, List, [], ◌∷◌, ◌++◌, length, map, take, vec_len}
 use Rattle.qm_postings.specs.Segment.{Segment}
 use Rattle.qm_schema.specs.Schema.{FieldFacts}
 use Rattle.qm_search.specs.Parts.{AreParts}
@@ -32,6 +32,15 @@ pub record AreSegments (s : Script) (found : List Segment) : Type 0 where
   pub parts : List Segment
   pub all : found ≡ s.ended ++ parts
   pub parts_of_current : AreParts s.current parts
+
+-- the segments of a script, of which the open one is in one part at most
+pub record AreOnePart (s : Script) (found : List Segment) : Type 0 where
+  pub segments : AreSegments s found
+  pub one : length segments.parts < 2
+
+-- the open segment has one part at most
+abbrev pub IsWhole : Documents → Type 0
+IsWhole d = vec_len d.segments ≤ d.ended + 1
 
 -- all documents of the open segment are in its parts
 abbrev pub IsBuilt : Documents → Type 0

@@ -1,5 +1,5 @@
 -- The texts that the program writes.
-use Rattle.std.specs.Prelude.{◌≡◌, ℕ, ℤ, List, [], ◌∷◌, ◌++◌, Option, None, Some, OnOk, Result, length, map}
+use Rattle.std.specs.Prelude.{◌≡◌, ◌+◌, ℕ, ℤ, List, [], ◌∷◌, ◌++◌, Option, None, Some, OnOk, Result, length, map}
 use Rattle.std.specs.List.{join_with_byte}
 use Rattle.std.specs.Fmt.{decimal, signed_decimal}
 
@@ -15,6 +15,10 @@ item_text item = decimal item.0 ++ score_text item.1
 -- documents, joined by one space; nothing for no document
 abbrev pub listing_text : List (ℕ × Option ℤ) → List ℕ
 listing_text items = join_with_byte 32 (map item_text items)
+
+-- documents of a segment, of which the first document has this number over all segments
+abbrev pub numbered : ℕ → List (ℕ × Option ℤ) → List (ℕ × Option ℤ)
+numbered first items = map (λ i. (first + i.0, i.1)) items
 
 -- a text that lists documents: it is empty for no document alone
 pub record IsListing (items : List (ℕ × Option ℤ)) (text : List ℕ) : Type 0 where

@@ -1,16 +1,17 @@
 //! What the program answers to a line.
 
 ghost use Rattle.std.specs.Prelude.{◌≡◌, IfOk, OnOk, length, string_bytes};
-ghost use Rattle.qm_search.specs.Answers.{AnswersDocuments, AnswersScores, IsChangeAnswer, IsListingAnswer, ListsMatches, ListsScores, Step, answer_text, status_of};
-ghost use Rattle.qm_search.specs.ScriptSegments.{script};
+ghost use Rattle.qm_search.specs.Answers.{IsChangeAnswer, IsListingAnswer, ListsDocuments, ListsScores, Step, answer_text, status_of};
 ghost use Rattle.qm_search.specs.Spelled.{query_of};
+ghost use Rattle.qm_search.specs.State.{state};
 
+use crate::build_query::build_query;
 use crate::corpus::Corpus;
-use crate::listing::write_listing;
+use crate::has_prefix::has_prefix;
+use crate::listing::write_matches;
 use crate::parse::Command;
-use crate::served::served_tree;
 use crate::spelled_query::SpelledQuery;
-use crate::tree::Tree;
+use qm_query::EnableScoring;
 use qm_schema::QueryError;
 use std::alloc::{AllocError, Global};
 
@@ -65,6 +66,7 @@ impl Answer {
 /// Answers what a line asks for, `None` where it isn't understood, and leaves what it lists in the
 /// text, which is empty before. An error says that there was no memory for what the program itself
 /// keeps.
+#[tactic(auto, using(crate::proofs::States::is_state))]
 pub(crate) fn answer_command(
     alloc: Global,
     corpus: &mut Corpus,
@@ -72,16 +74,20 @@ pub(crate) fn answer_command(
     text: &mut String,
 ) -> Result<Answer, AllocError>
     requires { length (string_bytes text.old) ≡ 0 }
-    ensures { IfOk result (λ answer. Step (script corpus.old.documents) command answer (string_bytes text.new) (script corpus.new.documents)) }
+    ensures { IfOk result (λ answer. Step (state corpus.old) command answer (string_bytes text.new) (state corpus.new)) }
 {
     match command {
         None => Ok(Answer::NotUnderstood),
         Some(Command::Nothing) => Ok(Answer::Silence),
         Some(Command::AddDocument(words)) => answer_change(corpus.add_document(alloc, words)),
-        Some(Command::SetWeight(word, weight)) => answer_change(corpus.set_weight(word, weight)),
+        Some(Command::SetWeight(word, weight)) => answer_change(corpus.set_weight(
+            alloc,
+            word.as_str(),
+            weight,
+        )),
         Some(Command::EndSegment) => answer_change(corpus.end_segment(alloc)),
-        Some(Command::ListDocuments(query)) => answer_documents(alloc, corpus, query, text),
-        Some(Command::ListScores(query)) => answer_scores(alloc, corpus, query, text),
+        Some(Command::ListDocuments(query)) => list_documents(alloc, corpus, &query, text),
+        Some(Command::ListScores(query)) => list_scores(alloc, corpus, &query, text),
     }
 }
 
@@ -97,84 +103,53 @@ fn answer_change(changed: Result<(), QueryError>) -> Result<Answer, AllocError>
     }
 }
 
-fn answer_documents(
-    alloc: Global,
-    corpus: &mut Corpus,
-    query: SpelledQuery,
-    text: &mut String,
-) -> Result<Answer, AllocError>
-    requires { length (string_bytes text.old) ≡ 0 }
-    ensures answer { IfOk result (λ answer. AnswersDocuments (query_of query) (script corpus.old.documents) answer (string_bytes text.new)) }
-    ensures script { OnOk result (script corpus.new.documents ≡ script corpus.old.documents) }
-{
-    let served = served_tree(alloc, query)?;
-    match served {
-        Some(tree) => list_documents(alloc, corpus, &tree, text),
-        None => Ok(Answer::NotUnderstood),
-    }
-}
-
-fn answer_scores(
-    alloc: Global,
-    corpus: &mut Corpus,
-    query: SpelledQuery,
-    text: &mut String,
-) -> Result<Answer, AllocError>
-    requires { length (string_bytes text.old) ≡ 0 }
-    ensures answer { IfOk result (λ answer. AnswersScores (query_of query) (script corpus.old.documents) answer (string_bytes text.new)) }
-    ensures script { OnOk result (script corpus.new.documents ≡ script corpus.old.documents) }
-{
-    let served = served_tree(alloc, query)?;
-    match served {
-        Some(tree) => list_scores(alloc, corpus, &tree, text),
-        None => Ok(Answer::NotUnderstood),
-    }
-}
-
+// Answers a line that lists documents alone.
+#[tactic(auto, using(crate::proofs::States::is_state))]
 fn list_documents(
     alloc: Global,
     corpus: &mut Corpus,
-    tree: &Tree,
+    spelled: &SpelledQuery,
     text: &mut String,
 ) -> Result<Answer, AllocError>
     requires { length (string_bytes text.old) ≡ 0 }
-    ensures answer { IfOk result (λ answer. ListsMatches None tree.now (script corpus.old.documents) answer (string_bytes text.new)) }
-    ensures script { OnOk result (script corpus.new.documents ≡ script corpus.old.documents) }
+    ensures answer { IfOk result (λ answer. ListsDocuments (query_of spelled.now) (state corpus.old).documents answer (string_bytes text.new)) }
+    ensures unchanged { OnOk result (state corpus.new ≡ state corpus.old) }
 {
-    if let Tree::Empty = tree {
-        return Ok(Answer::Listing);
-    }
-    match corpus.build_segments(alloc) {
-        Ok(()) => {
-            let listed = write_listing(alloc, corpus.segments(), None, tree, text);
-            Ok(answer_listing(listed))
-        }
-        refused => answer_change(refused),
+    match build_query(alloc, spelled) {
+        Ok(query) => match corpus.build_segments(alloc, has_prefix(spelled)) {
+            Ok(()) => {
+                let enable = EnableScoring::disabled_from_schema(corpus.schema());
+                let written = write_matches(alloc, corpus.segments(), enable, &query, text);
+                Ok(answer_listing(written))
+            }
+            Err(error) => answer_change(Err(error)),
+        },
+        Err(error) => Ok(Answer::Refused(error.number())),
     }
 }
 
+// The same with scores.
+#[tactic(auto, using(crate::proofs::States::is_state))]
 fn list_scores(
     alloc: Global,
     corpus: &mut Corpus,
-    tree: &Tree,
+    spelled: &SpelledQuery,
     text: &mut String,
 ) -> Result<Answer, AllocError>
     requires { length (string_bytes text.old) ≡ 0 }
-    ensures answer { IfOk result (λ answer. ListsScores tree.now (script corpus.old.documents) answer (string_bytes text.new)) }
-    ensures script { OnOk result (script corpus.new.documents ≡ script corpus.old.documents) }
+    ensures answer { IfOk result (λ answer. ListsScores (query_of spelled.now) (state corpus.old) answer (string_bytes text.new)) }
+    ensures unchanged { OnOk result (state corpus.new ≡ state corpus.old) }
 {
-    if let Tree::Empty = tree {
-        return Ok(Answer::Listing);
-    }
-    if let Err(error) = corpus.build_segments(alloc) {
-        return answer_change(Err(error));
-    }
-    match corpus.build_searcher(alloc) {
-        Ok(()) => {
-            let listed = write_listing(alloc, corpus.segments(), corpus.searcher(), tree, text);
-            Ok(answer_listing(listed))
-        }
-        refused => answer_change(refused),
+    match build_query(alloc, spelled) {
+        Ok(query) => match corpus.build_scored_segments(alloc, has_prefix(spelled)) {
+            Ok(()) => {
+                let enable = EnableScoring::enabled_from_searcher(corpus.searcher());
+                let written = write_matches(alloc, corpus.segments(), enable, &query, text);
+                Ok(answer_listing(written))
+            }
+            Err(error) => answer_change(Err(error)),
+        },
+        Err(error) => Ok(Answer::Refused(error.number())),
     }
 }
 

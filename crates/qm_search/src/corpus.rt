@@ -1,22 +1,25 @@
 //! The documents of a script, and the weights of its words.
 
-ghost use Rattle.std.specs.Prelude.{◌≡◌, ◌≤◌, ◌*◌, ◌⊎◌, IfErr, IfOk, IsErr, IsOkUnless, IsSome, OnErr, OnOk, length, map, string_bytes};
+ghost use Rattle.std.specs.Prelude.{◌≡◌, Some, true, ◌≤◌, ◌*◌, ◌⊎◌, IfErr, IfOk, IsErr, IsOkUnless, IsSome, OnErr, OnOk, length, map, nat_abs, string_bytes};
 ghost use Rattle.std.specs.List.Sorted.{IsNonDecreasing};
-ghost use Rattle.std.specs.Option.{option_copied};
+ghost use Rattle.std.specs.Option.{ForSome};
 ghost use Rattle.qm_docset.specs.declared.numbers.TheConstants.{TERMINATED};
-ghost use Rattle.qm_search.specs.Answers.{IsSegmentsRefusal};
 ghost use Rattle.qm_search.specs.Parts.{document_count};
-ghost use Rattle.qm_search.specs.ScriptSegments.{AreSegments, IsBuilt, all_segments, empty_script, script, with_document_of, with_segment_ended};
+ghost use Rattle.qm_search.specs.ScriptSegments.{AreOnePart, AreSegments, IsBuilt, IsWhole, all_segments, script, with_document_of, with_segment_ended};
+ghost use Rattle.qm_search.specs.Start.{start_script};
 ghost use Rattle.qm_search.specs.TextSegments.{IsTextRefusal};
+ghost use Rattle.qm_search.specs.Weights.{IsWeighedBy, given};
+ghost use Rattle.qm_search.specs.Asked.{term_of};
+ghost use Rattle.std.specs.FinMap.{empty, insert};
+ghost use Rattle.std.specs.List.{range_with_len};
 
 use crate::documents::Documents;
 use crate::non_negative_score::NonNegativeScore;
-use crate::terms::body;
+use crate::word_weights::WordWeights;
 use qm_docset::Score;
 use qm_postings::{Searcher, SegmentReader};
-use qm_schema::{QueryError, Term};
+use qm_schema::{QueryError, Schema};
 use std::alloc::Global;
-use std::collections::BTreeMap;
 
 /// What a word weighs where the script gives it no weight.
 const DEFAULT_WEIGHT: Score = 1000;
@@ -30,18 +33,23 @@ pub(crate) const MAX_SEGMENTS: usize = 4294967295;
 #[derive(Drop)]
 pub(crate) struct Corpus {
     documents: Documents,
-    weights: BTreeMap<String, NonNegativeScore>,
+    weights: WordWeights,
     searcher: Option<Searcher>,
+    ghost fields: { ForSome searcher (λ s. s.schema ≡ documents.schema) },
+    ghost weighed: { ForSome searcher (IsWeighedBy (given weights)) },
 }
 
 impl Corpus {
+    ghost use Rattle.qm_search.specs.Answers.{IsSegmentsRefusal};
+
     /// A script at its beginning: one open segment without documents, and no weight.
     pub(crate) fn new(alloc: Global) -> Result<Corpus, QueryError>
-        ensures { IfOk result (λ corpus. script corpus.documents ≡ empty_script corpus.documents.schema) }
+        ensures documents { IfOk result (λ corpus. script corpus.documents ≡ start_script) }
+        ensures weights { IfOk result (λ corpus. given corpus.weights ≡ empty) }
     {
         Ok(Corpus {
             documents: Documents::new(alloc)?,
-            weights: BTreeMap::new(alloc),
+            weights: WordWeights::new(alloc),
             searcher: None,
         })
     }
@@ -50,6 +58,7 @@ impl Corpus {
     pub(crate) fn add_document(&mut self, alloc: Global, text: String) -> Result<(), QueryError>
         ensures added { OnOk result (script self.new.documents ≡ with_document_of (script self.old.documents) (string_bytes text)) }
         ensures unchanged { OnErr result (script self.new.documents ≡ script self.old.documents) }
+        ensures weights { self.new.weights ≡ self.old.weights }
         ensures refused { IfErr result (λ e. (e ≡ QueryError.Memory) ⊎ IsTextRefusal (script self.old.documents).current (string_bytes text) e) }
     {
         self.documents.add_document(alloc, text)
@@ -58,6 +67,7 @@ impl Corpus {
     /// Ends the open segment, and opens another.
     pub(crate) fn end_segment(&mut self, alloc: Global) -> Result<(), QueryError>
         ensures ended { OnOk result (script self.new.documents ≡ with_segment_ended (script self.old.documents)) }
+        ensures weights { self.new.weights ≡ self.old.weights }
         ensures refused { IsOkUnless result QueryError.Memory }
     {
         self.documents.end_segment(alloc)
@@ -67,35 +77,45 @@ impl Corpus {
     /// one.
     pub(crate) fn set_weight(
         &mut self,
-        word: String,
+        alloc: Global,
+        word: &str,
         weight: NonNegativeScore,
     ) -> Result<(), QueryError>
         ensures documents { self.new.documents ≡ self.old.documents }
+        ensures set { OnOk result (given self.new.weights ≡ insert (given self.old.weights) (term_of word.now) (nat_abs weight.score)) }
+        ensures kept { OnErr result (given self.new.weights ≡ given self.old.weights) }
         ensures refused { IsOkUnless result QueryError.Memory }
     {
-        self.weights.insert(word, weight)?;
         self.searcher = None;
-        Ok(())
+        self.weights.set(alloc, word, weight)
     }
 
-    /// Builds what is to be searched of all documents, for [`Corpus::segments`]. Refused with
-    /// `TooManySegments` where there are more segments than can be searched at once.
-    pub(crate) fn build_segments(&mut self, alloc: Global) -> Result<(), QueryError>
+    /// Builds what is to be searched of all documents, for [`Corpus::segments`]; the open segment as one
+    /// where it is to be whole, which costs all its documents. Refused with `TooManySegments` where
+    /// there are more segments than can be searched at once.
+    pub(crate) fn build_segments(&mut self, alloc: Global, is_whole: bool) -> Result<(), QueryError>
         ensures script { script self.new.documents ≡ script self.old.documents }
+        ensures weights { self.new.weights ≡ self.old.weights }
         ensures built { OnOk result (IsBuilt self.new.documents) }
+        ensures whole { OnOk result (is_whole ≡ true → IsWhole self.new.documents) }
         ensures few { OnOk result (length (all_segments (script self.old.documents)) ≤ MAX_SEGMENTS) }
         ensures refused { IfErr result (λ e. (e ≡ QueryError.Memory) ⊎ IsSegmentsRefusal (script self.old.documents) e) }
     {
         if self.documents.ended() >= MAX_SEGMENTS {
             return Err(QueryError::TooManySegments);
         }
-        self.documents.build_open_segment(alloc)
+        if is_whole {
+            self.documents.build_open_segment_whole(alloc)
+        } else {
+            self.documents.build_open_segment(alloc)
+        }
     }
 
     /// Builds what words weigh, for [`Corpus::searcher`].
     pub(crate) fn build_searcher(&mut self, alloc: Global) -> Result<(), QueryError>
         ensures built { OnOk result (IsSome self.new.searcher) }
         ensures documents { self.new.documents ≡ self.old.documents }
+        ensures weights { self.new.weights ≡ self.old.weights }
         ensures refused { IsOkUnless result QueryError.Memory }
     {
         if self.searcher.is_none() {
@@ -104,31 +124,58 @@ impl Corpus {
         Ok(())
     }
 
+    /// Both, for a line that lists scores.
+    pub(crate) fn build_scored_segments(
+        &mut self,
+        alloc: Global,
+        is_whole: bool,
+    ) -> Result<(), QueryError>
+        ensures script { script self.new.documents ≡ script self.old.documents }
+        ensures weights { self.new.weights ≡ self.old.weights }
+        ensures built { OnOk result (IsBuilt self.new.documents) }
+        ensures whole { OnOk result (is_whole ≡ true → IsWhole self.new.documents) }
+        ensures few { OnOk result (length (all_segments (script self.old.documents)) ≤ MAX_SEGMENTS) }
+        ensures searcher { OnOk result (IsSome self.new.searcher) }
+        ensures refused { IfErr result (λ e. (e ≡ QueryError.Memory) ⊎ IsSegmentsRefusal (script self.old.documents) e) }
+    {
+        self.build_segments(alloc, is_whole)?;
+        self.build_searcher(alloc)
+    }
+
     /// All documents, in order, where [`Corpus::build_segments`] was called after the last one.
     pub(crate) fn segments(&self) -> &[SegmentReader]
         requires built { IsBuilt self.now.documents }
         requires few { length (all_segments (script self.now.documents)) ≤ MAX_SEGMENTS }
         ensures segments { AreSegments (script self.now.documents) (map (λ r. r.segment) result.now) }
+        ensures whole { IsWhole self.now.documents → AreOnePart (script self.now.documents) (map (λ r. r.segment) result.now) }
         ensures few { document_count (map (λ r. r.segment) result.now) ≤ MAX_SEGMENTS * TERMINATED }
     {
         self.documents.segments()
     }
 
-    /// What words weigh, where [`Corpus::build_searcher`] was called after the last weight.
-    pub(crate) fn searcher(&self) -> Option<&Searcher>
-        ensures { option_copied result ≡ self.now.searcher }
+    /// What words weigh. Asks that [`Corpus::build_searcher`] was called after the last weight.
+    pub(crate) fn searcher(&self) -> &Searcher
+        requires { IsSome self.now.searcher }
+        ensures searcher { Some result.now ≡ self.now.searcher }
+        ensures weights { IsWeighedBy (given self.now.weights) result.now }
+        ensures fields { result.now.schema ≡ (script self.now.documents).current.schema }
     {
-        self.searcher.as_ref()
+        self.searcher.as_ref().unwrap()
+    }
+
+    /// The fields of the documents.
+    pub(crate) fn schema(&self) -> &Schema
+        ensures { result.now ≡ (script self.now.documents).current.schema }
+    {
+        self.documents.schema()
     }
 
     fn weigh(&self, alloc: Global) -> Result<Searcher, QueryError>
-        ensures { IsOkUnless result QueryError.Memory }
+        ensures fields { IfOk result (λ searcher. searcher.schema ≡ self.now.documents.schema) }
+        ensures weights { IfOk result (IsWeighedBy (given self.now.weights)) }
+        ensures refused { IsOkUnless result QueryError.Memory }
     {
-        let mut weights = Vec::with_capacity(alloc, self.weights.len())?;
-        for (word, weight) in &self.weights {
-            let term = Term::from_field_text(alloc, body(), word.as_str())?;
-            weights.push((term, weight.score()))?;
-        }
+        let weights = self.weights.pairs(alloc)?;
         let schema = self.documents.schema().clone(alloc)?;
         Searcher::new(
             alloc,
@@ -143,7 +190,8 @@ impl Corpus {
 
 // The norm of each length id: a document is as long as it has words.
 fn norms() -> [u32; 256]
-    ensures { IsNonDecreasing result }
+    ensures ascending { IsNonDecreasing result }
+    ensures words { result ≡ range_with_len 0 256 }
 {
     let mut norms = [0; 256];
     for id in 0..256 {

@@ -45,11 +45,12 @@ pub(crate) struct Documents {
 }
 
 impl Documents {
-    ghost use Rattle.qm_search.specs.ScriptSegments.{AreSegments, IsBuilt, all_segments, empty_script, script, with_document_of, with_segment_ended};
+    ghost use Rattle.qm_search.specs.Start.{start_script};
+    ghost use Rattle.qm_search.specs.ScriptSegments.{AreOnePart, AreSegments, IsBuilt, IsWhole, all_segments, script, with_document_of, with_segment_ended};
 
     /// A script's documents at its beginning: one open segment without documents.
     pub(crate) fn new(alloc: Global) -> Result<Documents, QueryError>
-        ensures { IfOk result (λ documents. script documents ≡ empty_script documents.schema) }
+        ensures { IfOk result (λ documents. script documents ≡ start_script) }
     {
         let mut builder = Schema::builder(alloc);
         builder.add_text_field("body", Some(IndexRecordOption::WithFreqsAndPositions), true)?;
@@ -98,6 +99,7 @@ impl Documents {
     /// Ends the open segment, which is built as one, and opens another.
     pub(crate) fn end_segment(&mut self, alloc: Global) -> Result<(), QueryError>
         ensures ended { OnOk result (script self.new ≡ with_segment_ended (script self.old)) }
+        ensures fields { self.new.schema ≡ self.old.schema }
         ensures refused { IsOkUnless result QueryError.Memory }
     {
         self.take_parts_back();
@@ -121,6 +123,33 @@ impl Documents {
             return Ok(());
         }
         self.take_small_parts_back();
+        self.build_part(alloc)
+    }
+
+    /// The same, so that the open segment is one part, for a query that asks which terms the whole of it
+    /// has. Costs all its documents where it has several parts, or some that are not built; else
+    /// constant time.
+    pub(crate) fn build_open_segment_whole(&mut self, alloc: Global) -> Result<(), QueryError>
+        ensures script { script self.new ≡ script self.old }
+        ensures built { OnOk result (IsBuilt self.new) }
+        ensures whole { OnOk result (IsWhole self.new) }
+        ensures refused { IsOkUnless result QueryError.Memory }
+    {
+        if self.built == self.texts.len() && self.segments.len() <= self.ended + 1 {
+            return Ok(());
+        }
+        self.take_parts_back();
+        self.build_part(alloc)
+    }
+
+    // Makes the documents that no part has a part, behind all others.
+    fn build_part(&mut self, alloc: Global) -> Result<(), QueryError>
+        ensures script { script self.new ≡ script self.old }
+        ensures built { OnOk result (IsBuilt self.new) }
+        ensures pushed { OnOk result (vec_len self.new.segments ≡ vec_len self.old.segments + 1) }
+        ensures ended { self.new.ended ≡ self.old.ended }
+        ensures refused { IsOkUnless result QueryError.Memory }
+    {
         self.segments.reserve(1)?;
         let builder = self.take_builder(alloc)?;
         let part = builder.build(alloc)?;
@@ -134,6 +163,7 @@ impl Documents {
     pub(crate) fn segments(&self) -> &[SegmentReader]
         requires { IsBuilt self.now }
         ensures segments { AreSegments (script self.now) (map (λ r. r.segment) result.now) }
+        ensures whole { IsWhole self.now → AreOnePart (script self.now) (map (λ r. r.segment) result.now) }
         ensures few { document_count (map (λ r. r.segment) result.now) ≤ length (all_segments (script self.now)) * TERMINATED }
     {
         self.segments.as_slice()
@@ -155,6 +185,7 @@ impl Documents {
     // Takes all parts back.
     fn take_parts_back(&mut self)
         ensures script { script self.new ≡ script self.old }
+        ensures fields { self.new.schema ≡ self.old.schema }
         ensures none { vec_len self.new.segments ≤ self.new.ended }
     {
         while self.segments.len() > self.ended {
@@ -166,6 +197,7 @@ impl Documents {
     fn take_last_part_back(&mut self)
         requires { self.old.ended < vec_len self.old.segments }
         ensures script { script self.new ≡ script self.old }
+        ensures fields { self.new.schema ≡ self.old.schema }
         ensures fewer { vec_len self.new.segments < vec_len self.old.segments }
     {
         let last = self.segments.len() - 1;

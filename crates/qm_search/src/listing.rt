@@ -1,54 +1,95 @@
-//! The documents that a tree matches in all segments, written one after another.
+//! The documents that a query matches in all segments, written one after another.
 
-ghost use Rattle.std.specs.Prelude.{◌≡◌, ◌≤◌, ◌*◌, ◌∷◌, [], None, Some, IfErr, OnOk, length, map, string_bytes};
-ghost use Rattle.std.specs.Option.{option_copied};
+ghost use Rattle.std.specs.Prelude.{◌≡◌, ◌≤◌, ◌*◌, ◌∷◌, [], None, Some, IfErr, IsTrue, OnOk, length, map, string_bytes, true};
 ghost use Rattle.qm_docset.specs.declared.numbers.TheConstants.{TERMINATED};
-ghost use Rattle.qm_search.specs.AllSegments.{all_listed, numbered};
-ghost use Rattle.qm_search.specs.Answers.{IsListingRefusal};
+ghost use Rattle.qm_query.specs.EnableScoring.{is_enabled};
+ghost use Rattle.qm_query.specs.Query.{query_of};
+ghost use Rattle.qm_search.specs.AllSegments.{all_listed, listed};
 ghost use Rattle.qm_search.specs.Parts.{document_count};
-ghost use Rattle.qm_search.specs.Text.{AddsToListing, IsListing};
+ghost use Rattle.qm_search.specs.Text.{AddsToListing, IsListing, numbered};
+ghost use Rattle.qm_search.specs.Under.{IsListingRefusal, tree_of as asked_tree};
 ghost use Rattle.qm_search.specs.declared.corpus.TheConstants.{MAX_SEGMENTS};
+ghost use Rattle.qm_weight.specs.Scorers.{IsRefusalOf};
+ghost use Rattle.qm_weight.specs.Tree.{is_scoring};
+ghost use Rattle.qm_weight.specs.Weights.{tree_of};
 
-use crate::docs::docs;
-use crate::scores::scores;
-use crate::tree::Tree;
-use qm_docset::{DocId, Score};
+use qm_combine::{EmptyScorer, scores_left};
+use qm_docset::{DocId, Score, documents_left};
 use qm_postings::{Searcher, SegmentReader};
+use qm_query::{AnyQuery, EnableScoring, Query};
 use qm_schema::QueryError;
+use qm_scorer::AnyScorer;
+use qm_weight::{AnyWeight, Weight};
 use std::alloc::{AllocError, Global};
 
-/// Writes the documents that the tree matches at the end of the text, joined by one space, and
-/// numbered over all segments; each with its score where a searcher says what words weigh.
+/// Writes the documents that the query matches at the end of the text, joined by one space, and
+/// numbered over all segments; each with its score where scoring is on. The query's weight is built
+/// once, and a scorer of it for each segment.
 ///
-/// Refused with `ScoreBound` as `scores` is, and else with `Memory` alone. What a refused call has
-/// written is of no use.
-pub(crate) fn write_listing(
+/// Refused as the weight and the scorers are. What a refused call has written is of no use.
+pub(crate) fn write_matches(
     alloc: Global,
     segments: &[SegmentReader],
-    searcher: Option<&Searcher>,
-    tree: &Tree,
+    enable_scoring: EnableScoring<'_, Searcher>,
+    query: &AnyQuery,
     text: &mut String,
 ) -> Result<(), QueryError>
     requires few { document_count (map (λ r. r.segment) segments.now) ≤ MAX_SEGMENTS * TERMINATED }
     requires empty { length (string_bytes text.old) ≡ 0 }
-    ensures listed { OnOk result (IsListing (all_listed (option_copied searcher.entry) tree.now (map (λ r. r.segment) segments.now)) (string_bytes text.new)) }
-    ensures refused { IfErr result (IsListingRefusal (option_copied searcher.entry) tree.now) }
+    ensures listed { OnOk result (IsListing (all_listed (is_enabled enable_scoring.entry) (asked_tree enable_scoring.entry (query_of query.now)) (map (λ r. r.segment) segments.now)) (string_bytes text.new)) }
+    ensures refused { IfErr result (IsListingRefusal enable_scoring.entry (query_of query.now)) }
+{
+    let weight = query.weight(alloc, enable_scoring)?;
+    let is_scored = enable_scoring.is_scoring_enabled();
+    write_listing(alloc, segments, &weight, is_scored, text)
+}
+
+// Writes what the weight lists in the segments.
+fn write_listing(
+    alloc: Global,
+    segments: &[SegmentReader],
+    weight: &AnyWeight,
+    is_scored: bool,
+    text: &mut String,
+) -> Result<(), QueryError>
+    requires few { document_count (map (λ r. r.segment) segments.now) ≤ MAX_SEGMENTS * TERMINATED }
+    requires empty { length (string_bytes text.old) ≡ 0 }
+    requires scoring { is_scored ≡ true → IsTrue (is_scoring (tree_of weight.now)) }
+    ensures listed { OnOk result (IsListing (all_listed is_scored (tree_of weight.now) (map (λ r. r.segment) segments.now)) (string_bytes text.new)) }
+    ensures refused { IfErr result (IsRefusalOf (tree_of weight.now) 1) }
 {
     let mut first: u64 = 0;
     for segment in segments {
-        match searcher {
-            None => {
-                let found = docs(alloc, segment, tree)?;
-                write_documents(text, first, found.as_slice())?;
-            }
-            Some(searcher) => {
-                let found = scores(alloc, searcher, segment, tree)?;
-                write_scores(text, first, found.as_slice())?;
-            }
-        }
+        write_segment(alloc, segment, weight, is_scored, first, text)?;
         first += u64::from(segment.max_doc());
     }
     Ok(())
+}
+
+// Writes what the weight lists in one segment, whose first document has this number.
+fn write_segment(
+    alloc: Global,
+    segment: &SegmentReader,
+    weight: &AnyWeight,
+    is_scored: bool,
+    first: u64,
+    text: &mut String,
+) -> Result<(), QueryError>
+    requires few { first ≤ MAX_SEGMENTS * TERMINATED }
+    requires scoring { is_scored ≡ true → IsTrue (is_scoring (tree_of weight.now)) }
+    ensures listed { AddsToListing result (listed is_scored (tree_of weight.now) first segment.now.segment) (string_bytes text.old) (string_bytes text.new) }
+    ensures refused { IfErr result (IsRefusalOf (tree_of weight.now) 1) }
+{
+    let scorer: AnyScorer<EmptyScorer> = weight.scorer(alloc, segment, 1)?;
+    if is_scored {
+        let found = scores_left(alloc, scorer)?;
+        write_scores(text, first, found.as_slice())?;
+        Ok(())
+    } else {
+        let found = documents_left(alloc, scorer)?;
+        write_documents(text, first, found.as_slice())?;
+        Ok(())
+    }
 }
 
 fn write_documents(text: &mut String, first: u64, found: &[DocId]) -> Result<(), AllocError>
@@ -70,7 +111,6 @@ fn write_scores(text: &mut String, first: u64, found: &[(DocId, Score)]) -> Resu
     }
     Ok(())
 }
-
 // Writes a document's number, behind a space where something stands before it.
 fn write_document(text: &mut String, document: u64) -> Result<(), AllocError>
     ensures { AddsToListing result ((document, None) ∷ []) (string_bytes text.old) (string_bytes text.new) }

@@ -1,10 +1,11 @@
 //! What a line of a script asks for.
 
-ghost use Rattle.std.specs.Prelude.{◌≡◌, map, IfOk, IsUtf8};
+ghost use Rattle.std.specs.Prelude.{◌≡◌, map, IfOk, IsUtf8, Some};
 ghost use Rattle.qm_search.specs.Cursor.{words_left};
-ghost use Rattle.qm_search.specs.Script.{AreWords, behind_line_form, line_request, weight_at, whole_query, words_request};
+ghost use Rattle.qm_search.specs.Script.{AreWords, Request, behind_line_form, line_request, weight_at, whole_query, words_request};
 ghost use Rattle.qm_search.specs.Requests.{request_of};
 ghost use Rattle.qm_search.specs.Spelled.{Gives, query_of};
+ghost use Rattle.qm_search.specs.Spelling.{Spells};
 
 use crate::form::{LineForm, line_form};
 use crate::non_negative_score::NonNegativeScore;
@@ -36,6 +37,8 @@ pub enum Command {
 pub fn parse_line(alloc: Global, line: &[u8]) -> Result<Command, Unparsed>
     ensures text { IfOk result (λ command. IsUtf8 line.now) }
     ensures request { IsUtf8 line.now → Gives request_of result (line_request line.now) }
+    // what a line spells is read back from it
+    ensures spelled { (request : Request) → Spells line.now request → IsUtf8 line.now → Gives request_of result (Some request) }
 {
     let Ok(text) = str::from_utf8(line) else {
         return Err(Unparsed::NotUnderstood);

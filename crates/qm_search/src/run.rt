@@ -1,8 +1,9 @@
 //! Running a script.
 
-ghost use Rattle.std.specs.Prelude.{◌≡◌, ◌≤◌, IfOk, IsSome, IsUtf8, option_map};
-ghost use Rattle.qm_search.specs.Requests.{request_of};
-ghost use Rattle.qm_search.specs.Script.{line_request};
+ghost use Rattle.std.specs.Prelude.{◌≤◌, IfOk, IfSome, OnOk, string_bytes};
+ghost use Rattle.std.specs.Io.KnownBytes.{Appends, Keeps};
+ghost use Rattle.qm_search.specs.Runs.{AnswersLine, IsReadAs, IsRun, output};
+ghost use Rattle.qm_search.specs.State.{state};
 
 use crate::answer::answer_command;
 use crate::corpus::Corpus;
@@ -10,7 +11,7 @@ use crate::lines::Lines;
 use crate::parse::{Command, parse_line};
 use crate::unparsed::Unparsed;
 use std::alloc::{AllocError, AllocFailed, Global};
-use std::io::{BufWriter, Read, Write};
+use std::io::{Read, Write};
 use thiserror::Error;
 
 /// Why a run ended before the end of its script.
@@ -43,38 +44,24 @@ impl<T: Drop> From<AllocFailed<T>> for RunError {
 /// status: 2 where some line wasn't understood, else 1 where some line was refused, else 0.
 ///
 /// Before more input is waited for, all lines that were read whole are answered, and the answers
-/// written. The first error ends the run. What was answered before it has been written then, and
-/// after `Write` nothing more is written.
+/// written and flushed: so the output is best a buffer. The first error ends the run. What was
+/// answered before it has been written then, and after `Write` nothing more is written. Costs what
+/// the lines cost, and one flush for each read.
 pub fn run<R: Read, W: Write>(alloc: Global, input: &mut R, output: &mut W) -> Result<u8, RunError>
+    ensures answers { IfSome (R.remaining input.old)
+        (λ bytes. IfOk result (λ status. IsRun bytes status (W.contents output.old) (W.contents output.new))) }
     ensures status { IfOk result (λ status. status ≤ 2) }
 {
-    let Ok(mut output) = BufWriter::new(alloc, output) else {
-        return Err(RunError::Memory);
-    };
-    let answered = answer_lines(alloc, input, &mut output);
-    let flushed = if answered == Err(RunError::Write) {
-        Ok(())
-    } else {
-        output.flush()
-    };
-    // What could not be written stays in the buffer, which would write it when it is dropped.
-    let (_output, _unwritten) = output.into_parts();
-    let status = answered?;
-    match flushed {
-        Ok(()) => Ok(status),
-        Err(_) => Err(RunError::Write),
-    }
-}
-
-// What the line asks for; none where it isn't understood.
-fn read_command(alloc: Global, line: &[u8]) -> Result<Option<Command>, RunError>
-    ensures text { IfOk result (λ command. IsSome command → IsUtf8 line.now) }
-    ensures request { IsUtf8 line.now → IfOk result (λ command. option_map request_of command ≡ line_request line.now) }
-{
-    match parse_line(alloc, line) {
-        Ok(command) => Ok(Some(command)),
-        Err(Unparsed::NotUnderstood) => Ok(None),
-        Err(Unparsed::Memory) => Err(RunError::Memory),
+    match answer_lines(alloc, input, output) {
+        Ok(status) => {
+            flush(output)?;
+            Ok(status)
+        }
+        Err(RunError::Write) => Err(RunError::Write),
+        Err(error) => {
+            let _ = output.flush();
+            Err(error)
+        }
     }
 }
 
@@ -84,6 +71,8 @@ fn answer_lines<R: Read, W: Write>(
     input: &mut R,
     output: &mut W,
 ) -> Result<u8, RunError>
+    ensures answers { IfSome (R.remaining input.old)
+        (λ bytes. IfOk result (λ status. IsRun bytes status (W.contents output.old) (W.contents output.new))) }
     ensures status { IfOk result (λ status. status ≤ 2) }
 {
     let mut lines = Lines::new();
@@ -95,26 +84,72 @@ fn answer_lines<R: Read, W: Write>(
     let mut status = 0;
     for number in 1..u64::MAX {
         // what was answered appears before more input is waited for
-        if !lines.has_line() && output.flush().is_err() {
-            return Err(RunError::Write);
+        if !lines.has_line() {
+            flush(output)?;
         }
         if !lines.next_line(input, &mut line)? {
-            break;
+            return Ok(status);
         }
-        let command = read_command(alloc, line.as_slice())?;
-        text.clear();
-        let answer = answer_command(alloc, &mut corpus, command, &mut text)?;
-        status = answer.status().max(status);
-        answer.finish(number, &mut text)?;
-        if output.write_all(text.as_bytes()).is_err() {
-            return Err(RunError::Write);
-        }
+        let made = answer_line(alloc, &mut corpus, number, line.as_slice(), &mut text)?;
+        status = made.max(status);
+        write_text(output, text.as_str())?;
     }
-    Ok(status)
+    Err(RunError::Read)
+}
+
+// Answers a line, leaves in the text what is to be written for it, and gives the exit status of a
+// script that has no other line.
+fn answer_line(
+    alloc: Global,
+    corpus: &mut Corpus,
+    number: u64,
+    line: &[u8],
+    text: &mut String,
+) -> Result<u8, RunError>
+    ensures answer { IfOk result
+        (λ status. AnswersLine (state corpus.old) number line.now (output (string_bytes text.new) status) (state corpus.new)) }
+    ensures status { IfOk result (λ status. status ≤ 2) }
+{
+    let command = read_command(alloc, line)?;
+    text.clear();
+    let answer = answer_command(alloc, corpus, command, text)?;
+    answer.finish(number, text)?;
+    Ok(answer.status())
+}
+
+// What the line asks for; none where it isn't understood.
+fn read_command(alloc: Global, line: &[u8]) -> Result<Option<Command>, RunError>
+    ensures { IfOk result (IsReadAs line.now) }
+{
+    match parse_line(alloc, line) {
+        Ok(command) => Ok(Some(command)),
+        Err(Unparsed::NotUnderstood) => Ok(None),
+        Err(Unparsed::Memory) => Err(RunError::Memory),
+    }
+}
+
+fn write_text<W: Write>(output: &mut W, text: &str) -> Result<(), RunError>
+    ensures { OnOk result (Appends (W.contents output.old) (W.contents output.new) text.now) }
+{
+    match output.write_all(text.as_bytes()) {
+        Ok(()) => Ok(()),
+        Err(_) => Err(RunError::Write),
+    }
+}
+
+fn flush<W: Write>(output: &mut W) -> Result<(), RunError>
+    ensures { OnOk result (Keeps (W.contents output.old) (W.contents output.new)) }
+{
+    match output.flush() {
+        Ok(()) => Ok(()),
+        Err(_) => Err(RunError::Write),
+    }
 }
 
 #[cfg(test)]
 mod fakes;
+#[cfg(test)]
+mod known_input;
 #[cfg(test)]
 mod refused_memory;
 #[cfg(test)]

@@ -20,12 +20,12 @@ use Rattle.qm_schema.specs.declared.occur.Occur.TheVariants.{Should, Must, MustN
 use Rattle.qm_scorer.specs.Bare.{scores_to}
 use Rattle.qm_scorer.specs.Built.{IsAtLeastOf}
 use Rattle.qm_scorer.specs.Intersection.{ListsShared}
-use Rattle.qm_weight.specs.ClauseScorers.{AreScorersOf, AreWantedScorers, IsWantedRefusal, clause_trees, wanted_tree}
+use Rattle.qm_weight.specs.ClauseScorers.{AreScorersOf, AreWantedScorers, IsOneClause, IsWantedRefusal, clause_trees, wanted_tree}
 use Rattle.qm_weight.specs.Scorers.{IsListOf, IsRefusalOf, IsScorerOf}
 use Rattle.qm_weight.specs.Tree.{clause_bounds}
 use Rattle.qm_weight.specs.Weights.{boolean_tree, clauses_from}
 use Rattle.qm_weight.specs.declared.boolean_weight.BooleanWeight.{BooleanWeight}
-use Rattle.qm_weight.proofs.Booleans.{IsWantedListing, from-both, from-must, from-optional, from-should, list-excluded, list-wanted}
+use Rattle.qm_weight.proofs.Booleans.{IsWantedListing, from-both, from-must, from-one, from-optional, from-should, list-excluded, list-wanted}
 use Rattle.qm_weight.proofs.TreeRows.{bounds-of, length-bounds, length-of, tops-of, wanted-bounds, wanted-fits}
 
 sum-tops : (ls : List Limits) → sum (map (λ l. l.top) ls) ≡ total_top ls
@@ -75,6 +75,11 @@ module _ {T : Type 0} (D : Ghosts T) (law : (s : T) → D.valid s → AreEntries
   joined-should s empty w =
       wanted-scorer s (subst (λ es. IsWantedListing weight.minimum_number_should_match weight.score_combiner (clauses_from weight.weights.items) b segment es) (sym w.entries) (from-should D law weight.minimum_number_should_match weight.score_combiner (clauses_from weight.weights.items) b segment few must should rows.must rows.should empty))
       (omega (arith, ap (λ l. l.top) w.limits, tops)) (record { valid = w.valid; placed = w.placed })
+
+  pub joined-one : (s : T) → IsOneClause weight must should → ArePlaced D should → ListsShared D should s → IsScorerOf D (wanted_tree weight) b segment s
+  joined-one s alone placed shared =
+      wanted-scorer s (from-one D law weight.minimum_number_should_match weight.score_combiner (clauses_from weight.weights.items) b segment few must should rows.must rows.should s alone.no_must alone.one_should alone.least alone.kept shared)
+      (omega (arith, shared-top D should s shared, tops)) (shared-placed D should s placed shared)
 
   pub joined-must : (s : T) → weight.minimum_number_should_match ≡ 0 → should ≡ [] → 1 ≤ length must → ArePlaced D must → total_top (bounds D must) ≤ greatest_score → ListsShared D must s → IsScorerOf D (wanted_tree weight) b segment s
   joined-must s zero_least empty some placed fits shared =

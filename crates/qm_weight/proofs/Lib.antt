@@ -13,3 +13,6 @@ mod Booleans
 mod Joins
 mod ClauseSteps
 mod Nodes
+mod AliveCounts
+mod RunSteps
+mod ExplainedScores

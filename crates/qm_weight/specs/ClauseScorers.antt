@@ -1,14 +1,15 @@
 -- The scorers of a Boolean's clauses.
-use Rattle.std.specs.Prelude.{ℕ, if◌then◌else◌, List, [], ◌∷◌}
+use Rattle.std.specs.Prelude.{ℕ, nat_le, Bool, false, if◌then◌else◌, List, [], ◌∷◌, ◌≡◌, ◌≤◌, ◌++◌, length}
 use Rattle.qm_docset.specs.declared.docset.DocSet.{Ghosts}
 use Rattle.qm_postings.specs.Segment.{Segment}
 use Rattle.qm_schema.specs.declared.error.QueryError.{QueryError}
 use Rattle.qm_schema.specs.declared.error.QueryError.TheVariants.{Memory, ScoreBound}
 use Rattle.qm_schema.specs.declared.occur.Occur.{Occur}
 use Rattle.qm_schema.specs.declared.occur.Occur.TheVariants.{Should, Must, MustNot}
+use Rattle.qm_scorer.specs.declared.any_combiner.AnyCombiner.{AnyCombiner}
 use Rattle.qm_scorer.specs.declared.any_scorer.AnyScorer.{AnyScorer}
 use Rattle.qm_weight.specs.Scorers.{IsRefusalOf, IsScorerOf}
-use Rattle.qm_weight.specs.Tree.{Clauses, ClausesFit, Tree, boolean, clause, no_clause, occurs_as}
+use Rattle.qm_weight.specs.Tree.{Clauses, ClausesFit, Tree, boolean, clause, combined, no_clause, occurs_as}
 use Rattle.qm_weight.specs.Weights.{boolean_tree, clauses_from, combiner_of}
 use Rattle.qm_weight.specs.declared.boolean_weight.BooleanWeight.{BooleanWeight}
 use Rattle.qm_weight.specs.declared.boolean_weight.clauses.ClauseScorers.{ClauseScorers}
@@ -35,6 +36,11 @@ members_of Must scorers = scorers.must.items
 members_of Should scorers = scorers.should.items
 members_of MustNot scorers = scorers.must_not.items
 
+-- there is one more scorer, of a clause that occurs so, behind the others of its kind
+abbrev pub AddsScorer : {S : Type 0} → Occur → AnyScorer S → ClauseScorers S → ClauseScorers S → Type 0
+AddsScorer occur s before after =
+    (wanted : Occur) → members_of wanted after ≡ (if occurs_as wanted occur then members_of wanted before ++ s ∷ [] else members_of wanted before)
+
 -- each is a scorer of the tree beside it
 abbrev pub AreScorersOf : {S : Type 0} → Ghosts S → ℕ → Segment → List Tree → List S → Type 0
 AreScorersOf D b segment [] [] = Unit {0}
@@ -51,6 +57,12 @@ abbrev pub IsClauseRefusal : Clauses → ℕ → QueryError → Type 0
 IsClauseRefusal clauses b ScoreBound = ¬ ClausesFit clauses b
 IsClauseRefusal clauses b Memory = Unit {0}
 IsClauseRefusal clauses b error = ⊥
+
+-- one clause that has to match, alone, where it meets the minimum
+abbrev pub is_one_clause : ℕ → Clauses → Bool
+is_one_clause minimum (clause Must inside no_clause) = nat_le minimum 0
+is_one_clause minimum (clause Should inside no_clause) = nat_le minimum 1
+is_one_clause minimum clauses = false
 
 -- ---- one scorer of those of a Boolean's clauses
 
@@ -74,3 +86,16 @@ JoinsWanted D weight segment must should s = (b : ℕ) → AreWantedScorers D we
 -- and what refuses one
 abbrev pub IsWantedRefusal : {S : Type 0} → Ghosts S → BooleanWeight → Segment → List S → List S → QueryError → Type 0
 IsWantedRefusal D weight segment must should e = (b : ℕ) → AreWantedScorers D weight b segment must should → IsRefusalOf (wanted_tree weight) b e
+
+-- ---- one clause alone
+
+-- of one score a combiner makes that score
+abbrev pub KeepsOneScore : AnyCombiner → Type 0
+KeepsOneScore combiner = (x : ℕ) → combined (combiner_of combiner) (x ∷ []) ≡ x
+
+-- of the clauses that may match there is one, a Should clause, and its score is that of the Boolean
+pub record IsOneClause {S : Type 0} (weight : BooleanWeight) (must should : List S) : Type 0 where
+  pub no_must : length must ≡ 0
+  pub one_should : length should ≡ 1
+  pub least : weight.minimum_number_should_match ≤ 1
+  pub kept : KeepsOneScore weight.score_combiner

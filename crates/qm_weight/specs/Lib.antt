@@ -6,6 +6,10 @@ pub mod Weights
 pub mod Scorers
 pub mod LeafScorers
 pub mod ClauseScorers
+pub mod TermScorers
 pub mod TreeFacts
 pub mod BoostFacts
 pub mod ScoringFacts
+pub mod Counts
+pub mod TreeRuns
+pub mod Explanations

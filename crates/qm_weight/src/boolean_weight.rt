@@ -1,23 +1,33 @@
 //! A weight of clauses that must, should or must not match.
 
-ghost use Rattle.std.specs.Prelude.{◌≡◌, ◌≤◌, IfErr, IfOk};
+ghost use Rattle.std.specs.Prelude.{◌≡◌, ◌<◌, ◌≤◌, IfErr, IfOk, length};
 ghost use Rattle.qm_docset.specs.Entry.{greatest_score};
+ghost use Rattle.qm_term.specs.Explained.{value_of};
+ghost use Rattle.qm_weight.specs.Counts.{alive_count};
+ghost use Rattle.qm_weight.specs.Explanations.{IsExplained, IsExplainRefusal};
 ghost use Rattle.qm_weight.specs.Scorers.{IsRefusalOf, IsScorerOf};
 ghost use Rattle.qm_weight.specs.Tree.{boolean};
 ghost use Rattle.qm_weight.specs.Weights.{boolean_tree, clauses_from, combiner_of};
 
 use crate::any_weight::AnyWeight;
-use crate::weight::{Weight, for_each_scorer};
+use crate::counts::count_alive;
+use crate::explanations::{check_document, score_of};
+use crate::weight::{
+    Weight, empty_buffer, for_each_docset_buffered, for_each_pruning_scorer, for_each_scorer,
+};
 use clauses::build_clauses;
+use explained::explain_clauses;
 use joined::join_clauses;
 use qm_combine::{EmptyScorer, Scorer};
-use qm_docset::{DocId, DocSet, Score};
+use qm_docset::{DocId, DocSet, Score, TERMINATED};
 use qm_postings::SegmentReader;
 use qm_schema::{Occur, QueryError};
 use qm_scorer::{AnyCombiner, AnyScorer};
+use qm_term::Explanation;
 use std::alloc::Global;
 
 mod clauses;
+mod explained;
 mod joined;
 
 /// Matches the documents that every Must clause matches, no MustNot clause, and at least so many of
@@ -76,6 +86,20 @@ impl Weight for BooleanWeight {
         build_boolean(self, alloc, reader, boost as u64)
     }
 
+    fn count(&self, alloc: Global, reader: &SegmentReader) -> Result<u32, QueryError> {
+        count_boolean(self, alloc, reader, 1)
+    }
+
+    fn explain(
+        &self,
+        alloc: Global,
+        reader: &SegmentReader,
+        doc: DocId,
+    ) -> Result<Explanation, QueryError> {
+        check_document(reader, doc)?;
+        explain_boolean(self, alloc, reader, doc, 1)
+    }
+
     fn for_each<F: FnMut(DocId, Score)>(
         &self,
         alloc: Global,
@@ -84,6 +108,29 @@ impl Weight for BooleanWeight {
     ) -> Result<(), QueryError> {
         let mut scorer: AnyScorer<EmptyScorer> = build_boolean(self, alloc, reader, 1)?;
         for_each_scorer(&mut scorer, callback);
+        Ok(())
+    }
+
+    fn for_each_no_score<F: FnMut(&[DocId])>(
+        &self,
+        alloc: Global,
+        reader: &SegmentReader,
+        callback: &mut F,
+    ) -> Result<(), QueryError> {
+        let mut scorer: AnyScorer<EmptyScorer> = build_boolean(self, alloc, reader, 1)?;
+        for_each_docset_buffered(&mut scorer, &mut empty_buffer(), callback);
+        Ok(())
+    }
+
+    fn for_each_pruning<F: FnMut(DocId, Score) -> Score>(
+        &self,
+        alloc: Global,
+        threshold: Score,
+        reader: &SegmentReader,
+        callback: &mut F,
+    ) -> Result<(), QueryError> {
+        let mut scorer: AnyScorer<EmptyScorer> = build_boolean(self, alloc, reader, 1)?;
+        for_each_pruning_scorer(&mut scorer, threshold, callback);
         Ok(())
     }
 }
@@ -102,4 +149,39 @@ pub(crate) fn build_boolean<'a, S: Scorer>(
 {
     let scorers = build_clauses(&weight.weights, alloc, reader, boost)?;
     join_clauses(weight, alloc, reader, scorers)
+}
+
+// What the scorer lists is counted.
+pub(crate) fn count_boolean(
+    weight: &BooleanWeight,
+    alloc: Global,
+    reader: &SegmentReader,
+    boost: u64,
+) -> Result<u32, QueryError>
+    requires boost { boost ≤ greatest_score }
+    ensures count { IfOk result (λ n. n ≡ alive_count (boolean_tree weight.now) reader.now.segment) }
+    ensures refused { IfErr result (IsRefusalOf (boolean_tree weight.now) boost) }
+{
+    let mut scorer: AnyScorer<EmptyScorer> = build_boolean(weight, alloc, reader, boost)?;
+    Ok(count_alive(&mut scorer, reader))
+}
+
+// The score of the Boolean, and as details the clauses that match and add to it.
+#[cycle(explain)]
+pub(crate) fn explain_boolean(
+    weight: &BooleanWeight,
+    alloc: Global,
+    reader: &SegmentReader,
+    doc: DocId,
+    boost: u64,
+) -> Result<Explanation, QueryError>
+    requires boost { boost ≤ greatest_score }
+    requires inside { doc < length reader.now.segment.documents }
+    requires below { doc < TERMINATED }
+    ensures explained { IfOk result (λ e. IsExplained (boolean_tree weight.now) boost reader.now.segment doc (value_of e)) }
+    ensures refused { IfErr result (IsExplainRefusal (boolean_tree weight.now) boost reader.now.segment doc) }
+{
+    let mut scorer: AnyScorer<EmptyScorer> = build_boolean(weight, alloc, reader, boost)?;
+    let score = score_of(&mut scorer, doc)?;
+    explain_clauses(&weight.weights, alloc, reader, doc, boost, score)
 }

@@ -2,18 +2,23 @@
 //! a cursor has left.
 
 ghost use Rattle.std.specs.Fn.{CalledAt, TakesAt};
-ghost use Rattle.std.specs.Prelude.{◌≡◌, ◌≤ℤ◌, ℤ, ◌<ℤ◌, IfErr, IfOk, List, [], OnErr, nat_abs, pos};
+ghost use Rattle.std.specs.Prelude.{◌≡◌, ◌≤ℤ◌, ℤ, ◌<ℤ◌, IfErr, IfOk, List, [], OnErr, OnOk, nat_abs, pos};
 ghost use Rattle.qm_docset.specs.Entry.{Entry, documents};
 ghost use Rattle.qm_docset.specs.Lists.{IsPlaced, Lists};
+ghost use Rattle.qm_term.specs.Explained.{value_of};
 ghost use Rattle.qm_term.specs.Runs.{CallsAt, CallsEach, InRange, MayCallAt, MayCallEach, MayPrune, Plain, Turn, slices};
-ghost use Rattle.qm_weight.specs.Scorers.{IsListOf, IsRefusalOf, IsScorerOf};
+ghost use Rattle.qm_weight.specs.Counts.{alive_count};
+ghost use Rattle.qm_weight.specs.Explanations.{IsExplained, IsExplainRefusal};
+ghost use Rattle.qm_weight.specs.Scorers.{IsRefusalOf, IsScorerOf};
 ghost use Rattle.qm_weight.specs.Tree.{Tree};
+ghost use Rattle.qm_weight.specs.TreeRuns.{CallsTree, MayCallTree, MayPruneTree, PrunesTree, tree_slices};
 
 use qm_combine::Scorer;
 use qm_docset::{COLLECT_BLOCK_BUFFER_LEN, DocId, DocSet, Score, TERMINATED};
 use qm_postings::SegmentReader;
 use qm_schema::QueryError;
 use qm_scorer::AnyScorer;
+use qm_term::Explanation;
 use std::alloc::Global;
 
 /// What a query has become for an index: it stands for a tree, and gives what that tree matches and
@@ -42,6 +47,31 @@ pub trait Weight {
         ensures scorer { IfOk result (IsScorerOf ⟦<AnyScorer<'a, S> as DocSet>⟧ (tree self.now) (nat_abs boost) reader.now.segment) }
         ensures refused { IfErr result (IsRefusalOf (tree self.now) (nat_abs boost)) };
 
+    /// How many documents of a segment match and weren't deleted.
+    ///
+    /// Refused as [`scorer`](Weight::scorer) is at a boost of 1. Costs what the scorer does, and an
+    /// `advance` a document that matches; without deleted documents a term costs its look-up alone, and
+    /// where every document matches the number is at hand.
+    fn count(&self, alloc: Global, reader: &SegmentReader) -> Result<u32, QueryError>
+        ensures count { IfOk result (λ n. n ≡ alive_count (tree self.now) reader.now.segment) }
+        ensures refused { IfErr result (IsRefusalOf (tree self.now) 1) };
+
+    /// Why a document of a segment scores what it does, at a boost of 1; a deleted one too. The value is
+    /// that of the weight's own scorer, and the text says what the weight made of it. The details are those
+    /// of the clauses that match, each at the boost that it has in the tree.
+    ///
+    /// Refused with [`QueryError::DoesNotMatch`] exactly where the document doesn't match, which is said of
+    /// a number at or past `max_doc` before anything else is done; and else as [`scorer`](Weight::scorer)
+    /// is at a boost of 1. Builds a scorer for the weight and for each clause that is explained.
+    fn explain(
+        &self,
+        alloc: Global,
+        reader: &SegmentReader,
+        doc: DocId,
+    ) -> Result<Explanation, QueryError>
+        ensures explained { IfOk result (λ e. IsExplained (tree self.now) 1 reader.now.segment doc (value_of e)) }
+        ensures refused { IfErr result (IsExplainRefusal (tree self.now) 1 reader.now.segment doc) };
+
     /// Calls `callback` once for each document of a segment that matches, ascending, with its score at a
     /// boost of 1.
     ///
@@ -54,8 +84,45 @@ pub trait Weight {
         reader: &SegmentReader,
         callback: &mut F,
     ) -> Result<(), QueryError>
-        requires allowed { (es : List Entry) → IsListOf (tree self.now) 1 reader.now.segment es → MayCallEach (CallsAt F.step) (MayCallAt F.pre) callback.old es }
-        ensures calls { IfOk result (λ _. (es : List Entry) × IsListOf (tree self.now) 1 reader.now.segment es × CallsEach (CallsAt F.step) callback.old es callback.new) }
+        requires allowed { MayCallTree F.step F.pre (tree self.now) reader.now.segment callback.old }
+        ensures calls { OnOk result (CallsTree F.step (tree self.now) reader.now.segment callback.old callback.new) }
+        ensures unchanged { OnErr result (callback.new ≡ callback.old) }
+        ensures refused { IfErr result (IsRefusalOf (tree self.now) 1) };
+
+    /// Calls `callback` with the documents of a segment that match, ascending, in slices of
+    /// [`COLLECT_BLOCK_BUFFER_LEN`] and then one shorter slice, which is empty where their number is a
+    /// multiple of that. The weight of a term that no document holds makes no call.
+    ///
+    /// Asks that the callback may be called so, whatever the calls before left of it. Refused as
+    /// [`scorer`](Weight::scorer) is at a boost of 1, and then no call was made. Costs what the scorer
+    /// does, and a `fill_buffer` a slice.
+    fn for_each_no_score<F: FnMut(&[DocId])>(
+        &self,
+        alloc: Global,
+        reader: &SegmentReader,
+        callback: &mut F,
+    ) -> Result<(), QueryError>
+        requires allowed { MayCallEach (λ f xs g. CalledAt F.FnMut f xs tt g) (TakesAt F.FnMut) callback.old (tree_slices (tree self.now) reader.now.segment) }
+        ensures calls { OnOk result (CallsEach (λ f xs g. CalledAt F.FnMut f xs tt g) callback.old (tree_slices (tree self.now) reader.now.segment) callback.new) }
+        ensures unchanged { OnErr result (callback.new ≡ callback.old) }
+        ensures refused { IfErr result (IsRefusalOf (tree self.now) 1) };
+
+    /// Goes through the documents of a segment that match, ascending, and calls `callback` for each whose
+    /// score at a boost of 1 is above the threshold, which its answer then replaces, whether it is higher
+    /// or lower.
+    ///
+    /// Asks that the callback may be called so, whatever the calls before answered and left of it. Refused
+    /// as [`scorer`](Weight::scorer) is at a boost of 1, and then no call was made. Costs what the scorer
+    /// does, and a `score` and an `advance` a document.
+    fn for_each_pruning<F: FnMut(DocId, Score) -> Score>(
+        &self,
+        alloc: Global,
+        threshold: Score,
+        reader: &SegmentReader,
+        callback: &mut F,
+    ) -> Result<(), QueryError>
+        requires allowed { MayPruneTree F.step F.pre (tree self.now) reader.now.segment threshold callback.old }
+        ensures calls { OnOk result (PrunesTree F.step (tree self.now) reader.now.segment threshold callback.old callback.new) }
         ensures unchanged { OnErr result (callback.new ≡ callback.old) }
         ensures refused { IfErr result (IsRefusalOf (tree self.now) 1) };
 }
@@ -102,6 +169,11 @@ pub fn for_each_docset_buffered<D: DocSet, F: FnMut(&[DocId])>(
             return;
         }
     }
+}
+
+// A buffer for slices, whose contents are of no consequence.
+pub(crate) fn empty_buffer() -> [DocId; COLLECT_BLOCK_BUFFER_LEN] {
+    [0; COLLECT_BLOCK_BUFFER_LEN]
 }
 
 // One call, with these documents.

@@ -1,7 +1,6 @@
 //! The words of texts.
 
-use crate::tests::segments::{length_id, schema, title};
-use crate::{PlainDoc, SegmentBuilder};
+use crate::tests::segments::{add, builder, document, length_id, title};
 use std::alloc::Global;
 use std::test::Fail;
 
@@ -27,8 +26,7 @@ fn empty_words_are_left_out(rt: HostRuntime) -> Result<(), Fail> {
         ("a\tb", 1),
         ("a", 1),
     ] {
-        let mut document = PlainDoc::new(rt.alloc());
-        document.add_text(rt.alloc(), title(), text)?;
+        let document = document(rt.alloc(), title(), text)?;
         assert_eq!(rt;
             document.lengths.as_slice(),
             [(title(), want)].as_slice(),
@@ -40,8 +38,7 @@ fn empty_words_are_left_out(rt: HostRuntime) -> Result<(), Fail> {
 
 #[test]
 fn words_stand_at_their_places(rt: HostRuntime) -> Result<(), Fail> {
-    let mut document = PlainDoc::new(rt.alloc());
-    document.add_text(rt.alloc(), title(), " b a  b c b ")?;
+    let document = document(rt.alloc(), title(), " b a  b c b ")?;
     let rows: [(&str, &[u32]); 3] = [("b", &[0, 2, 4]), ("a", &[1]), ("c", &[3])];
     assert_eq!(rt; document.terms.len(), 3);
     for (given, (word, places)) in document.terms.iter().zip(rows) {
@@ -54,12 +51,10 @@ fn words_stand_at_their_places(rt: HostRuntime) -> Result<(), Fail> {
 
 #[test]
 fn length_ids_are_held_at_255(rt: HostRuntime) -> Result<(), Fail> {
-    let mut builder = SegmentBuilder::new(rt.alloc(), &schema(rt.alloc())?, 128)?;
+    let mut builder = builder(rt.alloc())?;
     let rows = [(254, 254), (255, 255), (256, 255), (300, 255), (512, 255)];
     for (count, _) in rows {
-        let mut document = PlainDoc::new(rt.alloc());
-        document.add_text(rt.alloc(), title(), words(rt.alloc(), count)?.as_str())?;
-        builder.add_document(document)?;
+        add(rt.alloc(), &mut builder, words(rt.alloc(), count)?.as_str())?;
     }
     let reader = builder.build(rt.alloc())?;
     for (doc, (count, want)) in (0..5).zip(rows) {

@@ -22,7 +22,7 @@ fn phrase_kinds(alloc: Global) -> Result<DisjunctionMaxQuery, QueryError> {
 }
 
 // A clause of a query, in a box of its own.
-fn clause(
+pub(super) fn clause(
     alloc: Global,
     occur: Occur,
     query: AnyQuery,

@@ -2,7 +2,13 @@
 //! preloaded. Without it nothing is refused, and `rt ci` runs these tests so.
 
 use super::builders::every_kind;
-use qm_schema::QueryError;
+use super::segments::{searcher_of, words};
+use super::terms::{placed, term, terms};
+use crate::{
+    BooleanQuery, EnableScoring, PhrasePrefixQuery, PhraseQuery, Query, QueryClone, TermQuery,
+};
+use qm_postings::Searcher;
+use qm_schema::{IndexRecordOption, QueryError};
 use std::alloc::Global;
 use std::env;
 use std::process::Abort;
@@ -15,7 +21,7 @@ fn refuse(alloc: Global, number: u32) {
 }
 
 /// Whether a refusal is heard. It has to be where the script of these tests says so.
-fn can_refuse(rt: &(impl Abort + AllocGlobal + Env)) -> bool {
+pub(super) fn can_refuse(rt: &(impl Abort + AllocGlobal + Env)) -> bool {
     refuse(rt.alloc(), 1);
     let is_refused = Vec::<u8>::with_capacity(rt.alloc(), 1).is_err();
     refuse(rt.alloc(), 0);
@@ -25,13 +31,13 @@ fn can_refuse(rt: &(impl Abort + AllocGlobal + Env)) -> bool {
 
 /// Makes the call again and again, each time with its next request refused, until it needs no more:
 /// it asks at least once, and answers nothing but a want of memory.
-fn each_request_is_refused<F: Fn(Global) -> Result<(), QueryError>>(
+pub(super) fn each_request_is_refused<F: Fn(Global) -> Result<(), QueryError>>(
     rt: &(impl Abort + AllocGlobal),
     call: F,
 )
     requires { F.IsAlwaysCallable call }
 {
-    for number in 1..100 {
+    for number in 1..1000 {
         refuse(rt.alloc(), number);
         let made = call(rt.alloc());
         refuse(rt.alloc(), 0);
@@ -43,7 +49,7 @@ fn each_request_is_refused<F: Fn(Global) -> Result<(), QueryError>>(
             Err(error) => assert_eq!(rt; error, QueryError::Memory),
         }
     }
-    assert!(rt; false, "a call asks for memory a hundred times");
+    assert!(rt; false, "a call asks for memory a thousand times");
 }
 
 #[test]
@@ -58,6 +64,98 @@ fn queries_are_refused_their_memory(rt: HostRuntime) -> Result<(), Fail> {
     let query = every_kind(rt.alloc())?;
     each_request_is_refused(&rt, |alloc| {
         query.clone(alloc)?;
+        Ok(())
+    });
+    each_request_is_refused(&rt, |alloc| {
+        query.box_clone(alloc)?;
+        Ok(())
+    });
+    Ok(())
+}
+
+#[test]
+fn phrases_are_refused_their_memory(rt: HostRuntime) -> Result<(), Fail> {
+    if !can_refuse(&rt) {
+        return Ok(());
+    }
+    // not in the order of their offsets, so that they are sorted
+    let rows = [(2, 0, "c"), (1, 0, "b"), (0, 0, "a")];
+    each_request_is_refused(&rt, |alloc| {
+        PhraseQuery::new_with_offset_and_slop(alloc, placed(alloc, &rows)?, 1)?.phrase_terms(
+            alloc,
+        )?;
+        Ok(())
+    });
+    each_request_is_refused(&rt, |alloc| {
+        PhraseQuery::new_with_offset(alloc, placed(alloc, &rows)?)?.clone(alloc)?;
+        Ok(())
+    });
+    each_request_is_refused(&rt, |alloc| {
+        PhrasePrefixQuery::new_with_offset(alloc, placed(alloc, &rows)?)?.phrase_terms(alloc)?;
+        Ok(())
+    });
+    Ok(())
+}
+
+#[test]
+fn clauses_are_refused_their_memory(rt: HostRuntime) -> Result<(), Fail> {
+    if !can_refuse(&rt) {
+        return Ok(());
+    }
+    each_request_is_refused(&rt, |alloc| {
+        BooleanQuery::intersection(alloc, words(alloc, &["a", "b"])?)?;
+        Ok(())
+    });
+    each_request_is_refused(&rt, |alloc| {
+        BooleanQuery::union(alloc, words(alloc, &["a", "b"])?)?;
+        Ok(())
+    });
+    each_request_is_refused(&rt, |alloc| {
+        BooleanQuery::union_with_minimum_required_clauses(alloc, words(alloc, &["a", "b"])?, 2)?;
+        Ok(())
+    });
+    each_request_is_refused(&rt, |alloc| {
+        BooleanQuery::new_multiterms_query(alloc, terms(alloc, &["a", "b"])?)?;
+        Ok(())
+    });
+    Ok(())
+}
+
+#[test]
+fn weights_are_refused_their_memory(rt: HostRuntime) -> Result<(), Fail> {
+    if !can_refuse(&rt) {
+        return Ok(());
+    }
+    let searcher = searcher_of(rt.alloc(), &["a b c d"], 1000)?;
+    let on = EnableScoring::enabled_from_searcher(&searcher);
+    let off: EnableScoring<'_, Searcher> = EnableScoring::disabled_from_searcher(&searcher);
+    let query = every_kind(rt.alloc())?;
+    each_request_is_refused(&rt, |alloc| {
+        query.weight(alloc, on)?;
+        Ok(())
+    });
+    each_request_is_refused(&rt, |alloc| {
+        query.weight(alloc, off)?;
+        Ok(())
+    });
+    Ok(())
+}
+
+#[test]
+fn leaves_are_refused_their_memory(rt: HostRuntime) -> Result<(), Fail> {
+    if !can_refuse(&rt) {
+        return Ok(());
+    }
+    let searcher = searcher_of(rt.alloc(), &["a b c d"], 1000)?;
+    let on = EnableScoring::enabled_from_searcher(&searcher);
+    let word = TermQuery::new(term(rt.alloc(), "a")?, IndexRecordOption::WithFreqs);
+    each_request_is_refused(&rt, |alloc| {
+        word.specialized_weight(alloc, on)?;
+        Ok(())
+    });
+    let prefix = PhrasePrefixQuery::new(rt.alloc(), terms(rt.alloc(), &["a"])?)?;
+    each_request_is_refused(&rt, |alloc| {
+        prefix.weight(alloc, on)?;
         Ok(())
     });
     Ok(())

@@ -519,24 +519,24 @@ still_found : {P Q : Type 0} (answer : SeekDangerResult) → (P → Q) → OnFou
 still_found Found f h = f h
 still_found (SeekLowerBound bound) f h = tt
 
-pub any_scorer::seek_tree-seek_group-requires : goal.any_scorer::seek_tree-seek_group-requires
-any_scorer::seek_tree-seek_group-requires g t c κs within =
+pub any_scorer::seek_other-seek_group-requires : goal.any_scorer::seek_other-seek_group-requires
+any_scorer::seek_other-seek_group-requires g t c κs within =
     let D = g.S.DocSet in
     let node = c.in-Union.node in
     let value = rw (c.in-Union.is, outs-Union c.in-Union.node) at c.deref_mut-in-Union.ensures.value in
     let opened = subst (IsGroupNode D) (sym value) (opened-Union D node (subst (IsTree D) c.in-Union.is c.requires.valid)) in
     (search (rules, aq.the_lemmas), (search rules, (opened, c.requires.target)))
 
-pub any_scorer::seek_tree-returns-in-Union-clause-head : goal.any_scorer::seek_tree-returns-in-Union-clause-head
-any_scorer::seek_tree-returns-in-Union-clause-head g t c =
+pub any_scorer::seek_other-returns-in-Union-clause-head : goal.any_scorer::seek_other-returns-in-Union-clause-head
+any_scorer::seek_other-returns-in-Union-clause-head g t c =
     let D = g.S.DocSet in
     let node = c.in-Union.node in
     let value = rw (c.in-Union.is, outs-Union c.in-Union.node) at c.deref_mut-in-Union.ensures.value in
     let new = record node { value = c.seek_group.new.node } in
     rw (c.in-Union.is, outs-Union c.in-Union.node) (c.seek_group.ensures.head ∙ sym (ap head_document (entries-Union D new)))
 
-pub any_scorer::seek_tree-returns-in-Union-clause-entries : goal.any_scorer::seek_tree-returns-in-Union-clause-entries
-any_scorer::seek_tree-returns-in-Union-clause-entries g t c =
+pub any_scorer::seek_other-returns-in-Union-clause-entries : goal.any_scorer::seek_other-returns-in-Union-clause-entries
+any_scorer::seek_other-returns-in-Union-clause-entries g t c =
     let D = g.S.DocSet in
     let node = c.in-Union.node in
     let value = rw (c.in-Union.is, outs-Union c.in-Union.node) at c.deref_mut-in-Union.ensures.value in
@@ -544,42 +544,42 @@ any_scorer::seek_tree-returns-in-Union-clause-entries g t c =
     let before : tree_entries D (Union node) ≡ group_entries D c.deref_mut-in-Union.result.now = entries-Union D node ∙ ap (group_entries D) (sym value) in
     rw (c.in-Union.is, outs-Union c.in-Union.node) (entries-Union D new ∙ c.seek_group.ensures.entries ∙ ap (from c.args.target) (sym before))
 
-pub any_scorer::seek_tree-returns-in-Union-clause-valid : goal.any_scorer::seek_tree-returns-in-Union-clause-valid
-any_scorer::seek_tree-returns-in-Union-clause-valid g t c =
+pub any_scorer::seek_other-returns-in-Union-clause-valid : goal.any_scorer::seek_other-returns-in-Union-clause-valid
+any_scorer::seek_other-returns-in-Union-clause-valid g t c =
     let D = g.S.DocSet in
     let node = c.in-Union.node in
     let value = rw (c.in-Union.is, outs-Union c.in-Union.node) at c.deref_mut-in-Union.ensures.value in
     let new = record node { value = c.seek_group.new.node } in
     rw (c.in-Union.is, outs-Union c.in-Union.node) (closed-Union D new c.seek_group.ensures.valid)
 
-pub any_scorer::seek_tree-returns-in-Union-clause-placed : goal.any_scorer::seek_tree-returns-in-Union-clause-placed
-any_scorer::seek_tree-returns-in-Union-clause-placed g t c = rw (c.in-Union.is, outs-Union c.in-Union.node) tt
+pub any_scorer::seek_other-returns-in-Union-clause-placed : goal.any_scorer::seek_other-returns-in-Union-clause-placed
+any_scorer::seek_other-returns-in-Union-clause-placed g t c = rw (c.in-Union.is, outs-Union c.in-Union.node) tt
 
-pub any_scorer::seek_tree-returns-in-Union-clause-top : goal.any_scorer::seek_tree-returns-in-Union-clause-top
-any_scorer::seek_tree-returns-in-Union-clause-top g t c =
+pub any_scorer::seek_other-returns-in-Union-clause-top : goal.any_scorer::seek_other-returns-in-Union-clause-top
+any_scorer::seek_other-returns-in-Union-clause-top g t c =
     let D = g.S.DocSet in
     let node = c.in-Union.node in
     let value = rw (c.in-Union.is, outs-Union c.in-Union.node) at c.deref_mut-in-Union.ensures.value in
     rw (c.in-Union.is, outs-Union c.in-Union.node) (ap (λ (s : Shape). s.top) c.seek_group.ensures.shape ∙ ap (λ (n : GroupNode g.row.S.Denot). n.shape.top) value)
 
-pub any_scorer::seek_tree-seek_group-requires-in-Disjunction : goal.any_scorer::seek_tree-seek_group-requires-in-Disjunction
-any_scorer::seek_tree-seek_group-requires-in-Disjunction g t c κs within =
+pub any_scorer::seek_other-seek_group-requires-in-Disjunction : goal.any_scorer::seek_other-seek_group-requires-in-Disjunction
+any_scorer::seek_other-seek_group-requires-in-Disjunction g t c κs within =
     let D = g.S.DocSet in
     let node = c.in-Disjunction.node in
     let value = rw (c.in-Disjunction.is, outs-Disjunction c.in-Disjunction.node) at c.deref_mut-in-Disjunction.ensures.value in
     let opened = subst (IsGroupNode D) (sym value) (opened-Disjunction D node (subst (IsTree D) c.in-Disjunction.is c.requires.valid)) in
     (search (rules, aq.the_lemmas), (search rules, (opened, c.requires.target)))
 
-pub any_scorer::seek_tree-returns-in-Disjunction-clause-head : goal.any_scorer::seek_tree-returns-in-Disjunction-clause-head
-any_scorer::seek_tree-returns-in-Disjunction-clause-head g t c =
+pub any_scorer::seek_other-returns-in-Disjunction-clause-head : goal.any_scorer::seek_other-returns-in-Disjunction-clause-head
+any_scorer::seek_other-returns-in-Disjunction-clause-head g t c =
     let D = g.S.DocSet in
     let node = c.in-Disjunction.node in
     let value = rw (c.in-Disjunction.is, outs-Disjunction c.in-Disjunction.node) at c.deref_mut-in-Disjunction.ensures.value in
     let new = record node { value = c.seek_group-in-Disjunction.new.node } in
     rw (c.in-Disjunction.is, outs-Disjunction c.in-Disjunction.node) (c.seek_group-in-Disjunction.ensures.head ∙ sym (ap head_document (entries-Disjunction D new)))
 
-pub any_scorer::seek_tree-returns-in-Disjunction-clause-entries : goal.any_scorer::seek_tree-returns-in-Disjunction-clause-entries
-any_scorer::seek_tree-returns-in-Disjunction-clause-entries g t c =
+pub any_scorer::seek_other-returns-in-Disjunction-clause-entries : goal.any_scorer::seek_other-returns-in-Disjunction-clause-entries
+any_scorer::seek_other-returns-in-Disjunction-clause-entries g t c =
     let D = g.S.DocSet in
     let node = c.in-Disjunction.node in
     let value = rw (c.in-Disjunction.is, outs-Disjunction c.in-Disjunction.node) at c.deref_mut-in-Disjunction.ensures.value in
@@ -587,42 +587,42 @@ any_scorer::seek_tree-returns-in-Disjunction-clause-entries g t c =
     let before : tree_entries D (Disjunction node) ≡ group_entries D c.deref_mut-in-Disjunction.result.now = entries-Disjunction D node ∙ ap (group_entries D) (sym value) in
     rw (c.in-Disjunction.is, outs-Disjunction c.in-Disjunction.node) (entries-Disjunction D new ∙ c.seek_group-in-Disjunction.ensures.entries ∙ ap (from c.args.target) (sym before))
 
-pub any_scorer::seek_tree-returns-in-Disjunction-clause-valid : goal.any_scorer::seek_tree-returns-in-Disjunction-clause-valid
-any_scorer::seek_tree-returns-in-Disjunction-clause-valid g t c =
+pub any_scorer::seek_other-returns-in-Disjunction-clause-valid : goal.any_scorer::seek_other-returns-in-Disjunction-clause-valid
+any_scorer::seek_other-returns-in-Disjunction-clause-valid g t c =
     let D = g.S.DocSet in
     let node = c.in-Disjunction.node in
     let value = rw (c.in-Disjunction.is, outs-Disjunction c.in-Disjunction.node) at c.deref_mut-in-Disjunction.ensures.value in
     let new = record node { value = c.seek_group-in-Disjunction.new.node } in
     rw (c.in-Disjunction.is, outs-Disjunction c.in-Disjunction.node) (closed-Disjunction D new c.seek_group-in-Disjunction.ensures.valid)
 
-pub any_scorer::seek_tree-returns-in-Disjunction-clause-placed : goal.any_scorer::seek_tree-returns-in-Disjunction-clause-placed
-any_scorer::seek_tree-returns-in-Disjunction-clause-placed g t c = rw (c.in-Disjunction.is, outs-Disjunction c.in-Disjunction.node) tt
+pub any_scorer::seek_other-returns-in-Disjunction-clause-placed : goal.any_scorer::seek_other-returns-in-Disjunction-clause-placed
+any_scorer::seek_other-returns-in-Disjunction-clause-placed g t c = rw (c.in-Disjunction.is, outs-Disjunction c.in-Disjunction.node) tt
 
-pub any_scorer::seek_tree-returns-in-Disjunction-clause-top : goal.any_scorer::seek_tree-returns-in-Disjunction-clause-top
-any_scorer::seek_tree-returns-in-Disjunction-clause-top g t c =
+pub any_scorer::seek_other-returns-in-Disjunction-clause-top : goal.any_scorer::seek_other-returns-in-Disjunction-clause-top
+any_scorer::seek_other-returns-in-Disjunction-clause-top g t c =
     let D = g.S.DocSet in
     let node = c.in-Disjunction.node in
     let value = rw (c.in-Disjunction.is, outs-Disjunction c.in-Disjunction.node) at c.deref_mut-in-Disjunction.ensures.value in
     rw (c.in-Disjunction.is, outs-Disjunction c.in-Disjunction.node) (ap (λ (s : Shape). s.top) c.seek_group-in-Disjunction.ensures.shape ∙ ap (λ (n : GroupNode g.row.S.Denot). n.shape.top) value)
 
-pub any_scorer::seek_tree-seek_intersection-requires : goal.any_scorer::seek_tree-seek_intersection-requires
-any_scorer::seek_tree-seek_intersection-requires g t c κs within =
+pub any_scorer::seek_other-seek_intersection-requires : goal.any_scorer::seek_other-seek_intersection-requires
+any_scorer::seek_other-seek_intersection-requires g t c κs within =
     let D = g.S.DocSet in
     let node = c.in-Intersection.node in
     let value = rw (c.in-Intersection.is, outs-Intersection c.in-Intersection.node) at c.deref_mut-in-Intersection.ensures.value in
     let opened = subst (AreTrees D) (sym value) (opened-Intersection D node (subst (IsTree D) c.in-Intersection.is c.requires.valid)) in
     (search (rules, aq.the_lemmas), (search rules, (opened, c.requires.target)))
 
-pub any_scorer::seek_tree-returns-in-Intersection-clause-head : goal.any_scorer::seek_tree-returns-in-Intersection-clause-head
-any_scorer::seek_tree-returns-in-Intersection-clause-head g t c =
+pub any_scorer::seek_other-returns-in-Intersection-clause-head : goal.any_scorer::seek_other-returns-in-Intersection-clause-head
+any_scorer::seek_other-returns-in-Intersection-clause-head g t c =
     let D = g.S.DocSet in
     let node = c.in-Intersection.node in
     let value = rw (c.in-Intersection.is, outs-Intersection c.in-Intersection.node) at c.deref_mut-in-Intersection.ensures.value in
     let new = record node { value = c.seek_intersection.new.node } in
     rw (c.in-Intersection.is, outs-Intersection c.in-Intersection.node) (c.seek_intersection.ensures.head ∙ sym (ap head_document (entries-Intersection D new)))
 
-pub any_scorer::seek_tree-returns-in-Intersection-clause-entries : goal.any_scorer::seek_tree-returns-in-Intersection-clause-entries
-any_scorer::seek_tree-returns-in-Intersection-clause-entries g t c =
+pub any_scorer::seek_other-returns-in-Intersection-clause-entries : goal.any_scorer::seek_other-returns-in-Intersection-clause-entries
+any_scorer::seek_other-returns-in-Intersection-clause-entries g t c =
     let D = g.S.DocSet in
     let node = c.in-Intersection.node in
     let value = rw (c.in-Intersection.is, outs-Intersection c.in-Intersection.node) at c.deref_mut-in-Intersection.ensures.value in
@@ -630,8 +630,8 @@ any_scorer::seek_tree-returns-in-Intersection-clause-entries g t c =
     let left : common_list D new.value ≡ from c.args.target (common_list D node.value) = c.seek_intersection.ensures.entries ∙ ap (λ n. from c.args.target (common_list D n)) value in
     rw (c.in-Intersection.is, outs-Intersection c.in-Intersection.node) (entries-Intersection D new ∙ left ∙ ap (from c.args.target) (sym (entries-Intersection D node)))
 
-pub any_scorer::seek_tree-returns-in-Intersection-clause-valid : goal.any_scorer::seek_tree-returns-in-Intersection-clause-valid
-any_scorer::seek_tree-returns-in-Intersection-clause-valid g t c =
+pub any_scorer::seek_other-returns-in-Intersection-clause-valid : goal.any_scorer::seek_other-returns-in-Intersection-clause-valid
+any_scorer::seek_other-returns-in-Intersection-clause-valid g t c =
     let D = g.S.DocSet in
     let node = c.in-Intersection.node in
     let value = rw (c.in-Intersection.is, outs-Intersection c.in-Intersection.node) at c.deref_mut-in-Intersection.ensures.value in
@@ -641,39 +641,39 @@ any_scorer::seek_tree-returns-in-Intersection-clause-valid g t c =
     let bounded = IsBounded-sought node.value.top c.args.target _ (common_list D new.value) left (bounded-Intersection D node (subst (IsTree D) c.in-Intersection.is c.requires.valid)) in
     rw (c.in-Intersection.is, outs-Intersection c.in-Intersection.node) (closed-Intersection D new c.seek_intersection.ensures.trees (subst (λ n. IsBounded n (common_list D new.value)) (sym same) bounded))
 
-pub any_scorer::seek_tree-returns-in-Intersection-clause-placed : goal.any_scorer::seek_tree-returns-in-Intersection-clause-placed
-any_scorer::seek_tree-returns-in-Intersection-clause-placed g t c =
+pub any_scorer::seek_other-returns-in-Intersection-clause-placed : goal.any_scorer::seek_other-returns-in-Intersection-clause-placed
+any_scorer::seek_other-returns-in-Intersection-clause-placed g t c =
     let D = g.S.DocSet in
     let node = c.in-Intersection.node in
     let value = rw (c.in-Intersection.is, outs-Intersection c.in-Intersection.node) at c.deref_mut-in-Intersection.ensures.value in
     let new = record node { value = c.seek_intersection.new.node } in
     rw (c.in-Intersection.is, outs-Intersection c.in-Intersection.node) (placed-Intersection D new c.seek_intersection.ensures.placed)
 
-pub any_scorer::seek_tree-returns-in-Intersection-clause-top : goal.any_scorer::seek_tree-returns-in-Intersection-clause-top
-any_scorer::seek_tree-returns-in-Intersection-clause-top g t c =
+pub any_scorer::seek_other-returns-in-Intersection-clause-top : goal.any_scorer::seek_other-returns-in-Intersection-clause-top
+any_scorer::seek_other-returns-in-Intersection-clause-top g t c =
     let D = g.S.DocSet in
     let node = c.in-Intersection.node in
     let value = rw (c.in-Intersection.is, outs-Intersection c.in-Intersection.node) at c.deref_mut-in-Intersection.ensures.value in
     rw (c.in-Intersection.is, outs-Intersection c.in-Intersection.node) (c.seek_intersection.ensures.top ∙ ap (λ (n : IntersectionNode g.row.S.Denot). n.top) value)
 
-pub any_scorer::danger_tree-danger_group-requires : goal.any_scorer::danger_tree-danger_group-requires
-any_scorer::danger_tree-danger_group-requires g t c κs within =
+pub any_scorer::danger_other-danger_group-requires : goal.any_scorer::danger_other-danger_group-requires
+any_scorer::danger_other-danger_group-requires g t c κs within =
     let D = g.S.DocSet in
     let node = c.in-Union.node in
     let value = rw (c.in-Union.is, outs-Union c.in-Union.node) at c.deref_mut-in-Union.ensures.value in
     let opened = subst (IsGroupNode D) (sym value) (opened-Union D node (subst (IsTree D) c.in-Union.is c.requires.valid)) in
     (search (rules, aq.the_lemmas), (search rules, (opened, c.requires.target)))
 
-pub any_scorer::danger_tree-returns-in-Union-clause-answer : goal.any_scorer::danger_tree-returns-in-Union-clause-answer
-any_scorer::danger_tree-returns-in-Union-clause-answer g t c =
+pub any_scorer::danger_other-returns-in-Union-clause-answer : goal.any_scorer::danger_other-returns-in-Union-clause-answer
+any_scorer::danger_other-returns-in-Union-clause-answer g t c =
     let D = g.S.DocSet in
     let node = c.in-Union.node in
     let value = rw (c.in-Union.is, outs-Union c.in-Union.node) at c.deref_mut-in-Union.ensures.value in
     let new = record node { value = c.danger_group.new.node } in
     rw (c.in-Union.is, outs-Union c.in-Union.node) (subst (λ es. IsSeekAnswer c.args.target es c.danger_group.result) (sym (entries-Union D new)) c.danger_group.ensures.answer)
 
-pub any_scorer::danger_tree-returns-in-Union-clause-entries : goal.any_scorer::danger_tree-returns-in-Union-clause-entries
-any_scorer::danger_tree-returns-in-Union-clause-entries g t c =
+pub any_scorer::danger_other-returns-in-Union-clause-entries : goal.any_scorer::danger_other-returns-in-Union-clause-entries
+any_scorer::danger_other-returns-in-Union-clause-entries g t c =
     let D = g.S.DocSet in
     let node = c.in-Union.node in
     let value = rw (c.in-Union.is, outs-Union c.in-Union.node) at c.deref_mut-in-Union.ensures.value in
@@ -681,42 +681,42 @@ any_scorer::danger_tree-returns-in-Union-clause-entries g t c =
     let before : tree_entries D (Union node) ≡ group_entries D c.deref_mut-in-Union.result.now = entries-Union D node ∙ ap (group_entries D) (sym value) in
     rw (c.in-Union.is, outs-Union c.in-Union.node) (entries-Union D new ∙ c.danger_group.ensures.entries ∙ ap (from c.args.target) (sym before))
 
-pub any_scorer::danger_tree-returns-in-Union-clause-valid : goal.any_scorer::danger_tree-returns-in-Union-clause-valid
-any_scorer::danger_tree-returns-in-Union-clause-valid g t c =
+pub any_scorer::danger_other-returns-in-Union-clause-valid : goal.any_scorer::danger_other-returns-in-Union-clause-valid
+any_scorer::danger_other-returns-in-Union-clause-valid g t c =
     let D = g.S.DocSet in
     let node = c.in-Union.node in
     let value = rw (c.in-Union.is, outs-Union c.in-Union.node) at c.deref_mut-in-Union.ensures.value in
     let new = record node { value = c.danger_group.new.node } in
     rw (c.in-Union.is, outs-Union c.in-Union.node) (closed-Union D new c.danger_group.ensures.valid)
 
-pub any_scorer::danger_tree-returns-in-Union-clause-placed : goal.any_scorer::danger_tree-returns-in-Union-clause-placed
-any_scorer::danger_tree-returns-in-Union-clause-placed g t c = rw (c.in-Union.is, outs-Union c.in-Union.node) (on_found c.danger_group.result (λ _. tt))
+pub any_scorer::danger_other-returns-in-Union-clause-placed : goal.any_scorer::danger_other-returns-in-Union-clause-placed
+any_scorer::danger_other-returns-in-Union-clause-placed g t c = rw (c.in-Union.is, outs-Union c.in-Union.node) (on_found c.danger_group.result (λ _. tt))
 
-pub any_scorer::danger_tree-returns-in-Union-clause-top : goal.any_scorer::danger_tree-returns-in-Union-clause-top
-any_scorer::danger_tree-returns-in-Union-clause-top g t c =
+pub any_scorer::danger_other-returns-in-Union-clause-top : goal.any_scorer::danger_other-returns-in-Union-clause-top
+any_scorer::danger_other-returns-in-Union-clause-top g t c =
     let D = g.S.DocSet in
     let node = c.in-Union.node in
     let value = rw (c.in-Union.is, outs-Union c.in-Union.node) at c.deref_mut-in-Union.ensures.value in
     rw (c.in-Union.is, outs-Union c.in-Union.node) (ap (λ (s : Shape). s.top) c.danger_group.ensures.shape ∙ ap (λ (n : GroupNode g.row.S.Denot). n.shape.top) value)
 
-pub any_scorer::danger_tree-danger_group-requires-in-Disjunction : goal.any_scorer::danger_tree-danger_group-requires-in-Disjunction
-any_scorer::danger_tree-danger_group-requires-in-Disjunction g t c κs within =
+pub any_scorer::danger_other-danger_group-requires-in-Disjunction : goal.any_scorer::danger_other-danger_group-requires-in-Disjunction
+any_scorer::danger_other-danger_group-requires-in-Disjunction g t c κs within =
     let D = g.S.DocSet in
     let node = c.in-Disjunction.node in
     let value = rw (c.in-Disjunction.is, outs-Disjunction c.in-Disjunction.node) at c.deref_mut-in-Disjunction.ensures.value in
     let opened = subst (IsGroupNode D) (sym value) (opened-Disjunction D node (subst (IsTree D) c.in-Disjunction.is c.requires.valid)) in
     (search (rules, aq.the_lemmas), (search rules, (opened, c.requires.target)))
 
-pub any_scorer::danger_tree-returns-in-Disjunction-clause-answer : goal.any_scorer::danger_tree-returns-in-Disjunction-clause-answer
-any_scorer::danger_tree-returns-in-Disjunction-clause-answer g t c =
+pub any_scorer::danger_other-returns-in-Disjunction-clause-answer : goal.any_scorer::danger_other-returns-in-Disjunction-clause-answer
+any_scorer::danger_other-returns-in-Disjunction-clause-answer g t c =
     let D = g.S.DocSet in
     let node = c.in-Disjunction.node in
     let value = rw (c.in-Disjunction.is, outs-Disjunction c.in-Disjunction.node) at c.deref_mut-in-Disjunction.ensures.value in
     let new = record node { value = c.danger_group-in-Disjunction.new.node } in
     rw (c.in-Disjunction.is, outs-Disjunction c.in-Disjunction.node) (subst (λ es. IsSeekAnswer c.args.target es c.danger_group-in-Disjunction.result) (sym (entries-Disjunction D new)) c.danger_group-in-Disjunction.ensures.answer)
 
-pub any_scorer::danger_tree-returns-in-Disjunction-clause-entries : goal.any_scorer::danger_tree-returns-in-Disjunction-clause-entries
-any_scorer::danger_tree-returns-in-Disjunction-clause-entries g t c =
+pub any_scorer::danger_other-returns-in-Disjunction-clause-entries : goal.any_scorer::danger_other-returns-in-Disjunction-clause-entries
+any_scorer::danger_other-returns-in-Disjunction-clause-entries g t c =
     let D = g.S.DocSet in
     let node = c.in-Disjunction.node in
     let value = rw (c.in-Disjunction.is, outs-Disjunction c.in-Disjunction.node) at c.deref_mut-in-Disjunction.ensures.value in
@@ -724,42 +724,42 @@ any_scorer::danger_tree-returns-in-Disjunction-clause-entries g t c =
     let before : tree_entries D (Disjunction node) ≡ group_entries D c.deref_mut-in-Disjunction.result.now = entries-Disjunction D node ∙ ap (group_entries D) (sym value) in
     rw (c.in-Disjunction.is, outs-Disjunction c.in-Disjunction.node) (entries-Disjunction D new ∙ c.danger_group-in-Disjunction.ensures.entries ∙ ap (from c.args.target) (sym before))
 
-pub any_scorer::danger_tree-returns-in-Disjunction-clause-valid : goal.any_scorer::danger_tree-returns-in-Disjunction-clause-valid
-any_scorer::danger_tree-returns-in-Disjunction-clause-valid g t c =
+pub any_scorer::danger_other-returns-in-Disjunction-clause-valid : goal.any_scorer::danger_other-returns-in-Disjunction-clause-valid
+any_scorer::danger_other-returns-in-Disjunction-clause-valid g t c =
     let D = g.S.DocSet in
     let node = c.in-Disjunction.node in
     let value = rw (c.in-Disjunction.is, outs-Disjunction c.in-Disjunction.node) at c.deref_mut-in-Disjunction.ensures.value in
     let new = record node { value = c.danger_group-in-Disjunction.new.node } in
     rw (c.in-Disjunction.is, outs-Disjunction c.in-Disjunction.node) (closed-Disjunction D new c.danger_group-in-Disjunction.ensures.valid)
 
-pub any_scorer::danger_tree-returns-in-Disjunction-clause-placed : goal.any_scorer::danger_tree-returns-in-Disjunction-clause-placed
-any_scorer::danger_tree-returns-in-Disjunction-clause-placed g t c = rw (c.in-Disjunction.is, outs-Disjunction c.in-Disjunction.node) (on_found c.danger_group-in-Disjunction.result (λ _. tt))
+pub any_scorer::danger_other-returns-in-Disjunction-clause-placed : goal.any_scorer::danger_other-returns-in-Disjunction-clause-placed
+any_scorer::danger_other-returns-in-Disjunction-clause-placed g t c = rw (c.in-Disjunction.is, outs-Disjunction c.in-Disjunction.node) (on_found c.danger_group-in-Disjunction.result (λ _. tt))
 
-pub any_scorer::danger_tree-returns-in-Disjunction-clause-top : goal.any_scorer::danger_tree-returns-in-Disjunction-clause-top
-any_scorer::danger_tree-returns-in-Disjunction-clause-top g t c =
+pub any_scorer::danger_other-returns-in-Disjunction-clause-top : goal.any_scorer::danger_other-returns-in-Disjunction-clause-top
+any_scorer::danger_other-returns-in-Disjunction-clause-top g t c =
     let D = g.S.DocSet in
     let node = c.in-Disjunction.node in
     let value = rw (c.in-Disjunction.is, outs-Disjunction c.in-Disjunction.node) at c.deref_mut-in-Disjunction.ensures.value in
     rw (c.in-Disjunction.is, outs-Disjunction c.in-Disjunction.node) (ap (λ (s : Shape). s.top) c.danger_group-in-Disjunction.ensures.shape ∙ ap (λ (n : GroupNode g.row.S.Denot). n.shape.top) value)
 
-pub any_scorer::danger_tree-danger_intersection-requires : goal.any_scorer::danger_tree-danger_intersection-requires
-any_scorer::danger_tree-danger_intersection-requires g t c κs within =
+pub any_scorer::danger_other-danger_intersection-requires : goal.any_scorer::danger_other-danger_intersection-requires
+any_scorer::danger_other-danger_intersection-requires g t c κs within =
     let D = g.S.DocSet in
     let node = c.in-Intersection.node in
     let value = rw (c.in-Intersection.is, outs-Intersection c.in-Intersection.node) at c.deref_mut-in-Intersection.ensures.value in
     let opened = subst (AreTrees D) (sym value) (opened-Intersection D node (subst (IsTree D) c.in-Intersection.is c.requires.valid)) in
     (search (rules, aq.the_lemmas), (search rules, (opened, c.requires.target)))
 
-pub any_scorer::danger_tree-returns-in-Intersection-clause-answer : goal.any_scorer::danger_tree-returns-in-Intersection-clause-answer
-any_scorer::danger_tree-returns-in-Intersection-clause-answer g t c =
+pub any_scorer::danger_other-returns-in-Intersection-clause-answer : goal.any_scorer::danger_other-returns-in-Intersection-clause-answer
+any_scorer::danger_other-returns-in-Intersection-clause-answer g t c =
     let D = g.S.DocSet in
     let node = c.in-Intersection.node in
     let value = rw (c.in-Intersection.is, outs-Intersection c.in-Intersection.node) at c.deref_mut-in-Intersection.ensures.value in
     let new = record node { value = c.danger_intersection.new.node } in
     rw (c.in-Intersection.is, outs-Intersection c.in-Intersection.node) (subst (λ es. IsSeekAnswer c.args.target es c.danger_intersection.result) (sym (entries-Intersection D new)) c.danger_intersection.ensures.answer)
 
-pub any_scorer::danger_tree-returns-in-Intersection-clause-entries : goal.any_scorer::danger_tree-returns-in-Intersection-clause-entries
-any_scorer::danger_tree-returns-in-Intersection-clause-entries g t c =
+pub any_scorer::danger_other-returns-in-Intersection-clause-entries : goal.any_scorer::danger_other-returns-in-Intersection-clause-entries
+any_scorer::danger_other-returns-in-Intersection-clause-entries g t c =
     let D = g.S.DocSet in
     let node = c.in-Intersection.node in
     let value = rw (c.in-Intersection.is, outs-Intersection c.in-Intersection.node) at c.deref_mut-in-Intersection.ensures.value in
@@ -767,8 +767,8 @@ any_scorer::danger_tree-returns-in-Intersection-clause-entries g t c =
     let left : common_list D new.value ≡ from c.args.target (common_list D node.value) = c.danger_intersection.ensures.entries ∙ ap (λ n. from c.args.target (common_list D n)) value in
     rw (c.in-Intersection.is, outs-Intersection c.in-Intersection.node) (entries-Intersection D new ∙ left ∙ ap (from c.args.target) (sym (entries-Intersection D node)))
 
-pub any_scorer::danger_tree-returns-in-Intersection-clause-valid : goal.any_scorer::danger_tree-returns-in-Intersection-clause-valid
-any_scorer::danger_tree-returns-in-Intersection-clause-valid g t c =
+pub any_scorer::danger_other-returns-in-Intersection-clause-valid : goal.any_scorer::danger_other-returns-in-Intersection-clause-valid
+any_scorer::danger_other-returns-in-Intersection-clause-valid g t c =
     let D = g.S.DocSet in
     let node = c.in-Intersection.node in
     let value = rw (c.in-Intersection.is, outs-Intersection c.in-Intersection.node) at c.deref_mut-in-Intersection.ensures.value in
@@ -778,60 +778,60 @@ any_scorer::danger_tree-returns-in-Intersection-clause-valid g t c =
     let bounded = IsBounded-sought node.value.top c.args.target _ (common_list D new.value) left (bounded-Intersection D node (subst (IsTree D) c.in-Intersection.is c.requires.valid)) in
     rw (c.in-Intersection.is, outs-Intersection c.in-Intersection.node) (closed-Intersection D new c.danger_intersection.ensures.trees (subst (λ n. IsBounded n (common_list D new.value)) (sym same) bounded))
 
-pub any_scorer::danger_tree-returns-in-Intersection-clause-placed : goal.any_scorer::danger_tree-returns-in-Intersection-clause-placed
-any_scorer::danger_tree-returns-in-Intersection-clause-placed g t c =
+pub any_scorer::danger_other-returns-in-Intersection-clause-placed : goal.any_scorer::danger_other-returns-in-Intersection-clause-placed
+any_scorer::danger_other-returns-in-Intersection-clause-placed g t c =
     let new = record c.in-Intersection.node { value = c.danger_intersection.new.node } in
     rw (c.in-Intersection.is, outs-Intersection c.in-Intersection.node) (still_found c.danger_intersection.result (placed-Intersection g.S.DocSet new) c.danger_intersection.ensures.placed)
 
-pub any_scorer::danger_tree-returns-in-Intersection-clause-top : goal.any_scorer::danger_tree-returns-in-Intersection-clause-top
-any_scorer::danger_tree-returns-in-Intersection-clause-top g t c =
+pub any_scorer::danger_other-returns-in-Intersection-clause-top : goal.any_scorer::danger_other-returns-in-Intersection-clause-top
+any_scorer::danger_other-returns-in-Intersection-clause-top g t c =
     let D = g.S.DocSet in
     let node = c.in-Intersection.node in
     let value = rw (c.in-Intersection.is, outs-Intersection c.in-Intersection.node) at c.deref_mut-in-Intersection.ensures.value in
     rw (c.in-Intersection.is, outs-Intersection c.in-Intersection.node) (c.danger_intersection.ensures.top ∙ ap (λ (n : IntersectionNode g.row.S.Denot). n.top) value)
 
-pub any_scorer::seek_tree-returns-in-Union-clause-depth : goal.any_scorer::seek_tree-returns-in-Union-clause-depth
-any_scorer::seek_tree-returns-in-Union-clause-depth g t c =
+pub any_scorer::seek_other-returns-in-Union-clause-depth : goal.any_scorer::seek_other-returns-in-Union-clause-depth
+any_scorer::seek_other-returns-in-Union-clause-depth g t c =
     let node = c.in-Union.node in
     let value = rw (c.in-Union.is, outs-Union c.in-Union.node) at c.deref_mut-in-Union.ensures.value in
     let new = record node { value = c.seek_group.new.node } in
     let smaller = subst (λ (n : GroupNode g.row.S.Denot). size-GroupNode g.row.S.Denot c.seek_group.new.node ≤ size-GroupNode g.row.S.Denot n) value c.seek_group.ensures.depth in
     rw (c.in-Union.is, outs-Union c.in-Union.node) (size-Union node new smaller)
 
-pub any_scorer::seek_tree-returns-in-Disjunction-clause-depth : goal.any_scorer::seek_tree-returns-in-Disjunction-clause-depth
-any_scorer::seek_tree-returns-in-Disjunction-clause-depth g t c =
+pub any_scorer::seek_other-returns-in-Disjunction-clause-depth : goal.any_scorer::seek_other-returns-in-Disjunction-clause-depth
+any_scorer::seek_other-returns-in-Disjunction-clause-depth g t c =
     let node = c.in-Disjunction.node in
     let value = rw (c.in-Disjunction.is, outs-Disjunction c.in-Disjunction.node) at c.deref_mut-in-Disjunction.ensures.value in
     let new = record node { value = c.seek_group-in-Disjunction.new.node } in
     let smaller = subst (λ (n : GroupNode g.row.S.Denot). size-GroupNode g.row.S.Denot c.seek_group-in-Disjunction.new.node ≤ size-GroupNode g.row.S.Denot n) value c.seek_group-in-Disjunction.ensures.depth in
     rw (c.in-Disjunction.is, outs-Disjunction c.in-Disjunction.node) (size-Disjunction node new smaller)
 
-pub any_scorer::seek_tree-returns-in-Intersection-clause-depth : goal.any_scorer::seek_tree-returns-in-Intersection-clause-depth
-any_scorer::seek_tree-returns-in-Intersection-clause-depth g t c =
+pub any_scorer::seek_other-returns-in-Intersection-clause-depth : goal.any_scorer::seek_other-returns-in-Intersection-clause-depth
+any_scorer::seek_other-returns-in-Intersection-clause-depth g t c =
     let node = c.in-Intersection.node in
     let value = rw (c.in-Intersection.is, outs-Intersection c.in-Intersection.node) at c.deref_mut-in-Intersection.ensures.value in
     let new = record node { value = c.seek_intersection.new.node } in
     let smaller = subst (λ (n : IntersectionNode g.row.S.Denot). size-IntersectionNode g.row.S.Denot c.seek_intersection.new.node ≤ size-IntersectionNode g.row.S.Denot n) value c.seek_intersection.ensures.depth in
     rw (c.in-Intersection.is, outs-Intersection c.in-Intersection.node) (size-Intersection node new smaller)
 
-pub any_scorer::danger_tree-returns-in-Union-clause-depth : goal.any_scorer::danger_tree-returns-in-Union-clause-depth
-any_scorer::danger_tree-returns-in-Union-clause-depth g t c =
+pub any_scorer::danger_other-returns-in-Union-clause-depth : goal.any_scorer::danger_other-returns-in-Union-clause-depth
+any_scorer::danger_other-returns-in-Union-clause-depth g t c =
     let node = c.in-Union.node in
     let value = rw (c.in-Union.is, outs-Union c.in-Union.node) at c.deref_mut-in-Union.ensures.value in
     let new = record node { value = c.danger_group.new.node } in
     let smaller = subst (λ (n : GroupNode g.row.S.Denot). size-GroupNode g.row.S.Denot c.danger_group.new.node ≤ size-GroupNode g.row.S.Denot n) value c.danger_group.ensures.depth in
     rw (c.in-Union.is, outs-Union c.in-Union.node) (size-Union node new smaller)
 
-pub any_scorer::danger_tree-returns-in-Disjunction-clause-depth : goal.any_scorer::danger_tree-returns-in-Disjunction-clause-depth
-any_scorer::danger_tree-returns-in-Disjunction-clause-depth g t c =
+pub any_scorer::danger_other-returns-in-Disjunction-clause-depth : goal.any_scorer::danger_other-returns-in-Disjunction-clause-depth
+any_scorer::danger_other-returns-in-Disjunction-clause-depth g t c =
     let node = c.in-Disjunction.node in
     let value = rw (c.in-Disjunction.is, outs-Disjunction c.in-Disjunction.node) at c.deref_mut-in-Disjunction.ensures.value in
     let new = record node { value = c.danger_group-in-Disjunction.new.node } in
     let smaller = subst (λ (n : GroupNode g.row.S.Denot). size-GroupNode g.row.S.Denot c.danger_group-in-Disjunction.new.node ≤ size-GroupNode g.row.S.Denot n) value c.danger_group-in-Disjunction.ensures.depth in
     rw (c.in-Disjunction.is, outs-Disjunction c.in-Disjunction.node) (size-Disjunction node new smaller)
 
-pub any_scorer::danger_tree-returns-in-Intersection-clause-depth : goal.any_scorer::danger_tree-returns-in-Intersection-clause-depth
-any_scorer::danger_tree-returns-in-Intersection-clause-depth g t c =
+pub any_scorer::danger_other-returns-in-Intersection-clause-depth : goal.any_scorer::danger_other-returns-in-Intersection-clause-depth
+any_scorer::danger_other-returns-in-Intersection-clause-depth g t c =
     let node = c.in-Intersection.node in
     let value = rw (c.in-Intersection.is, outs-Intersection c.in-Intersection.node) at c.deref_mut-in-Intersection.ensures.value in
     let new = record node { value = c.danger_intersection.new.node } in

@@ -317,32 +317,32 @@ intersection_node::score_intersection-returns-clause-placed g t c =
 
 -- ---- the arms of the enum
 
-pub any_scorer::score_tree-returns-in-Union-clause-depth : goal.any_scorer::score_tree-returns-in-Union-clause-depth
-any_scorer::score_tree-returns-in-Union-clause-depth g t c =
+pub any_scorer::score_other-returns-in-Union-clause-depth : goal.any_scorer::score_other-returns-in-Union-clause-depth
+any_scorer::score_other-returns-in-Union-clause-depth g t c =
     let node = c.in-Union.node in
     let value = rw (c.in-Union.is, outs-Union c.in-Union.node) at c.deref_mut-in-Union.ensures.value in
     let new = record node { value = c.score_group.new.node } in
     let smaller = subst (λ (n : GroupNode g.row.S.Denot). size-GroupNode g.row.S.Denot c.score_group.new.node ≤ size-GroupNode g.row.S.Denot n) value c.score_group.ensures.depth in
     rw (c.in-Union.is, outs-Union c.in-Union.node) (size-Union node new smaller)
 
-pub any_scorer::score_tree-returns-in-Disjunction-clause-depth : goal.any_scorer::score_tree-returns-in-Disjunction-clause-depth
-any_scorer::score_tree-returns-in-Disjunction-clause-depth g t c =
+pub any_scorer::score_other-returns-in-Disjunction-clause-depth : goal.any_scorer::score_other-returns-in-Disjunction-clause-depth
+any_scorer::score_other-returns-in-Disjunction-clause-depth g t c =
     let node = c.in-Disjunction.node in
     let value = rw (c.in-Disjunction.is, outs-Disjunction c.in-Disjunction.node) at c.deref_mut-in-Disjunction.ensures.value in
     let new = record node { value = c.score_group-in-Disjunction.new.node } in
     let smaller = subst (λ (n : GroupNode g.row.S.Denot). size-GroupNode g.row.S.Denot c.score_group-in-Disjunction.new.node ≤ size-GroupNode g.row.S.Denot n) value c.score_group-in-Disjunction.ensures.depth in
     rw (c.in-Disjunction.is, outs-Disjunction c.in-Disjunction.node) (size-Disjunction node new smaller)
 
-pub any_scorer::score_tree-returns-in-Intersection-clause-depth : goal.any_scorer::score_tree-returns-in-Intersection-clause-depth
-any_scorer::score_tree-returns-in-Intersection-clause-depth g t c =
+pub any_scorer::score_other-returns-in-Intersection-clause-depth : goal.any_scorer::score_other-returns-in-Intersection-clause-depth
+any_scorer::score_other-returns-in-Intersection-clause-depth g t c =
     let node = c.in-Intersection.node in
     let value = rw (c.in-Intersection.is, outs-Intersection c.in-Intersection.node) at c.deref_mut-in-Intersection.ensures.value in
     let new = record node { value = c.score_intersection.new.node } in
     let smaller = subst (λ (n : IntersectionNode g.row.S.Denot). size-IntersectionNode g.row.S.Denot c.score_intersection.new.node ≤ size-IntersectionNode g.row.S.Denot n) value c.score_intersection.ensures.depth in
     rw (c.in-Intersection.is, outs-Intersection c.in-Intersection.node) (size-Intersection node new smaller)
 
-pub any_scorer::score_tree-score_group-requires : goal.any_scorer::score_tree-score_group-requires
-any_scorer::score_tree-score_group-requires g t c κs within =
+pub any_scorer::score_other-score_group-requires : goal.any_scorer::score_other-score_group-requires
+any_scorer::score_other-score_group-requires g t c κs within =
     let D = g.S.DocSet in
     let node = c.in-Union.node in
     let value = rw (c.in-Union.is, outs-Union c.in-Union.node) at c.deref_mut-in-Union.ensures.value in
@@ -350,16 +350,16 @@ any_scorer::score_tree-score_group-requires g t c κs within =
     let here : c.deref_mut-in-Union.result.now.current < TERMINATED = omega (arith, c.requires.here, ap (tree_head D) c.in-Union.is, ap (λ (n : GroupNode g.row.S.Denot). n.current) value) in
     (search (rules, aq.the_lemmas), (search rules, (opened, here)))
 
-pub any_scorer::score_tree-returns-in-Union-clause-score : goal.any_scorer::score_tree-returns-in-Union-clause-score
-any_scorer::score_tree-returns-in-Union-clause-score g t c =
+pub any_scorer::score_other-returns-in-Union-clause-score : goal.any_scorer::score_other-returns-in-Union-clause-score
+any_scorer::score_other-returns-in-Union-clause-score g t c =
     let D = g.S.DocSet in
     let node = c.in-Union.node in
     let value = rw (c.in-Union.is, outs-Union c.in-Union.node) at c.deref_mut-in-Union.ensures.value in
     let before : tree_entries D (Union node) ≡ group_entries D c.deref_mut-in-Union.result.now = entries-Union D node ∙ ap (group_entries D) (sym value) in
     rw c.in-Union.is (c.score_group.ensures.score ∙ sym (ap head_score before))
 
-pub any_scorer::score_tree-returns-in-Union-clause-entries : goal.any_scorer::score_tree-returns-in-Union-clause-entries
-any_scorer::score_tree-returns-in-Union-clause-entries g t c =
+pub any_scorer::score_other-returns-in-Union-clause-entries : goal.any_scorer::score_other-returns-in-Union-clause-entries
+any_scorer::score_other-returns-in-Union-clause-entries g t c =
     let D = g.S.DocSet in
     let node = c.in-Union.node in
     let value = rw (c.in-Union.is, outs-Union c.in-Union.node) at c.deref_mut-in-Union.ensures.value in
@@ -367,29 +367,29 @@ any_scorer::score_tree-returns-in-Union-clause-entries g t c =
     let before : tree_entries D (Union node) ≡ group_entries D c.deref_mut-in-Union.result.now = entries-Union D node ∙ ap (group_entries D) (sym value) in
     rw (c.in-Union.is, outs-Union c.in-Union.node) (entries-Union D new ∙ (λ i. gathered_list (c.score_group.ensures.shape i) (c.score_group.ensures.lists i)) ∙ sym before)
 
-pub any_scorer::score_tree-returns-in-Union-clause-top : goal.any_scorer::score_tree-returns-in-Union-clause-top
-any_scorer::score_tree-returns-in-Union-clause-top g t c =
+pub any_scorer::score_other-returns-in-Union-clause-top : goal.any_scorer::score_other-returns-in-Union-clause-top
+any_scorer::score_other-returns-in-Union-clause-top g t c =
     let D = g.S.DocSet in
     let value = rw (c.in-Union.is, outs-Union c.in-Union.node) at c.deref_mut-in-Union.ensures.value in
     rw (c.in-Union.is, outs-Union c.in-Union.node) (ap (λ (s : Shape). s.top) c.score_group.ensures.shape ∙ ap (λ (n : GroupNode g.row.S.Denot). n.shape.top) value)
 
-pub any_scorer::score_tree-returns-in-Union-clause-valid : goal.any_scorer::score_tree-returns-in-Union-clause-valid
-any_scorer::score_tree-returns-in-Union-clause-valid g t c =
+pub any_scorer::score_other-returns-in-Union-clause-valid : goal.any_scorer::score_other-returns-in-Union-clause-valid
+any_scorer::score_other-returns-in-Union-clause-valid g t c =
     let node = c.in-Union.node in
     let new = record node { value = c.score_group.new.node } in
     rw (c.in-Union.is, outs-Union c.in-Union.node) (closed-Union g.S.DocSet new c.score_group.ensures.valid)
 
-pub any_scorer::score_tree-returns-in-Union-clause-placed : goal.any_scorer::score_tree-returns-in-Union-clause-placed
-any_scorer::score_tree-returns-in-Union-clause-placed g t c = rw (c.in-Union.is, outs-Union c.in-Union.node) tt
+pub any_scorer::score_other-returns-in-Union-clause-placed : goal.any_scorer::score_other-returns-in-Union-clause-placed
+any_scorer::score_other-returns-in-Union-clause-placed g t c = rw (c.in-Union.is, outs-Union c.in-Union.node) tt
 
-pub any_scorer::score_tree-returns-in-Union-clause-head : goal.any_scorer::score_tree-returns-in-Union-clause-head
-any_scorer::score_tree-returns-in-Union-clause-head g t c =
+pub any_scorer::score_other-returns-in-Union-clause-head : goal.any_scorer::score_other-returns-in-Union-clause-head
+any_scorer::score_other-returns-in-Union-clause-head g t c =
     let D = g.S.DocSet in
     let value = rw (c.in-Union.is, outs-Union c.in-Union.node) at c.deref_mut-in-Union.ensures.value in
     rw (c.in-Union.is, outs-Union c.in-Union.node) (c.score_group.ensures.current ∙ ap (λ (n : GroupNode g.row.S.Denot). n.current) value)
 
-pub any_scorer::score_tree-score_group-requires-in-Disjunction : goal.any_scorer::score_tree-score_group-requires-in-Disjunction
-any_scorer::score_tree-score_group-requires-in-Disjunction g t c κs within =
+pub any_scorer::score_other-score_group-requires-in-Disjunction : goal.any_scorer::score_other-score_group-requires-in-Disjunction
+any_scorer::score_other-score_group-requires-in-Disjunction g t c κs within =
     let D = g.S.DocSet in
     let node = c.in-Disjunction.node in
     let value = rw (c.in-Disjunction.is, outs-Disjunction c.in-Disjunction.node) at c.deref_mut-in-Disjunction.ensures.value in
@@ -397,16 +397,16 @@ any_scorer::score_tree-score_group-requires-in-Disjunction g t c κs within =
     let here : c.deref_mut-in-Disjunction.result.now.current < TERMINATED = omega (arith, c.requires.here, ap (tree_head D) c.in-Disjunction.is, ap (λ (n : GroupNode g.row.S.Denot). n.current) value) in
     (search (rules, aq.the_lemmas), (search rules, (opened, here)))
 
-pub any_scorer::score_tree-returns-in-Disjunction-clause-score : goal.any_scorer::score_tree-returns-in-Disjunction-clause-score
-any_scorer::score_tree-returns-in-Disjunction-clause-score g t c =
+pub any_scorer::score_other-returns-in-Disjunction-clause-score : goal.any_scorer::score_other-returns-in-Disjunction-clause-score
+any_scorer::score_other-returns-in-Disjunction-clause-score g t c =
     let D = g.S.DocSet in
     let node = c.in-Disjunction.node in
     let value = rw (c.in-Disjunction.is, outs-Disjunction c.in-Disjunction.node) at c.deref_mut-in-Disjunction.ensures.value in
     let before : tree_entries D (Disjunction node) ≡ group_entries D c.deref_mut-in-Disjunction.result.now = entries-Disjunction D node ∙ ap (group_entries D) (sym value) in
     rw c.in-Disjunction.is (c.score_group-in-Disjunction.ensures.score ∙ sym (ap head_score before))
 
-pub any_scorer::score_tree-returns-in-Disjunction-clause-entries : goal.any_scorer::score_tree-returns-in-Disjunction-clause-entries
-any_scorer::score_tree-returns-in-Disjunction-clause-entries g t c =
+pub any_scorer::score_other-returns-in-Disjunction-clause-entries : goal.any_scorer::score_other-returns-in-Disjunction-clause-entries
+any_scorer::score_other-returns-in-Disjunction-clause-entries g t c =
     let D = g.S.DocSet in
     let node = c.in-Disjunction.node in
     let value = rw (c.in-Disjunction.is, outs-Disjunction c.in-Disjunction.node) at c.deref_mut-in-Disjunction.ensures.value in
@@ -414,29 +414,29 @@ any_scorer::score_tree-returns-in-Disjunction-clause-entries g t c =
     let before : tree_entries D (Disjunction node) ≡ group_entries D c.deref_mut-in-Disjunction.result.now = entries-Disjunction D node ∙ ap (group_entries D) (sym value) in
     rw (c.in-Disjunction.is, outs-Disjunction c.in-Disjunction.node) (entries-Disjunction D new ∙ (λ i. gathered_list (c.score_group-in-Disjunction.ensures.shape i) (c.score_group-in-Disjunction.ensures.lists i)) ∙ sym before)
 
-pub any_scorer::score_tree-returns-in-Disjunction-clause-top : goal.any_scorer::score_tree-returns-in-Disjunction-clause-top
-any_scorer::score_tree-returns-in-Disjunction-clause-top g t c =
+pub any_scorer::score_other-returns-in-Disjunction-clause-top : goal.any_scorer::score_other-returns-in-Disjunction-clause-top
+any_scorer::score_other-returns-in-Disjunction-clause-top g t c =
     let D = g.S.DocSet in
     let value = rw (c.in-Disjunction.is, outs-Disjunction c.in-Disjunction.node) at c.deref_mut-in-Disjunction.ensures.value in
     rw (c.in-Disjunction.is, outs-Disjunction c.in-Disjunction.node) (ap (λ (s : Shape). s.top) c.score_group-in-Disjunction.ensures.shape ∙ ap (λ (n : GroupNode g.row.S.Denot). n.shape.top) value)
 
-pub any_scorer::score_tree-returns-in-Disjunction-clause-valid : goal.any_scorer::score_tree-returns-in-Disjunction-clause-valid
-any_scorer::score_tree-returns-in-Disjunction-clause-valid g t c =
+pub any_scorer::score_other-returns-in-Disjunction-clause-valid : goal.any_scorer::score_other-returns-in-Disjunction-clause-valid
+any_scorer::score_other-returns-in-Disjunction-clause-valid g t c =
     let node = c.in-Disjunction.node in
     let new = record node { value = c.score_group-in-Disjunction.new.node } in
     rw (c.in-Disjunction.is, outs-Disjunction c.in-Disjunction.node) (closed-Disjunction g.S.DocSet new c.score_group-in-Disjunction.ensures.valid)
 
-pub any_scorer::score_tree-returns-in-Disjunction-clause-placed : goal.any_scorer::score_tree-returns-in-Disjunction-clause-placed
-any_scorer::score_tree-returns-in-Disjunction-clause-placed g t c = rw (c.in-Disjunction.is, outs-Disjunction c.in-Disjunction.node) tt
+pub any_scorer::score_other-returns-in-Disjunction-clause-placed : goal.any_scorer::score_other-returns-in-Disjunction-clause-placed
+any_scorer::score_other-returns-in-Disjunction-clause-placed g t c = rw (c.in-Disjunction.is, outs-Disjunction c.in-Disjunction.node) tt
 
-pub any_scorer::score_tree-returns-in-Disjunction-clause-head : goal.any_scorer::score_tree-returns-in-Disjunction-clause-head
-any_scorer::score_tree-returns-in-Disjunction-clause-head g t c =
+pub any_scorer::score_other-returns-in-Disjunction-clause-head : goal.any_scorer::score_other-returns-in-Disjunction-clause-head
+any_scorer::score_other-returns-in-Disjunction-clause-head g t c =
     let D = g.S.DocSet in
     let value = rw (c.in-Disjunction.is, outs-Disjunction c.in-Disjunction.node) at c.deref_mut-in-Disjunction.ensures.value in
     rw (c.in-Disjunction.is, outs-Disjunction c.in-Disjunction.node) (c.score_group-in-Disjunction.ensures.current ∙ ap (λ (n : GroupNode g.row.S.Denot). n.current) value)
 
-pub any_scorer::score_tree-score_intersection-requires : goal.any_scorer::score_tree-score_intersection-requires
-any_scorer::score_tree-score_intersection-requires g t c κs within =
+pub any_scorer::score_other-score_intersection-requires : goal.any_scorer::score_other-score_intersection-requires
+any_scorer::score_other-score_intersection-requires g t c κs within =
     let D = g.S.DocSet in
     let node = c.in-Intersection.node in
     let value = rw (c.in-Intersection.is, outs-Intersection c.in-Intersection.node) at c.deref_mut-in-Intersection.ensures.value in
@@ -445,16 +445,16 @@ any_scorer::score_tree-score_intersection-requires g t c κs within =
     let here : tree_head D c.deref_mut-in-Intersection.result.now.leader < TERMINATED = omega (arith, c.requires.here, ap (tree_head D) c.in-Intersection.is, ap (λ (n : IntersectionNode g.row.S.Denot). tree_head D n.leader) value) in
     (search (rules, aq.the_lemmas), (search rules, (trees, (placed, here))))
 
-pub any_scorer::score_tree-returns-in-Intersection-clause-score : goal.any_scorer::score_tree-returns-in-Intersection-clause-score
-any_scorer::score_tree-returns-in-Intersection-clause-score g t c =
+pub any_scorer::score_other-returns-in-Intersection-clause-score : goal.any_scorer::score_other-returns-in-Intersection-clause-score
+any_scorer::score_other-returns-in-Intersection-clause-score g t c =
     let D = g.S.DocSet in
     let node = c.in-Intersection.node in
     let value = rw (c.in-Intersection.is, outs-Intersection c.in-Intersection.node) at c.deref_mut-in-Intersection.ensures.value in
     let before : tree_entries D (Intersection node) ≡ common_list D c.deref_mut-in-Intersection.result.now = entries-Intersection D node ∙ ap (common_list D) (sym value) in
     rw c.in-Intersection.is (c.score_intersection.ensures.score ∙ sym (ap head_score before))
 
-pub any_scorer::score_tree-returns-in-Intersection-clause-entries : goal.any_scorer::score_tree-returns-in-Intersection-clause-entries
-any_scorer::score_tree-returns-in-Intersection-clause-entries g t c =
+pub any_scorer::score_other-returns-in-Intersection-clause-entries : goal.any_scorer::score_other-returns-in-Intersection-clause-entries
+any_scorer::score_other-returns-in-Intersection-clause-entries g t c =
     let D = g.S.DocSet in
     let node = c.in-Intersection.node in
     let value = rw (c.in-Intersection.is, outs-Intersection c.in-Intersection.node) at c.deref_mut-in-Intersection.ensures.value in
@@ -462,14 +462,14 @@ any_scorer::score_tree-returns-in-Intersection-clause-entries g t c =
     let before : tree_entries D (Intersection node) ≡ common_list D c.deref_mut-in-Intersection.result.now = entries-Intersection D node ∙ ap (common_list D) (sym value) in
     rw (c.in-Intersection.is, outs-Intersection c.in-Intersection.node) (entries-Intersection D new ∙ c.score_intersection.ensures.entries ∙ sym before)
 
-pub any_scorer::score_tree-returns-in-Intersection-clause-top : goal.any_scorer::score_tree-returns-in-Intersection-clause-top
-any_scorer::score_tree-returns-in-Intersection-clause-top g t c =
+pub any_scorer::score_other-returns-in-Intersection-clause-top : goal.any_scorer::score_other-returns-in-Intersection-clause-top
+any_scorer::score_other-returns-in-Intersection-clause-top g t c =
     let D = g.S.DocSet in
     let value = rw (c.in-Intersection.is, outs-Intersection c.in-Intersection.node) at c.deref_mut-in-Intersection.ensures.value in
     rw (c.in-Intersection.is, outs-Intersection c.in-Intersection.node) (c.score_intersection.ensures.top ∙ ap (λ (n : IntersectionNode g.row.S.Denot). n.top) value)
 
-pub any_scorer::score_tree-returns-in-Intersection-clause-valid : goal.any_scorer::score_tree-returns-in-Intersection-clause-valid
-any_scorer::score_tree-returns-in-Intersection-clause-valid g t c =
+pub any_scorer::score_other-returns-in-Intersection-clause-valid : goal.any_scorer::score_other-returns-in-Intersection-clause-valid
+any_scorer::score_other-returns-in-Intersection-clause-valid g t c =
     let D = g.S.DocSet in
     let node = c.in-Intersection.node in
     let value = rw (c.in-Intersection.is, outs-Intersection c.in-Intersection.node) at c.deref_mut-in-Intersection.ensures.value in
@@ -479,14 +479,14 @@ any_scorer::score_tree-returns-in-Intersection-clause-valid g t c =
     let bounded = IsBounded-same node.value.top (common_list D node.value) (common_list D new.value) left (bounded-Intersection D node (subst (IsTree D) c.in-Intersection.is c.requires.valid)) in
     rw (c.in-Intersection.is, outs-Intersection c.in-Intersection.node) (closed-Intersection D new c.score_intersection.ensures.trees (subst (λ n. IsBounded n (common_list D new.value)) (sym same) bounded))
 
-pub any_scorer::score_tree-returns-in-Intersection-clause-placed : goal.any_scorer::score_tree-returns-in-Intersection-clause-placed
-any_scorer::score_tree-returns-in-Intersection-clause-placed g t c =
+pub any_scorer::score_other-returns-in-Intersection-clause-placed : goal.any_scorer::score_other-returns-in-Intersection-clause-placed
+any_scorer::score_other-returns-in-Intersection-clause-placed g t c =
     let node = c.in-Intersection.node in
     let new = record node { value = c.score_intersection.new.node } in
     rw (c.in-Intersection.is, outs-Intersection c.in-Intersection.node) (placed-Intersection g.S.DocSet new c.score_intersection.ensures.placed)
 
-pub any_scorer::score_tree-returns-in-Intersection-clause-head : goal.any_scorer::score_tree-returns-in-Intersection-clause-head
-any_scorer::score_tree-returns-in-Intersection-clause-head g t c =
+pub any_scorer::score_other-returns-in-Intersection-clause-head : goal.any_scorer::score_other-returns-in-Intersection-clause-head
+any_scorer::score_other-returns-in-Intersection-clause-head g t c =
     let D = g.S.DocSet in
     let value = rw (c.in-Intersection.is, outs-Intersection c.in-Intersection.node) at c.deref_mut-in-Intersection.ensures.value in
     rw (c.in-Intersection.is, outs-Intersection c.in-Intersection.node) (c.score_intersection.ensures.head ∙ ap (λ (n : IntersectionNode g.row.S.Denot). tree_head D n.leader) value)

@@ -85,17 +85,6 @@ fn a_minimum_of_the_members_has_each_document(rt: HostRuntime) -> Result<(), Fai
     Ok(())
 }
 
-/// The intersection of any number of members.
-fn all_of<'a, S: Scorer>(
-    alloc: Global,
-    members: Vec<AnyScorer<'a, S>>,
-) -> Result<AnyScorer<'a, S>, QueryError>
-    requires { ArePlaced ⟦<AnyScorer<'a, S> as DocSet>⟧ members.items }
-    ensures { IfOk result (IsPlaced ⟦<AnyScorer<'a, S> as DocSet>⟧) }
-{
-    intersect_scorers(alloc, members, 1000)
-}
-
 #[test]
 fn any_or_all_of_the_members_have_each_document(rt: HostRuntime) -> Result<(), Fail> {
     let moves = Cell::new(0);
@@ -103,12 +92,32 @@ fn any_or_all_of_the_members_have_each_document(rt: HostRuntime) -> Result<(), F
         let any = union(rt.alloc(), row(&rt, lists, &moves)?, sum())?;
         let found = scores_left(rt.alloc(), any)?;
         assert_eq!(rt; found, counted(rt.alloc(), lists, 1)?, "{lists:?}");
-        let all = all_of(rt.alloc(), row(&rt, lists, &moves)?)?;
+        let all = intersect_scorers(rt.alloc(), row(&rt, lists, &moves)?, 10)?;
         let found = scores_left(rt.alloc(), all)?;
         // none of no list has a document
         let minimum = lists.len().max(1);
         assert_eq!(rt; found, counted(rt.alloc(), lists, minimum)?, "{lists:?}");
     }
+    Ok(())
+}
+
+#[test]
+fn intersects_constants_and_their_union(rt: HostRuntime) -> Result<(), Fail> {
+    let alloc = rt.alloc();
+    let near: [DocId; 2] = [0, 10_000];
+    let mut far = vec![in alloc; 0, 20_000]?;
+    for doc in 30_000..30_100 {
+        far.push(doc)?;
+    }
+    let both = vec![in alloc; own(&rt, alloc, &near, 1)?, own(&rt, alloc, &near, 1)?]?;
+    let members = vec![in alloc;
+        own(&rt, alloc, &near, 1)?,
+        own(&rt, alloc, &near, 1)?,
+        union(alloc, both, AnyCombiner::default())?,
+        own(&rt, alloc, &far, 1)?,
+    ]?;
+    let all = intersect_scorers(alloc, members, 30_100)?;
+    assert_eq!(rt; scores_left(alloc, all)?.as_slice(), [(0, 4)].as_slice());
     Ok(())
 }
 
@@ -138,7 +147,7 @@ fn goes_through_a_thousand_members(rt: HostRuntime) -> Result<(), Fail> {
         scores_left(alloc, most)?.as_slice(),
         [(0, 1000), (1, 999)].as_slice()
     );
-    let all = all_of(alloc, thousand(alloc)?)?;
+    let all = intersect_scorers(alloc, thousand(alloc)?, 1000)?;
     assert_eq!(rt; scores_left(alloc, all)?.as_slice(), [(0, 1000)].as_slice());
     Ok(())
 }
@@ -224,7 +233,7 @@ fn refuses_bounds_that_pass_the_greatest_score(rt: HostRuntime) -> Result<(), Fa
         let enough = at_least(alloc, two(&rt, alloc, less)?, sum(), 3);
         assert_eq!(rt; matches!(enough, Err(QueryError::ScoreBound)), is_refused);
         // an intersection holds its sums
-        let mut all = all_of(alloc, two(&rt, alloc, less)?)?;
+        let mut all = intersect_scorers(alloc, two(&rt, alloc, less)?, 10)?;
         assert_eq!(rt; (all.max_score(), all.doc()), (i64::MAX, 4));
         assert_eq!(rt; all.score(), i64::MAX);
     }

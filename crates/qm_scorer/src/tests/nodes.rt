@@ -54,14 +54,20 @@ fn refuses_a_product_past_the_greatest_score(rt: HostRuntime) -> Result<(), Fail
     Ok(())
 }
 
-/// A leaf below so many nodes.
+/// A leaf below so many nodes of one scorer each, none of which changes what it lists.
 fn nested(rt: &impl Abort, alloc: Global, depth: u32) -> Result<AnyScorer<'static, OwnScorer>, Fail>
     ensures placed { IfOk result (λ s. IsPlaced ⟦<AnyScorer<'static, OwnScorer> as DocSet>⟧ s) }
 {
     if depth == 0 {
         return own(rt, alloc, &[1, 5, 9], 2);
     }
-    Ok(boost(alloc, nested(rt, alloc, depth - 1)?, 1)?)
+    let inner = nested(rt, alloc, depth - 1)?;
+    match depth % 4 {
+        0 => Ok(boost(alloc, inner, 1)?),
+        1 => Ok(constant(alloc, inner, 2)?),
+        2 => Ok(required_optional(alloc, inner, own(rt, alloc, &[5], 0)?)?),
+        _ => Ok(exclude(alloc, inner, vec![in alloc; own(rt, alloc, &[7], 1)?]?)?),
+    }
 }
 
 #[test]

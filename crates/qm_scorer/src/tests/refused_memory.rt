@@ -1,9 +1,13 @@
 //! Calls under an allocator that refuses what it is told to: tests/refuse_memory.c, where it is
 //! preloaded. Without it nothing is refused, and `rt ci` runs these tests so.
 
-use super::trees::{END, KINDS, Kind, Source, leaf, multiples, node, tree};
-use qm_combine::Scorer;
-use qm_docset::{AliveBitSet, BitSet, COLLECT_BLOCK_BUFFER_LEN, DocSet, TERMINATED};
+ghost use Rattle.qm_docset.specs.Lists.{IsPlaced};
+
+use super::own::{OwnScorer, own};
+use super::trees::{END, KINDS, Kind, Source, leaf, multiples, node, segment, tree};
+use crate::AnyScorer;
+use qm_combine::{AllScorer, ConstScorer, EmptyScorer, Scorer};
+use qm_docset::{AliveBitSet, BitSet, BitSetDocSet, COLLECT_BLOCK_BUFFER_LEN, DocSet, TERMINATED};
 use qm_schema::QueryError;
 use std::alloc::Global;
 use std::cell::Cell;
@@ -69,8 +73,45 @@ fn builders_refuse_for_want_of_memory(rt: HostRuntime) -> Result<(), Fail> {
     Ok(())
 }
 
+/// Makes every call of a scorer while all requests for memory are refused. It lists no document, or
+/// one below 30 and one past 70.
+fn assert_takes_none<S: Scorer>(
+    rt: &(impl Abort + AllocGlobal),
+    mut scorer: S,
+    alive: &AliveBitSet,
+    name: &str,
+)
+    requires { IsPlaced S.DocSet scorer }
+{
+    let mut buffer = [0; COLLECT_BLOCK_BUFFER_LEN];
+    refuse_all(rt.alloc());
+    let first = scorer.doc();
+    if first < TERMINATED {
+        scorer.score();
+    }
+    scorer.advance();
+    scorer.seek_danger(70);
+    let reached = scorer.seek(71);
+    let taken = scorer.fill_buffer(&mut buffer);
+    let counted = scorer.count(alive);
+    let left = scorer.count_including_deleted();
+    refuse(rt.alloc(), 0);
+    let has_documents = first < 30;
+    assert_eq!(rt;
+        (first < TERMINATED, 71 <= reached),
+        (has_documents, true),
+        "{name}"
+    );
+    assert_eq!(rt;
+        (reached < TERMINATED, taken > 0),
+        (has_documents, has_documents),
+        "{name}"
+    );
+    assert_eq!(rt; (counted, left), (0, 0), "{name}");
+}
+
 #[test]
-fn no_call_of_a_tree_takes_memory(rt: HostRuntime) -> Result<(), Fail> {
+fn no_call_of_a_node_takes_memory(rt: HostRuntime) -> Result<(), Fail> {
     let alloc = rt.alloc();
     let moves = Cell::new(0);
     let each = [
@@ -80,26 +121,32 @@ fn no_call_of_a_tree_takes_memory(rt: HostRuntime) -> Result<(), Fail> {
     ];
     let alive = AliveBitSet::from(BitSet::with_max_value(alloc, END)?);
     for kind in KINDS {
-        let mut tree = tree(&rt, Source::Own(&each, &moves), (kind, kind))?;
-        let mut buffer = [0; COLLECT_BLOCK_BUFFER_LEN];
-        refuse_all(alloc);
-        let first = tree.doc();
-        if first < TERMINATED {
-            tree.score();
-        }
-        tree.advance();
-        tree.seek_danger(70);
-        let reached = tree.seek(71);
-        let taken = tree.fill_buffer(&mut buffer);
-        let counted = tree.count(&alive);
-        let left = tree.count_including_deleted();
-        refuse(alloc, 0);
-        assert!(rt; first < 30 && 71 <= reached, "{kind:?}");
-        assert_eq!(rt;
-            (taken > 0, counted, left),
-            (reached < TERMINATED, 0, 0),
-            "{kind:?}"
-        );
+        let tree = tree(&rt, Source::Own(&each, &moves), (kind, kind))?;
+        let name = format!(in alloc; "{kind:?}")?;
+        assert_takes_none(&rt, tree, &alive, &name);
     }
+    Ok(())
+}
+
+type Leaf<'a> = AnyScorer<'a, OwnScorer>;
+
+#[test]
+fn no_call_of_a_leaf_takes_memory(rt: HostRuntime) -> Result<(), Fail> {
+    let alloc = rt.alloc();
+    let alive = AliveBitSet::from(BitSet::with_max_value(alloc, END)?);
+    let segment = segment(alloc)?;
+    let none: Leaf = AnyScorer::Empty(EmptyScorer);
+    assert_takes_none(&rt, none, &alive, "Empty");
+    let all: Leaf = AnyScorer::All(AllScorer::new(END));
+    assert_takes_none(&rt, all, &alive, "All");
+    assert_takes_none(&rt, own(&rt, alloc, &[1, 70, 90], 2)?, &alive, "Own");
+    let term = leaf(&rt, Source::Terms(&segment), 0)?;
+    assert_takes_none(&rt, term, &alive, "Term");
+    let mut members = BitSet::with_max_value(alloc, END)?;
+    members.insert(3);
+    members.insert(100);
+    let set = ConstScorer::new(BitSetDocSet::new(members), 7);
+    let set: Leaf = AnyScorer::BitSet(Box::new(alloc, set)?);
+    assert_takes_none(&rt, set, &alive, "BitSet");
     Ok(())
 }

@@ -147,7 +147,7 @@ fn body() -> Field {
 const STEPS: [(u32, &str); 3] = [(2, "two"), (3, "three"), (5, "five")];
 
 /// A segment where the documents that a step divides hold the step's word.
-fn segment(alloc: Global) -> Result<SegmentReader, Fail> {
+pub fn segment(alloc: Global) -> Result<SegmentReader, Fail> {
     let mut schema = Schema::builder(alloc);
     schema.add_text_field("body", Some(IndexRecordOption::Basic), false)?;
     let mut builder = SegmentBuilder::new(alloc, &schema.build(), 128)?;

@@ -37,13 +37,12 @@ fn writes_nothing_for_an_empty_script(rt: HostRuntime) {
 
 #[test]
 fn does_not_understand_what_it_does_not_serve(rt: HostRuntime) {
-    let cases: [&[u8]; 32] = [
+    let cases: [&[u8]; 26] = [
         b"count all",
         b"prune 1 all",
         b"top 1 all",
         b"delete 0",
         b"scores",
-        b"scores bool 0 1 ? term a",
         b"segment a",
         b"weight a",
         b"weight a 1 2",
@@ -56,10 +55,6 @@ fn does_not_understand_what_it_does_not_serve(rt: HostRuntime) {
         b"docs term",
         b"docs term a b",
         b"docs bool 0 1 + term a b",
-        b"docs bool 0 1 ? term a",
-        b"docs bool 0 1 - term a",
-        b"docs bool 0 1 + all",
-        b"docs bool 0 1 + bool 0 0",
         b"docs bool 0",
         b"docs bool 0 0 + term a",
         b"docs bool -1 0",
@@ -67,7 +62,6 @@ fn does_not_understand_what_it_does_not_serve(rt: HostRuntime) {
         b"docs bool 4294967296 0",
         b"docs bool 0 4294967296",
         b"docs bool 1x 0",
-        b"docs phrase 0 1 a",
         b"Doc a",
         b"doc a\xff",
     ];
@@ -80,7 +74,38 @@ fn does_not_understand_what_it_does_not_serve(rt: HostRuntime) {
 // word's score is its weight times how often it stands there, over that and the words, rounded down.
 #[test]
 fn runs_whole_scripts(rt: HostRuntime) {
-    let runs: [(&[u8], &[u8], u8); 13] = [
+    let runs: [(&[u8], &[u8], u8); 18] = [
+        // a Boolean of every sign, a phrase, a boost over the best of two constants: 3 * 2 and half of
+        // the other; a tie breaker above 1000
+        (
+            b"doc a b\ndoc b c\ndocs bool 1 3 ? term a - term c ? phrase 0 2 b c\nscores boost 3 max 500 2 const 1 all const 2 all\ndocs max 1001 1 all\n",
+            b"0\n0:7 1:7\nline 5: refused 8\n",
+            1,
+        ),
+        // an optional clause: 333 + 166, 500, 400 + 125; a phrase of one word
+        (
+            b"doc a b\ndoc a\nsegment\ndoc a a b\nweight b 500\nscores bool 0 2 + term a ? term b\ndocs phrase 0 1 a\noops\ndocs none\n",
+            b"0:499 1:500 2:525\nline 7: refused 1\nline 8: not understood\n\n",
+            2,
+        ),
+        // a prefix is expanded to the first terms of the whole open segment, in whatever parts it is
+        (
+            b"doc cy\ndoc cy\ndoc cy\ndocs all\ndoc cx\ndocs all\ndocs prefix 1 1 c\ndocs prefix 2 1 c\ndocs prefix 0 1 c\ndocs prefix 1 0\n",
+            b"0 1 2\n0 1 2 3\n3\n0 1 2 3\n\nline 10: refused 2\n",
+            1,
+        ),
+        // inner queries are refused first, in their order
+        (
+            b"doc a\ndocs max 1001 1 phrase 0 1 a\ndocs bool 0 2 ? max 1001 0 ? phrase 0 0\ndocs max 1000 1 all\ndocs phrase 4294967295 2 a a\ndocs bool 4294967295 1 ? all\n",
+            b"line 2: refused 1\nline 3: refused 8\n0\n0\n\n",
+            1,
+        ),
+        // the greatest numbers: a boost that passes the greatest score, one that does not, a boost of 0
+        (
+            b"doc a\nscores boost 9223372036854775807 term a\nscores const 9223372036854775807 all\nscores boost 0 term a\n",
+            b"line 2: refused 9\n0:9223372036854775807\n0:0\n",
+            1,
+        ),
         // 1000 / 3 and 500 / 3, then 1000 * 2 / 5 and 500 / 4
         (
             b"doc a b\ndoc a\nsegment\ndoc a a b\nweight b 500\nscores bool 0 2 + term a + term b\ndocs term a\n",

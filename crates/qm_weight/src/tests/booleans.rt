@@ -139,6 +139,27 @@ fn clauses_beside_a_term(rt: HostRuntime) -> Result<(), Fail> {
 }
 
 #[test]
+fn a_should_clause_alone_has_no_node(rt: HostRuntime) -> Result<(), Fail> {
+    let reader = segment(rt.alloc())?;
+    // a combiner that scores 1 takes the score of the one clause away
+    let rows = [
+        (sum(), true),
+        (greatest(500)?, true),
+        (AnyCombiner::default(), false),
+    ];
+    for (combiner, is_alone) in rows {
+        let weight = boolean(rt.alloc(), &[(Occur::Should, Inside::Term)], 1, combiner)?;
+        let scorer: AnyScorer<'_, EmptyScorer> = weight.scorer(rt.alloc(), &reader, 1)?;
+        assert_eq!(&rt;
+            matches!(scorer, AnyScorer::Term(_)),
+            is_alone,
+            "{combiner:?}"
+        );
+    }
+    Ok(())
+}
+
+#[test]
 fn a_boost_over_the_greatest_of_constants(rt: HostRuntime) -> Result<(), Fail> {
     let clauses = [
         (Occur::Should, Inside::Constant(1)),

@@ -62,15 +62,16 @@ pub fn collect_calls<S: Scorer>(
     }
 }
 
+/// The slices of a run, one after another.
 #[derive(Drop)]
-struct Joined {
-    documents: Vec<DocId>,
-    // whether memory was refused; then some documents are not there
-    refused: bool,
+pub struct Joined {
+    pub documents: Vec<DocId>,
+    /// Whether memory was refused; then some documents are not there.
+    pub refused: bool,
 }
 
 impl Joined {
-    fn add(&mut self, slice: &[DocId])
+    pub fn add(&mut self, slice: &[DocId])
         ensures before { self.new.refused ≡ false → self.old.refused ≡ false }
         ensures documents { self.new.refused ≡ false → self.new.documents.items ≡ self.old.documents.items ++ slice.now }
     {

@@ -9,7 +9,7 @@ use Rattle.qm_scorer.specs.Intersection.{AreTogether, AreTrees, common_list}
 use Rattle.qm_scorer.specs.Tree.{IsTree, IsTreePlaced, tree_entries, tree_top}
 use Rattle.qm_scorer.specs.declared.intersection_node.IntersectionNode.{IntersectionNode}
 use Rattle.qm_scorer.proofs.Heads.{tree-head}
-use Rattle.qm_scorer.proofs.Intersections.{bounded-common, common-order, held-tops, led, shared-many}
+use Rattle.qm_scorer.proofs.Intersections.{bounded-common, common-order, held-tops, led, shared-many, shared-placed}
 use Rattle.qm_scorer.proofs.Opened.{closed-Intersection, entries-Intersection, placed-Intersection}
 use Rattle.qm_scorer.proofs.group_builders.intersect_scorers.Goals as goal
 
@@ -69,3 +69,6 @@ returns-clause-lists g c =
       valid = closed-Intersection D c.in_ok-new.field-0 (subst (AreTrees D) (sym node) made.trees) (subst (λ (n : IntersectionNode g.row.S.Denot). IsBounded n.top (common_list D n)) (sym node) bounded);
       placed = placed-Intersection D c.in_ok-new.field-0 (subst (AreTogether D) (sym node) made.placed);
     })
+
+pub returns-clause-placed : goal.returns-clause-placed
+returns-clause-placed g c = shared-placed _ c.args.members.items _ c.requires.placed (returns-clause-lists g c)

@@ -1,41 +1,37 @@
-use Rattle.std.proofs.Common.{◌≡◌, ◌∙◌, Err, IsSome, Some, ap, inl, inr, map, refl, subst, sym, string_bytes}
-use Rattle.std.specs.Option.{option_copied}
+use Rattle.std.proofs.Common.{◌≡◌, ◌∙◌, Err, ap, true, map, subst, sym, string_bytes}
 use Rattle.std.proofs.lemmas.Result.{IfOk-weaker}
-use Rattle.qm_search.specs.Answers.{IsChangeAnswer, ListsMatches, ListsScores}
-use Rattle.qm_search.specs.ScriptSegments.{AreSegments, all_segments, script}
-use Rattle.qm_search.proofs.Answering.{listing-answer, nothing-listed, nothing_searched, some-of}
+use Rattle.qm_query.specs.Query.{query_of as built_query}
+use Rattle.qm_search.specs.Answers.{IsChangeAnswer, ListsScores}
+use Rattle.qm_search.specs.ScriptSegments.{AreOnePart, AreSegments, Script, script}
+use Rattle.qm_search.specs.Spelled.{query_of}
+use Rattle.qm_search.specs.State.{state}
+use Rattle.qm_search.specs.Weights.{IsWeighedBy, given}
+use Rattle.qm_search.proofs.Answering.{IsForScores-refused, for_scores, listing-answer, nothing_searched, parts-same, segments-answer, unbuilt-answer}
 use Rattle.qm_search.proofs.answer.list_scores.Goals as goal
 
-pub returns-in-Empty-clause-answer : goal.returns-in-Empty-clause-answer
-returns-in-Empty-clause-answer c = (nothing_searched, nothing-listed (Some nothing_searched) c.args.tree.now (all_segments (script c.args.corpus.now.documents)) (string_bytes c.args.text.now) c.in-Empty.is c.requires)
+pub returns-clause-answer : goal.returns-clause-answer
+returns-clause-answer c =
+    let s = state c.args.corpus.now in
+    (nothing_searched s, for_scores s, IsForScores-refused s, unbuilt-answer (for_scores s) s.documents (query_of c.args.spelled.now) (string_bytes c.args.text.now) c.in-Err.error c.number.result c.number.ensures c.in-Err.ensures)
 
-pub returns-in-Err : goal.returns-in-Err
-returns-in-Err c =
-    let tree = c.args.tree.now in
-    let before = script c.args.corpus.now.documents in
+pub returns-in-Ok-clause-answer : goal.returns-in-Ok-clause-answer
+returns-in-Ok-clause-answer c =
+    let s = state c.args.corpus.now in
+    let q = query_of c.args.spelled.now in
     let text = string_bytes c.args.text.now in
-    record {
-      answer = IfOk-weaker c.answer_change.result (IsChangeAnswer (Err c.in-Err.error)) (λ a. ListsScores tree before a text) (λ a is. (
-        nothing_searched,
-        subst (λ x. ListsMatches (Some nothing_searched) tree before x text) (sym is.0) (elim c.in-Err.ensures.refused [
-          | inl memory ↦ absurd (is.1 memory)
-          | inr many ↦ inr (c.in-Err.error, refl, many)
-        ]),
-      )) c.answer_change.ensures;
-      script = IfOk-weaker c.answer_change.result (IsChangeAnswer (Err c.in-Err.error)) (λ a. script c.build_segments.new.self.documents ≡ before) (λ a is. c.build_segments.ensures.script) c.answer_change.ensures;
-    }
+    let e = c.in-Err-build_scored_segments.error in
+    IfOk-weaker c.answer_change.result (IsChangeAnswer (Err e)) (λ a. ListsScores q s a text) (λ a is. (nothing_searched s, for_scores s, IsForScores-refused s, segments-answer (for_scores s) s.documents q text e a is c.in-Err-build_scored_segments.ensures.refused)) c.answer_change.ensures
 
-pub returns-in-Ok : goal.returns-in-Ok
-returns-in-Ok c =
-    let tree = c.args.tree.now in
-    let before = script c.args.corpus.now.documents in
-    let text = string_bytes c.write_listing-listed.new.text in
+pub returns-in-Ok-build_scored_segments-clause-answer : goal.returns-in-Ok-build_scored_segments-clause-answer
+returns-in-Ok-build_scored_segments-clause-answer c =
+    let s = script c.args.corpus.now.documents in
+    let q = query_of c.args.spelled.now in
+    let text = string_bytes c.write_matches-written.new.text in
     let segments = map (λ r. r.segment) c.segments.result.now in
-    let found = option_copied c.searcher.result in
-    let same : script c.build_searcher.new.self.documents ≡ before = ap script c.build_searcher.ensures.documents ∙ c.build_segments.ensures.script in
-    let searched = some-of found (subst IsSome (sym c.searcher.ensures) c.in-Ok.ensures.built) in
-    let lists = listing-answer found tree before segments text c.write_listing-listed.result c.answer_listing.result (subst (λ s. AreSegments s segments) same c.segments.ensures.segments) c.write_listing-listed.ensures.listed c.write_listing-listed.ensures.refused c.answer_listing.ensures in
-    record {
-      answer = (searched.0, subst (λ o. ListsMatches o tree before c.answer_listing.result text) searched.1 lists);
-      script = same;
-    }
+    let same = c.build_scored_segments.ensures.script in
+    let enable = c.enabled_from_searcher-enable.result in
+    let query = built_query c.in-Ok.query in
+    let are = subst (λ t. AreSegments t segments) same c.segments.ensures.segments in
+    let one : c.has_prefix.result ≡ true → AreOnePart s segments = λ has. subst (λ t. AreOnePart t segments) same (c.segments.ensures.whole (c.in-Ok-build_scored_segments.ensures.whole has)) in
+    let listed = parts-same c.has_prefix.result enable s q query segments c.has_prefix.ensures c.in-Ok.ensures are one in
+    (c.searcher.result.now, enable, record { fields = c.enabled_from_searcher-enable.ensures.schema ∙ c.searcher.ensures.fields ∙ ap (λ (t : Script). t.current.schema) same; scores = c.enabled_from_searcher-enable.ensures.provider; weights = subst (λ w. IsWeighedBy (given w) c.searcher.result.now) c.build_scored_segments.ensures.weights c.searcher.ensures.weights }, listing-answer enable s q text query segments c.write_matches-written.result c.answer_listing.result c.in-Ok.ensures listed c.write_matches-written.ensures.listed c.write_matches-written.ensures.refused c.answer_listing.ensures)

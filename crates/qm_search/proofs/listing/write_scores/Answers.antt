@@ -1,7 +1,7 @@
 use Rattle.std.proofs.Common.{◌≡◌, ◌+◌, ◌++◌, ◌∷◌, [], ◌∙◌, ℕ, ℤ, Option, Some, ap, map, take, get_or, string_bytes, pos, subst, to_z, of_z, w64, rules, arith}
 use mir.ValLaws.{to_z-of_z}
 use Rattle.std.proofs.lemmas.Grind.{common_steps}
-use Rattle.qm_search.specs.AllSegments.{numbered}
+use Rattle.qm_search.specs.Text.{numbered}
 use Rattle.qm_search.specs.Text.{IsListing}
 use Rattle.qm_search.proofs.ListingTexts.{listing-more}
 use Rattle.qm_search.proofs.listing.write_scores.Goals as goal

@@ -1,5 +1,5 @@
 use Rattle.std.proofs.Common.{ℕ, ℤ, List, ◌++◌, map, take, string_bytes, Option, Some}
-use Rattle.qm_search.specs.AllSegments.{numbered}
+use Rattle.qm_search.specs.Text.{numbered}
 use Rattle.qm_search.specs.Text.{IsListing}
 use Rattle.qm_search.proofs.listing.write_scores.Given as goal
 

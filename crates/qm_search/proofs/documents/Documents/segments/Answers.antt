@@ -1,5 +1,5 @@
 use Rattle.std.proofs.Common.{◌≡◌, ap, sym, ◌∙◌, arith, drop, take, subst, string_bytes}
-use Rattle.std.proofs.lemmas.List.{length-map, map-append, take-append-drop, take_all}
+use Rattle.std.proofs.lemmas.List.{length-drop, length-map, map-append, take-append-drop, take_all}
 use Rattle.qm_search.specs.Parts.{AreParts}
 use Rattle.qm_search.specs.TextSegments.{segment_of, text_document}
 use Rattle.qm_search.proofs.PartLemmas.{few-segments, parts-from, segments_of}
@@ -14,6 +14,21 @@ returns-clause-segments c =
       parts = segments_of (drop self.ended readers);
       all = ap segments_of c.as_slice.ensures.value ∙ ap segments_of (sym (take-append-drop self.ended readers)) ∙ map-append (λ r. r.segment) (take self.ended readers) (drop self.ended readers);
       parts_of_current = subst (λ ts. AreParts (segment_of self.schema ts) (segments_of (drop self.ended readers))) all (parts-from self.schema self.texts.items self.built (drop self.ended readers) self.schemas self.parts);
+    }
+
+pub returns-clause-whole : goal.returns-clause-whole
+returns-clause-whole c = λ whole.
+    let self = c.args.self.now in
+    let readers = self.segments.items in
+    let behind = drop self.ended readers in
+    let all : take self.built self.texts.items ≡ self.texts.items = take_all self.built self.texts.items (omega (arith, c.requires, self.texts.ok.0)) in
+    record {
+      segments = record {
+        parts = segments_of behind;
+        all = ap segments_of c.as_slice.ensures.value ∙ ap segments_of (sym (take-append-drop self.ended readers)) ∙ map-append (λ r. r.segment) (take self.ended readers) behind;
+        parts_of_current = subst (λ ts. AreParts (segment_of self.schema ts) (segments_of behind)) all (parts-from self.schema self.texts.items self.built behind self.schemas self.parts);
+      };
+      one = omega (arith, length-map behind (λ r. r.segment), length-drop self.ended self.segments.items, whole, self.segments.ok.0);
     }
 
 pub returns-clause-few : goal.returns-clause-few

@@ -18,11 +18,32 @@ use Rattle.qm_scorer.specs.Intersection.{ListsShared}
 use Rattle.qm_scorer.specs.TreeFacts.{tree-ascends}
 use Rattle.qm_scorer.specs.declared.any_scorer.AnyScorer.{AnyScorer}
 use Rattle.qm_scorer.specs.contracts.any_scorer.AnyScorerDocSet.TheImpl.{ghosts}
-use Rattle.qm_weight.specs.ClauseScorers.{IsWantedRefusal, JoinsWanted}
-use Rattle.qm_weight.proofs.Joins.{if_fits, joined-both, joined-must, joined-optional, joined-should, not_past, refused-result, shared-placed, shared-top, tops, tops-some}
+use Rattle.qm_weight.specs.ClauseScorers.{IsOneClause, IsWantedRefusal, JoinsWanted}
+use Rattle.qm_weight.proofs.Joins.{if_fits, joined-both, joined-must, joined-one, joined-optional, joined-should, not_past, refused-result, shared-placed, shared-top, tops, tops-some}
 use Rattle.qm_weight.proofs.Leaves.{if_ok}
 use Rattle.qm_weight.proofs.Rows.{no_length}
 use Rattle.qm_weight.proofs.boolean_weight.joined.join_wanted.Goals as goal
+
+pub returns-then-is_one_clause-clause-placed : goal.returns-then-is_one_clause-clause-placed
+returns-then-is_one_clause-clause-placed g c =
+    let D = ghosts g.row.S g.S.Scorer g.S.Scorer-dict g.S.DocSet g.S.DocSet-dict g.S.Destruct-dict in
+    let should = c.args.should.items in
+    if_ok (ListsShared D should) (IsPlaced D) (λ s shared. shared-placed D should s c.requires.should shared) _ c.intersect_scorers.ensures.lists
+
+pub returns-then-is_one_clause-clause-scorer : goal.returns-then-is_one_clause-clause-scorer
+returns-then-is_one_clause-clause-scorer g c =
+    let D = ghosts g.row.S g.S.Scorer g.S.Scorer-dict g.S.DocSet g.S.DocSet-dict g.S.Destruct-dict in
+    let law = tree-ascends g.S.DocSet g.met.S.DocSet.ascending in
+    let w = c.args.weight.now in
+    let segment = c.args.reader.now.segment in
+    let must = c.args.must.items in
+    let should = c.args.should.items in
+    let few : length segment.documents ≤ TERMINATED = omega (arith, c.max_doc-num_docs.ensures.number, c.max_doc-num_docs.ensures.room) in
+    let seen = c.is_one_clause.ensures c.if-is_one_clause.true in
+    let alone : IsOneClause w must should =
+    subst (λ xs. IsOneClause w xs should) c.deref.ensures.value (subst (IsOneClause w c.deref.result.now) c.deref-2.ensures.value seen) in
+    if_ok (ListsShared D should) (JoinsWanted D w segment must should)
+    (λ s shared b rows. joined-one D law w segment few must should b rows s alone c.requires.should shared) _ c.intersect_scorers.ensures.lists
 
 pub returns-then-is_empty-clause-scorer : goal.returns-then-is_empty-clause-scorer
 returns-then-is_empty-clause-scorer g c =

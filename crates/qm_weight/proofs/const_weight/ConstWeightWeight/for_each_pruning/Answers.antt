@@ -1,0 +1,11 @@
+use Rattle.std.proofs.Common.{w64}
+use Rattle.std.proofs.lemmas.Int.{to_z-of_z}
+use Rattle.qm_term.specs.Runs.{InRange}
+use Rattle.qm_weight.proofs.RunSteps.{MayPrune-at}
+use Rattle.qm_weight.proofs.const_weight.ConstWeightWeight.for_each_pruning.Given as given
+use Rattle.qm_weight.proofs.const_weight.ConstWeightWeight.for_each_pruning.Goals as goal
+
+pub for_each_pruning_scorer-requires-clause-allowed :
+    goal.for_each_pruning_scorer-requires-clause-allowed
+for_each_pruning_scorer-requires-clause-allowed g c =
+    MayPrune-at (InRange (given.F-step g)) (given.F-pre g) c.args.threshold _ c.args.callback.now _ (to_z-of_z w64 c.args.threshold c.ranges.threshold) (c.requires.allowed _ c.in_ok-scorer.ensures.scorer.list)
