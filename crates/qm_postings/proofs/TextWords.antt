@@ -1,5 +1,5 @@
 -- What one more word makes of the words of a text, of their places and of the text's terms.
-use Rattle.std.proofs.Common.{◌≡◌, ℕ, zero, suc, ◌+◌, ◌<◌, ◌≤◌, Bool, true, false, cond, ◌||◌, List, [], ◌∷◌, ◌++◌, map, length, get_or, set, filter, fold, min, refl, sym, ap, ◌∙◌, subst, arith, Decides, append-nil, length-append, Option, None, Some, MatchOption, Bor, nat_cmp, is_eq, not, ◌==◌}
+use Rattle.std.proofs.Common.{◌≡◌, ℕ, zero, suc, ◌+◌, ◌<◌, ◌≤◌, Bool, true, false, cond, ◌||◌, List, [], ◌∷◌, ◌++◌, map, length, get_or, set, filter, fold, min, refl, sym, ap, ◌∙◌, subst, arith, Decides, append-nil, length-append, Option, None, Some, MatchOption, unwrap_or, Bor, nat_cmp, is_eq, not, ◌==◌}
 use Rattle.std.specs.Cmp.{unsigned_Decides}
 use Rattle.std.specs.Cmp.Lexicographic.{slice_cmp, texts_ties}
 use Rattle.std.specs.List.{enumerate_from, list_any}
@@ -198,8 +198,8 @@ text_terms-first field ws x none =
 -- ---- the number of each word
 
 -- a look-up of words, by what it has at each, finds the word's number among these
-abbrev pub Numbers : (Bor (List ℕ) → Option ℕ) → List (List ℕ) → Type 0
-Numbers number ds = (q : Bor (List ℕ)) → MatchOption (number q) (list_any (bytes_eq q.now) ds ≡ false) (λ n. (n < length ds) × (get_or ds n [] ≡ q.now))
+abbrev pub Numbers : (List ℕ → Option ℕ) → List (List ℕ) → Type 0
+Numbers number ds = (q : List ℕ) → MatchOption (number q) (list_any (bytes_eq q) ds ≡ false) (λ n. (n < length ds) × (get_or ds n [] ≡ q))
 
 numbers-other : (ds : List (List ℕ)) (x q : List ℕ) (o : Option ℕ) → bytes_eq q x ≡ false → MatchOption o (list_any (bytes_eq q) ds ≡ false) (λ n. (n < length ds) × (get_or ds n [] ≡ q))
     → MatchOption o (list_any (bytes_eq q) (ds ++ x ∷ []) ≡ false) (λ n. (n < length (ds ++ x ∷ [])) × (get_or (ds ++ x ∷ []) n [] ≡ q))
@@ -210,15 +210,24 @@ numbers-other ds x q (Some n) other h = (omega (arith, h.0, length-append ds (x 
 numbers-same : (ds : List (List ℕ)) (x q : List ℕ) → x ≡ q → (length ds < length (ds ++ x ∷ [])) × (get_or (ds ++ x ∷ []) (length ds) [] ≡ q)
 numbers-same ds x q e = (omega (arith, length-append ds (x ∷ [])), get_or-append_seam ds x [] [] ∙ e)
 
-pub Numbers-first : (old new : Bor (List ℕ) → Option ℕ) (ds : List (List ℕ)) (x : Bor (List ℕ)) → Numbers old ds → ((q : Bor (List ℕ)) → new q ≡ cond (is_eq (slice_cmp nat_cmp x.now q.now)) (Some (length ds)) (old q)) → Numbers new (ds ++ x.now ∷ [])
+pub Numbers-first : (old new : List ℕ → Option ℕ) (ds : List (List ℕ)) (x : List ℕ) → Numbers old ds → ((q : List ℕ) → new q ≡ cond (is_eq (slice_cmp nat_cmp x q)) (Some (length ds)) (old q)) → Numbers new (ds ++ x ∷ [])
 Numbers-first old new ds x had now q =
-    let test : bytes_eq x.now q.now ≡ is_eq (slice_cmp nat_cmp x.now q.now) = texts_ties x.now q.now in
-    elim (bytes_eq x.now q.now) as (λ b. bytes_eq x.now q.now ≡ b → MatchOption (new q) (list_any (bytes_eq q.now) (ds ++ x.now ∷ []) ≡ false) (λ n. (n < length (ds ++ x.now ∷ [])) × (get_or (ds ++ x.now ∷ []) n [] ≡ q.now))) [
-      | true ↦ λ t. rw (now q, ← test, t) (numbers-same ds x.now q.now ((same_bytes x.now q.now).0 t))
-      | false ↦ λ t. rw (now q, ← test, t) (numbers-other ds x.now q.now (old q) (other_way x.now q.now t) (had q))
+    let test : bytes_eq x q ≡ is_eq (slice_cmp nat_cmp x q) = texts_ties x q in
+    elim (bytes_eq x q) as (λ b. bytes_eq x q ≡ b → MatchOption (new q) (list_any (bytes_eq q) (ds ++ x ∷ []) ≡ false) (λ n. (n < length (ds ++ x ∷ [])) × (get_or (ds ++ x ∷ []) n [] ≡ q))) [
+      | true ↦ λ t. rw (now q, ← test, t) (numbers-same ds x q ((same_bytes x q).0 t))
+      | false ↦ λ t. rw (now q, ← test, t) (numbers-other ds x q (old q) (other_way x q t) (had q))
     ] refl
 
-numbers-again : (number : Bor (List ℕ) → Option ℕ) (ds es : List (List ℕ)) → es ≡ ds → Numbers number ds → Numbers number es
+Numbers-kept : (old new : List ℕ → Option ℕ) (ds : List (List ℕ)) (x : List ℕ) (n : ℕ) → Numbers old ds → old x ≡ Some n → ((q : List ℕ) → new q ≡ cond (is_eq (slice_cmp nat_cmp x q)) (Some n) (old q)) → Numbers new ds
+Numbers-kept old new ds x n had found now q =
+    let test : bytes_eq x q ≡ is_eq (slice_cmp nat_cmp x q) = texts_ties x q in
+    let at : (n < length ds) × (get_or ds n [] ≡ x) = subst (λ o. MatchOption o (list_any (bytes_eq x) ds ≡ false) (λ k. (k < length ds) × (get_or ds k [] ≡ x))) found (had x) in
+    elim (bytes_eq x q) as (λ b. bytes_eq x q ≡ b → MatchOption (new q) (list_any (bytes_eq q) ds ≡ false) (λ k. (k < length ds) × (get_or ds k [] ≡ q))) [
+      | true ↦ λ t. rw (now q, ← test, t) (at.0, at.1 ∙ (same_bytes x q).0 t)
+      | false ↦ λ t. rw (now q, ← test, t) (had q)
+    ] refl
+
+numbers-again : (number : List ℕ → Option ℕ) (ds es : List (List ℕ)) → es ≡ ds → Numbers number ds → Numbers number es
 numbers-again number ds es e = subst (Numbers number) (sym e)
 
 -- ---- one step of a loop over the pieces of a text
@@ -241,47 +250,58 @@ length-words_in ys =
     omega (arith, length-filter test texts, count_by-le-length test texts, length-map ys (λ (y : Bor (List ℕ)). y.now))
 
 -- what the loop has at hand: the terms and the number of each word
-pub record AreCollected (field : ℕ) (items : List Given) (number : Bor (List ℕ) → Option ℕ) (ws : List (List ℕ)) : Type 0 where
+pub record AreCollected (field : ℕ) (items : List Given) (number : List ℕ → Option ℕ) (ws : List (List ℕ)) : Type 0 where
   pub terms : items ≡ text_terms field ws
   pub numbers : Numbers number (distinct_words ws)
 
-pub AreCollected-again : (field : ℕ) (items new : List Given) (number : Bor (List ℕ) → Option ℕ) (ws : List (List ℕ)) (x : Bor (List ℕ)) (n : ℕ) → AreCollected field items number ws → number x ≡ Some n
-    → ((d : Given) → new ≡ set items n (with_place (get_or items n d) (min (length ws) 4294967295))) → AreCollected field new number (ws ++ x.now ∷ [])
-AreCollected-again field items new number ws x n had found made =
-    let at : (n < length (distinct_words ws)) × (get_or (distinct_words ws) n [] ≡ x.now) =
-    subst (λ o. MatchOption o (list_any (bytes_eq x.now) (distinct_words ws) ≡ false) (λ k. (k < length (distinct_words ws)) × (get_or (distinct_words ws) k [] ≡ x.now))) found (had.numbers x) in
-    let stays : distinct_words (ws ++ x.now ∷ []) ≡ distinct_words ws =
-    distinct_words-push ws x.now ∙ ap (λ b. cond b (distinct_words ws) (distinct_words ws ++ x.now ∷ [])) (among-at (distinct_words ws) n x.now at.0 at.1) in
-    let y : Given = with_place (word_term field ws x.now) (min (length ws) 4294967295) in
-    let old : get_or (text_terms field ws) n y ≡ word_term field ws x.now =
+pub AreCollected-again : (field : ℕ) (items new : List Given) (before number : List ℕ → Option ℕ) (ws : List (List ℕ)) (x : List ℕ) (n : ℕ) → AreCollected field items before ws → before x ≡ Some n
+    → ((q : List ℕ) → number q ≡ cond (is_eq (slice_cmp nat_cmp x q)) (Some n) (before q))
+    → ((d : Given) → new ≡ set items n (with_place (get_or items n d) (min (length ws) 4294967295))) → AreCollected field new number (ws ++ x ∷ [])
+AreCollected-again field items new before number ws x n had found now made =
+    let at : (n < length (distinct_words ws)) × (get_or (distinct_words ws) n [] ≡ x) =
+    subst (λ o. MatchOption o (list_any (bytes_eq x) (distinct_words ws) ≡ false) (λ k. (k < length (distinct_words ws)) × (get_or (distinct_words ws) k [] ≡ x))) found (had.numbers x) in
+    let stays : distinct_words (ws ++ x ∷ []) ≡ distinct_words ws =
+    distinct_words-push ws x ∙ ap (λ b. cond b (distinct_words ws) (distinct_words ws ++ x ∷ [])) (among-at (distinct_words ws) n x at.0 at.1) in
+    let y : Given = with_place (word_term field ws x) (min (length ws) 4294967295) in
+    let old : get_or (text_terms field ws) n y ≡ word_term field ws x =
     get_or-map (word_term field ws) (distinct_words ws) n [] y at.0 ∙ ap (word_term field ws) at.1 in
     let items_are : (d : Given) → get_or items n d ≡ get_or (text_terms field ws) n d = λ d. ap (λ xs. get_or xs n d) had.terms in
     record {
       terms = made y
           ∙ ap (λ g. set items n (with_place g (min (length ws) 4294967295))) (items_are y ∙ old)
           ∙ ap (λ xs. set xs n y) had.terms
-          ∙ text_terms-again field ws x.now n y at.0 at.1 (ap (λ g. with_place g (min (length ws) 4294967295)) (sym old));
-      numbers = numbers-again number (distinct_words ws) (distinct_words (ws ++ x.now ∷ [])) stays had.numbers;
+          ∙ text_terms-again field ws x n y at.0 at.1 (ap (λ g. with_place g (min (length ws) 4294967295)) (sym old));
+      numbers = numbers-again number (distinct_words ws) (distinct_words (ws ++ x ∷ [])) stays (Numbers-kept before number (distinct_words ws) x n had.numbers found now);
     }
 
-pub AreCollected-first : (field : ℕ) (items new : List Given) (old number : Bor (List ℕ) → Option ℕ) (ws : List (List ℕ)) (x : Bor (List ℕ)) → AreCollected field items old ws → old x ≡ None
-    → ((q : Bor (List ℕ)) → number q ≡ cond (is_eq (slice_cmp nat_cmp x.now q.now)) (Some (length items)) (old q))
-    → new ≡ items ++ record { term = record { field = field; bytes = x.now }; positions = min (length ws) 4294967295 ∷ [] } ∷ [] → AreCollected field new number (ws ++ x.now ∷ [])
+pub AreCollected-first : (field : ℕ) (items new : List Given) (old number : List ℕ → Option ℕ) (ws : List (List ℕ)) (x : List ℕ) → AreCollected field items old ws → old x ≡ None
+    → ((q : List ℕ) → number q ≡ cond (is_eq (slice_cmp nat_cmp x q)) (Some (length items)) (old q))
+    → new ≡ items ++ record { term = record { field = field; bytes = x }; positions = min (length ws) 4294967295 ∷ [] } ∷ [] → AreCollected field new number (ws ++ x ∷ [])
 AreCollected-first field items new old number ws x had missing now made =
-    let none : list_any (bytes_eq x.now) (distinct_words ws) ≡ false =
-    subst (λ o. MatchOption o (list_any (bytes_eq x.now) (distinct_words ws) ≡ false) (λ k. (k < length (distinct_words ws)) × (get_or (distinct_words ws) k [] ≡ x.now))) missing (had.numbers x) in
-    let more : distinct_words (ws ++ x.now ∷ []) ≡ distinct_words ws ++ x.now ∷ [] =
-    distinct_words-push ws x.now ∙ ap (λ b. cond b (distinct_words ws) (distinct_words ws ++ x.now ∷ [])) none in
+    let none : list_any (bytes_eq x) (distinct_words ws) ≡ false =
+    subst (λ o. MatchOption o (list_any (bytes_eq x) (distinct_words ws) ≡ false) (λ k. (k < length (distinct_words ws)) × (get_or (distinct_words ws) k [] ≡ x))) missing (had.numbers x) in
+    let more : distinct_words (ws ++ x ∷ []) ≡ distinct_words ws ++ x ∷ [] =
+    distinct_words-push ws x ∙ ap (λ b. cond b (distinct_words ws) (distinct_words ws ++ x ∷ [])) none in
     let count : length items ≡ length (distinct_words ws) = ap length had.terms ∙ length-map (distinct_words ws) (word_term field ws) in
     record {
-      terms = made ∙ ap (λ xs. xs ++ record { term = record { field = field; bytes = x.now }; positions = min (length ws) 4294967295 ∷ [] } ∷ []) had.terms ∙ text_terms-first field ws x.now none;
-      numbers = numbers-again number (distinct_words ws ++ x.now ∷ []) (distinct_words (ws ++ x.now ∷ [])) more
-          (Numbers-first old number (distinct_words ws) x had.numbers (λ q. now q ∙ ap (λ n. cond (is_eq (slice_cmp nat_cmp x.now q.now)) (Some n) (old q)) count));
+      terms = made ∙ ap (λ xs. xs ++ record { term = record { field = field; bytes = x }; positions = min (length ws) 4294967295 ∷ [] } ∷ []) had.terms ∙ text_terms-first field ws x none;
+      numbers = numbers-again number (distinct_words ws ++ x ∷ []) (distinct_words (ws ++ x ∷ [])) more
+          (Numbers-first old number (distinct_words ws) x had.numbers (λ q. now q ∙ ap (λ n. cond (is_eq (slice_cmp nat_cmp x q)) (Some n) (old q)) count));
     }
 
 -- the number of a word is that of one of the terms
-pub number-below : (field : ℕ) (items : List Given) (number : Bor (List ℕ) → Option ℕ) (ws : List (List ℕ)) (x : Bor (List ℕ)) (n : ℕ) → AreCollected field items number ws → number x ≡ Some n → n < length items
+pub number-below : (field : ℕ) (items : List Given) (number : List ℕ → Option ℕ) (ws : List (List ℕ)) (x : List ℕ) (n : ℕ) → AreCollected field items number ws → number x ≡ Some n → n < length items
 number-below field items number ws x n had found =
-    let at : (n < length (distinct_words ws)) × (get_or (distinct_words ws) n [] ≡ x.now) =
-    subst (λ o. MatchOption o (list_any (bytes_eq x.now) (distinct_words ws) ≡ false) (λ k. (k < length (distinct_words ws)) × (get_or (distinct_words ws) k [] ≡ x.now))) found (had.numbers x) in
+    let at : (n < length (distinct_words ws)) × (get_or (distinct_words ws) n [] ≡ x) =
+    subst (λ o. MatchOption o (list_any (bytes_eq x) (distinct_words ws) ≡ false) (λ k. (k < length (distinct_words ws)) × (get_or (distinct_words ws) k [] ≡ x))) found (had.numbers x) in
     omega (arith, at.0, ap length had.terms ∙ length-map (distinct_words ws) (word_term field ws))
+
+-- a number that stands for the word, or else the next one: below the next, the word had it
+pub known-number : (had : Option ℕ) (n next : ℕ) → n ≡ unwrap_or had next → n < next → had ≡ Some n
+known-number None n next is below = absurd (omega (arith, is, below))
+known-number (Some k) n next is below = ap Some (sym is)
+
+-- and else the word had none
+pub next-number : (had : Option ℕ) (n next : ℕ) → n ≡ unwrap_or had next → ((k : ℕ) → had ≡ Some k → k < next) → next ≤ n → (had ≡ None) × (n ≡ next)
+next-number None n next is known up = (refl, is)
+next-number (Some k) n next is known up = absurd (omega (arith, is, known k refl, up))

@@ -28,14 +28,17 @@ module _ {P : Type 0} (S : Ghosts P) (under : EnableScoring P) where
   abbrev pub IsPrefixByProvider : List (ℕ × TermKey) → QueryError → Type 0
   IsPrefixByProvider terms error = (0 < length terms) × IsByProvider S under (terms_of terms) error
 
+  -- a phrase of these terms is refused so: its field has to serve a phrase
+  abbrev pub IsPhraseRefusal : ℕ → List TermKey → QueryError → Type 0
+  IsPhraseRefusal field terms error = IsLeafRefusal (phrase_field_refusal (schema_of under) field) (IsByProvider S under terms) error
+
   abbrev mutual
     -- a leaf of the query is refused so, and the fields of all leaves before it serve
     pub IsRefused : Query → QueryError → Type 0
     IsRefused all error = ⊥
     IsRefused none error = ⊥
     IsRefused (term q) error = IsLeafRefusal (term_field_refusal (schema_of under) q.term.field) (IsByProvider S under (q.term ∷ [])) error
-    IsRefused (phrase q) error =
-        IsLeafRefusal (phrase_field_refusal (schema_of under) (first_field (λ t. t.1) q.terms)) (IsByProvider S under (terms_of q.terms)) error
+    IsRefused (phrase q) error = IsPhraseRefusal (first_field (λ t. t.1) q.terms) (terms_of q.terms) error
     IsRefused (phrase_prefix q) error =
         IsLeafRefusal (prefix_field_refusal (schema_of under) q.terms q.prefix.1.field) (IsPrefixByProvider q.terms) error
     IsRefused (boolean minimum clauses) error = IsClauseRefused clauses error

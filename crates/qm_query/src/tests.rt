@@ -6,6 +6,7 @@ mod library_use;
 mod matches;
 mod phrases;
 mod providers;
+mod queries;
 mod query_terms;
 mod refused_memory;
 mod scores;

@@ -4,4 +4,5 @@ pub mod GroupScores
 pub mod Groups
 pub mod Heads
 pub mod Intersections
+pub mod Moving
 pub mod Opened

@@ -10,7 +10,7 @@ ghost use Rattle.qm_scorer.specs.declared.any_scorer.AnyScorer.{size-AnyScorer};
 use crate::boost_node::{BoostNode, danger_boost, score_boost, seek_boost};
 use crate::const_node::{ConstNode, danger_const, score_const, seek_const};
 use crate::exclude_node::{ExcludeNode, danger_exclude, score_exclude, seek_exclude};
-use crate::group_node::{GroupNode, danger_group, hint_group, score_group, seek_group};
+use crate::group_node::{GroupNode, cost_group, danger_group, hint_group, score_group, seek_group};
 use crate::intersection_node::{
     IntersectionNode, danger_intersection, score_intersection, seek_intersection,
 };
@@ -32,8 +32,9 @@ use qm_term::TermScorer;
 /// A call costs the choice of the variant in each node that it comes through, and what the same call of
 /// the combinator of that name in `qm_combine` costs; but a `Disjunction` asks each member where it
 /// stands, and keeps no heap. A leaf answers each call as its cursor does, and so does a `Boost` or a
-/// `Const` over it; every other node goes to its next document by a seek, and fills buffers and counts
-/// by such steps. No call takes memory; each takes stack for every level of the tree that it goes down.
+/// `Const` over it; an `Intersection` goes to its next document by a step of its leader, every other
+/// node by a seek, and these fill buffers and count by such steps. No call takes memory; each takes
+/// stack for every level of the tree that it goes down.
 #[cycle(any)]
 #[derive(Drop)]
 pub enum AnyScorer<'a, S> {
@@ -330,6 +331,29 @@ pub(crate) fn hint_tree<'a, S: Scorer>(scorer: &AnyScorer<'a, S>) -> u32
     }
 }
 
+// About what it costs to go through a tree.
+#[cycle(costs)]
+pub(crate) fn cost_tree<'a, S: Scorer>(scorer: &AnyScorer<'a, S>) -> u64
+    requires valid { IsTree S.DocSet scorer.now }
+{
+    match scorer {
+        AnyScorer::Empty(leaf) => leaf.cost(),
+        AnyScorer::All(leaf) => leaf.cost(),
+        AnyScorer::Own(leaf) => leaf.cost(),
+        AnyScorer::Term(leaf) => leaf.cost(),
+        AnyScorer::BitSet(leaf) => leaf.cost(),
+        AnyScorer::Phrase(leaf) => leaf.cost(),
+        AnyScorer::PhrasePrefix(leaf) => leaf.cost(),
+        AnyScorer::Boost(node) => cost_tree(&node.inner),
+        AnyScorer::Const(node) => cost_tree(&node.inner),
+        AnyScorer::RequiredOptional(node) => cost_tree(&node.required),
+        AnyScorer::Exclude(node) => cost_tree(&node.inner),
+        AnyScorer::Union(node) => cost_group(node),
+        AnyScorer::Disjunction(node) => cost_group(node),
+        AnyScorer::Intersection(node) => cost_tree(&node.leader),
+    }
+}
+
 impl<'a, S: Scorer> DocSet for AnyScorer<'a, S> {
     ghost entries = { λ x. tree_entries S.DocSet x };
 
@@ -361,6 +385,10 @@ impl<'a, S: Scorer> DocSet for AnyScorer<'a, S> {
 
     fn size_hint(&self) -> u32 {
         hint_tree(self)
+    }
+
+    fn cost(&self) -> u64 {
+        cost_tree(self)
     }
 
     fn count(&mut self, alive: &AliveBitSet) -> u32 {

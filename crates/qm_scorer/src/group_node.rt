@@ -11,7 +11,7 @@ ghost use Rattle.qm_scorer.specs.Tree.{HasRoom, IsTree};
 ghost use Rattle.qm_scorer.specs.declared.group_node.GroupNode.{size-GroupNode};
 
 use crate::any_combiner::AnyCombiner;
-use crate::any_scorer::{AnyScorer, doc_tree, hint_tree, reach_tree, score_tree};
+use crate::any_scorer::{AnyScorer, cost_tree, doc_tree, hint_tree, reach_tree, score_tree};
 use qm_combine::{AllScorer, ConstScorer, ScoreCombiner, Scorer};
 use qm_docset::{DocId, Score, SeekDangerResult, TERMINATED};
 
@@ -189,4 +189,16 @@ pub(crate) fn hint_group<'a, S: Scorer>(node: &GroupNode<'a, S>) -> u32
         hint = hint_tree(member).max(hint);
     }
     hint
+}
+
+// About what it costs to go through all members.
+#[cycle(costs)]
+pub(crate) fn cost_group<'a, S: Scorer>(node: &GroupNode<'a, S>) -> u64
+    requires members { All (IsTree S.DocSet) node.now.members.items }
+{
+    let mut cost = 0u64;
+    for member in &node.members {
+        cost = cost.saturating_add(cost_tree(member));
+    }
+    cost
 }

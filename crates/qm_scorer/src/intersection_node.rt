@@ -1,6 +1,6 @@
 //! A node over several scorers, all of which have each document.
 
-ghost use Rattle.std.specs.Prelude.{◌≡◌, ◌<◌, ◌≤◌, All, map};
+ghost use Rattle.std.specs.Prelude.{◌≡◌, ◌<◌, ◌≤◌, All, drop, map};
 ghost use Rattle.qm_docset.specs.Cursor.{IsSeekAnswer, OnFound};
 ghost use Rattle.qm_docset.specs.Entry.{from, greatest_score, head_document, head_score};
 ghost use Rattle.qm_combine.specs.SharedSeek.{IsSharedAnswer};
@@ -11,6 +11,7 @@ ghost use Rattle.qm_scorer.specs.declared.intersection_node.IntersectionNode.{si
 
 use crate::any_scorer::{AnyScorer, danger_tree, score_tree, seek_tree};
 use crate::bounds::GREATEST_SCORE;
+use crate::passing::advance_tree;
 use qm_combine::Scorer;
 use qm_docset::{DocId, SeekDangerResult, TERMINATED};
 
@@ -97,6 +98,22 @@ pub(crate) fn seek_intersection<'a, S: Scorer>(
     ensures depth { size-IntersectionNode _ node.new ≤ size-IntersectionNode _ node.old }
 {
     let candidate = seek_tree(&mut node.leader, target);
+    align(node, candidate)
+}
+
+// Goes to the node's next document: a step of the leader is a step of what all have.
+#[cycle(steps)]
+#[tactic(auto, using(crate::specs::PassingFacts::passing))]
+pub(crate) fn advance_intersection<'a, S: Scorer>(node: &mut IntersectionNode<'a, S>) -> DocId
+    requires trees { AreTrees S.DocSet node.old }
+    requires placed { AreTogether S.DocSet node.old }
+    ensures head { result ≡ head_document (common_list S.DocSet node.new) }
+    ensures entries { common_list S.DocSet node.new ≡ drop 1 (common_list S.DocSet node.old) }
+    ensures trees { AreTrees S.DocSet node.new }
+    ensures placed { AreTogether S.DocSet node.new }
+    ensures top { node.new.top ≡ node.old.top }
+{
+    let candidate = advance_tree(&mut node.leader);
     align(node, candidate)
 }
 

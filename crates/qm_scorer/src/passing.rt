@@ -1,5 +1,5 @@
 //! Calls that a leaf answers faster than by seeks, and that a node with the documents of one scorer
-//! hands on to it. All other nodes go by steps.
+//! hands on to it. All other nodes go by steps, and an intersection steps by its leader.
 
 ghost use Rattle.std.specs.Prelude.{◌≡◌, ◌≤◌, [], drop, length, min, take};
 ghost use Rattle.qm_docset.specs.AliveBitSet.{alive_entries};
@@ -7,13 +7,35 @@ ghost use Rattle.qm_docset.specs.Entry.{documents, head_document};
 ghost use Rattle.qm_scorer.specs.Tree.{IsTree, IsTreePlaced, tree_entries, tree_top};
 
 use crate::any_scorer::{AnyScorer, doc_tree, seek_tree};
+use crate::intersection_node::advance_intersection;
 use qm_combine::Scorer;
 use qm_docset::{AliveBitSet, COLLECT_BLOCK_BUFFER_LEN, DocId, DocSet, TERMINATED};
 
 // Goes to the next document.
+// A term comes first, in a body that is inlined, as in a seek.
 #[cycle(steps)]
+#[inline(always)]
 #[tactic(auto, using(crate::specs::PassingFacts::passing))]
 pub(crate) fn advance_tree<'a, S: Scorer>(scorer: &mut AnyScorer<'a, S>) -> DocId
+    requires valid { IsTree S.DocSet scorer.old }
+    requires placed { IsTreePlaced S.DocSet scorer.old }
+    ensures head { result ≡ head_document (tree_entries S.DocSet scorer.new) }
+    ensures entries { tree_entries S.DocSet scorer.new ≡ drop 1 (tree_entries S.DocSet scorer.old) }
+    ensures top { tree_top S.DocSet scorer.new ≡ tree_top S.DocSet scorer.old }
+    ensures valid { IsTree S.DocSet scorer.new }
+    ensures placed { IsTreePlaced S.DocSet scorer.new }
+{
+    match scorer {
+        AnyScorer::Term(leaf) => leaf.advance(),
+        _ => advance_other(scorer),
+    }
+}
+
+// The same, whatever the tree is.
+#[cycle(steps)]
+#[inline(never)]
+#[tactic(auto, using(crate::specs::PassingFacts::passing))]
+fn advance_other<'a, S: Scorer>(scorer: &mut AnyScorer<'a, S>) -> DocId
     requires valid { IsTree S.DocSet scorer.old }
     requires placed { IsTreePlaced S.DocSet scorer.old }
     ensures head { result ≡ head_document (tree_entries S.DocSet scorer.new) }
@@ -32,6 +54,7 @@ pub(crate) fn advance_tree<'a, S: Scorer>(scorer: &mut AnyScorer<'a, S>) -> DocI
         AnyScorer::PhrasePrefix(leaf) => leaf.advance(),
         AnyScorer::Boost(node) => advance_tree(&mut node.inner),
         AnyScorer::Const(node) => advance_tree(&mut node.inner),
+        AnyScorer::Intersection(node) => advance_intersection(node),
         _ => seek_next(scorer),
     }
 }

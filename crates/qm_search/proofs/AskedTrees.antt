@@ -16,7 +16,7 @@ use Rattle.qm_postings.specs.contracts.searcher.SearcherBm25StatisticsProvider.T
 use Rattle.qm_schema.specs.Term.{TermKey}
 use Rattle.qm_schema.specs.declared.error.QueryError.{QueryError}
 use Rattle.qm_schema.specs.declared.error.QueryError.TheVariants.{TieBreaker}
-use Rattle.qm_search.specs.Asked.{asked, clauses_asked, disjuncts_asked, disjunction_max_asked, unless, ◌>>=◌}
+use Rattle.qm_search.specs.Asked.{asked, clauses_asked, disjuncts_asked, unless, ◌>>=◌}
 use Rattle.qm_search.specs.PrefixFree.{clauses_have_no_prefix, has_no_prefix}
 use Rattle.qm_search.specs.Prefixes.{has_prefix, have_clauses_prefix, have_queries_prefix}
 use Rattle.qm_search.specs.Script as language
@@ -69,15 +69,15 @@ scoring-enabled (Disabled schema searcher) q on = absurd (false≢true on)
 
 -- ---- prefixes
 
-bind-ok : {A B : Type 0} (P : A → Type 0) (Q : B → Type 0) (r : Result A QueryError) (f : A → Result B QueryError) → IfOk r P → ((x : A) → P x → IfOk (f x) Q) → IfOk (r >>= f) Q
+pub bind-ok : {A B : Type 0} (P : A → Type 0) (Q : B → Type 0) (r : Result A QueryError) (f : A → Result B QueryError) → IfOk r P → ((x : A) → P x → IfOk (f x) Q) → IfOk (r >>= f) Q
 bind-ok P Q (Ok x) f holds next = next x holds
 bind-ok P Q (Err e) f holds next = tt
 
-unless-ok : {A : Type 0} (P : A → Type 0) (due : Option QueryError) (x : A) → P x → IfOk (unless due x) P
+pub unless-ok : {A : Type 0} (P : A → Type 0) (due : Option QueryError) (x : A) → P x → IfOk (unless due x) P
 unless-ok P None x holds = holds
 unless-ok P (Some e) x holds = tt
 
-test-ok : {A : Type 0} (P : A → Type 0) (b : Bool) (e : QueryError) (x : A) → P x → IfOk (let r : Result A QueryError = if b then Err e else Ok x in r) P
+pub test-ok : {A : Type 0} (P : A → Type 0) (b : Bool) (e : QueryError) (x : A) → P x → IfOk (let r : Result A QueryError = if b then Err e else Ok x in r) P
 test-ok P true e x holds = tt
 test-ok P false e x holds = holds
 

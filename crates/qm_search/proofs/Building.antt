@@ -1,5 +1,5 @@
 -- What builders of queries answer: where a constructor was refused, and row by row.
-use Rattle.std.proofs.Common.{◌≡◌, ◌⊎◌, inl, inr, ℕ, ◌+◌, ◌<◌, ◌≤◌, Bool, true, false, ◌||◌, List, [], ◌∷◌, ◌++◌, Option, None, Some, Result, Ok, Err, map, length, drop, get_or, refl, ap, sym, ◌∙◌, arith, append_assoc, append-nil, length-append, subst, if◌then◌else◌, nat_lt}
+use Rattle.std.proofs.Common.{◌≡◌, ◌⊎◌, inl, inr, ℕ, ◌+◌, ◌<◌, ◌≤◌, Bool, true, false, ◌||◌, List, [], ◌∷◌, ◌++◌, Option, None, Some, Result, Ok, Err, map, length, drop, get_or, refl, ap, sym, ◌∙◌, arith, append_assoc, append-nil, length-append, subst, if◌then◌else◌}
 use Rattle.std.proofs.lemmas.Bool.{le-ltb}
 use Rattle.std.specs.List.{enumerate_from}
 use Rattle.qm_query.specs.Offsets.{row_refusal, with_one, with_two}

@@ -5,6 +5,7 @@ mod Ranges
 mod SegmentTexts
 mod Reading
 mod Numbers
+mod DocumentLines
 mod WordLemmas
 mod ScriptLines
 mod Running
@@ -16,7 +17,10 @@ mod TreeParts
 mod PartListings
 mod OverParts
 mod AskedTrees
+mod AskedFields
 mod Building
 mod ListedSegments
 mod Answering
 mod SpelledForms
+mod CountLemmas
+mod PrunedParts

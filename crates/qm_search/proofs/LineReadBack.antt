@@ -9,10 +9,10 @@ use Rattle.std.specs.List.{All, AllByRecursion, flat_map, join_with_byte, slice_
 use Rattle.std.specs.Str.Parse.{AllDigits}
 use Rattle.qm_schema.specs.declared.occur.Occur.{Occur}
 use Rattle.qm_schema.specs.declared.occur.Occur.TheVariants.{Should, Must, MustNot}
-use Rattle.qm_search.specs.Script.{Clauses, Queries, Query, Request, add_document, all, behind_line_form, boolean, boost, clause, constant, cut_at_tabs, disjunction_max, end_segment, line_form_named, line_request, line_words, list_documents, list_scores, no_clause, no_query, non_empty, none, nothing, phrase, phrase_prefix, query, query_at, score_at, set_weight, term, weight_at, whole_query, words_request}
-use Rattle.qm_search.specs.Spelling.{AreLineWords, CanBeAsked, CanBeSpelled, ClausesCanBeSpelled, IsAskable, IsCount, IsLineWord, IsScore, QueriesCanBeSpelled, clause_count, line_text, query_count, request_words, sign, spelled, spelled_clauses, spelled_queries}
+use Rattle.qm_search.specs.Script.{Clauses, Queries, Query, Request, add_document, all, behind_line_form, boolean, boost, clause, constant, count_matches, cut_at_tabs, delete_at, delete_document, disjunction_max, document_at, end_segment, line_form_named, line_request, line_words, list_above, list_documents, list_scores, no_clause, no_query, non_empty, none, nothing, phrase, phrase_prefix, prune_at, query, query_at, score_at, set_weight, term, threshold_at, weight_at, whole_query, words_request}
+use Rattle.qm_search.specs.Spelling.{AreLineWords, CanBeAsked, CanBeSpelled, ClausesCanBeSpelled, IsAskable, IsCount, IsDocumentNumber, IsLineWord, IsScore, IsThreshold, QueriesCanBeSpelled, clause_count, line_text, query_count, request_words, sign, spelled, spelled_clauses, spelled_queries}
 use Rattle.qm_search.specs.declared.spelled_query.TheConstants.{MAX_DEPTH}
-use Rattle.qm_search.proofs.ReadBack.{query-read, read-then, score-read}
+use Rattle.qm_search.proofs.ReadBack.{document-read, query-read, read-then, score-read, threshold-read}
 use Rattle.qm_search.proofs.WordLemmas.{non_empty-cons}
 
 -- ---- the words of a line are cut where they were joined
@@ -74,6 +74,10 @@ score-word : (s : ℤ) → IsScore s → IsLineWord (signed_decimal s)
 score-word (pos n) h = number-word n (omega arith)
 score-word (negsuc n) h = absurd h
 
+threshold-word : (t : ℤ) → IsThreshold t → IsLineWord (signed_decimal t)
+threshold-word (pos n) h = number-word n (omega arith)
+threshold-word (negsuc n) h = let digits = number-word (suc n) (omega arith) in record { some = omega arith; no_blank = (refl, digits.no_blank) }
+
 sign-word : (occur : Occur) → IsLineWord (sign occur)
 sign-word Must = record { some = omega arith; no_blank = (refl, tt) }
 sign-word Should = record { some = omega arith; no_blank = (refl, tt) }
@@ -113,8 +117,11 @@ askable-words (add_document words) h = (record { some = omega arith; no_blank = 
 askable-words (set_weight word weight) h =
     (record { some = omega arith; no_blank = (refl, (refl, (refl, (refl, (refl, (refl, tt)))))) }, (h.0, (score-word weight h.1, tt)))
 askable-words end_segment h = (record { some = omega arith; no_blank = (refl, (refl, (refl, (refl, (refl, (refl, (refl, tt))))))) }, tt)
+askable-words (delete_document number) h = (record { some = omega arith; no_blank = (refl, (refl, (refl, (refl, (refl, (refl, tt)))))) }, (number-word number h, tt))
 askable-words (list_documents q) h = (record { some = omega arith; no_blank = (refl, (refl, (refl, (refl, tt)))) }, query-words q h.1)
 askable-words (list_scores q) h = (record { some = omega arith; no_blank = (refl, (refl, (refl, (refl, (refl, (refl, tt)))))) }, query-words q h.1)
+askable-words (count_matches q) h = (record { some = omega arith; no_blank = (refl, (refl, (refl, (refl, (refl, tt))))) }, query-words q h.1)
+askable-words (list_above threshold q) h = (record { some = omega arith; no_blank = (refl, (refl, (refl, (refl, (refl, tt))))) }, (threshold-word threshold h.0, query-words q h.1.1))
 
 -- ---- what the words ask for
 
@@ -126,14 +133,27 @@ weight-read : (word : List ℕ) (weight : ℤ) → IsScore weight → weight_at 
 unfolding weight_at
 weight-read word weight h = read-then (score_at (signed_decimal weight ∷ [])) (weight, []) _ _ (score-read weight [] h) refl
 
+delete-read : (number : ℕ) → IsDocumentNumber number → delete_at (decimal number ∷ []) ≡ Some (delete_document number)
+unfolding delete_at
+delete-read number h = read-then (document_at (decimal number ∷ [])) (number, []) _ _ (document-read number [] h) refl
+
+prune-read : (threshold : ℤ) (q : Query) → IsThreshold threshold → CanBeAsked q → prune_at (signed_decimal threshold ∷ spelled q) ≡ Some (list_above threshold q)
+unfolding prune_at
+prune-read threshold q in_range h =
+    read-then (threshold_at (signed_decimal threshold ∷ spelled q)) (threshold, spelled q) _ _ (threshold-read threshold (spelled q) in_range)
+    (read-then (whole_query (spelled q)) q _ _ (whole-read q h) refl)
+
 words-read : (request : Request) → IsAskable request → words_request (request_words request) ≡ Some request
 unfolding words_request line_form_named behind_line_form
 words-read nothing h = refl
 words-read (add_document words) h = refl
 words-read (set_weight word weight) h = weight-read word weight h.1
 words-read end_segment h = refl
+words-read (delete_document number) h = delete-read number h
 words-read (list_documents q) h = ap (option_map list_documents) (whole-read q h)
 words-read (list_scores q) h = ap (option_map list_scores) (whole-read q h)
+words-read (count_matches q) h = ap (option_map count_matches) (whole-read q h)
+words-read (list_above threshold q) h = prune-read threshold q h.0 h.1
 
 -- what a line spells is what it asks for
 pub request-read : (request : Request) → IsAskable request → line_request (line_text request) ≡ Some request

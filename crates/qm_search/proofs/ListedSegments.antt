@@ -1,6 +1,6 @@
 -- What a scorer of a tree lists over a segment, as items of a listing.
 use Rattle.std.proofs.Common.{◌≡◌, ℕ, ℤ, ◌+◌, true, false, List, Option, None, Some, map, pos, ap, ◌∙◌}
-use Rattle.qm_docset.specs.Entry.{Entry, documents}
+use Rattle.qm_docset.specs.Entry.{Entry}
 use Rattle.qm_docset.specs.Gather.{scored}
 use Rattle.qm_postings.specs.Segment.{Segment}
 use Rattle.qm_weight.specs.Tree.{Tree, list, matching, score}

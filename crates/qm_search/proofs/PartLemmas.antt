@@ -11,13 +11,10 @@ use Rattle.qm_postings.specs.declared.segment_reader.SegmentReader.{SegmentReade
 use Rattle.qm_postings.specs.Segment.{Document, Segment}
 use Rattle.qm_schema.specs.Schema.{FieldFacts}
 use Rattle.qm_search.specs.declared.documents.TheConstants.{BLOCK_LEN}
+use Rattle.qm_search.specs.Found.{segments_of}
 use Rattle.qm_search.specs.Parts.{AreParts, document_count, joined}
 use Rattle.qm_search.specs.TextSegments.{segment_of, text_document}
 use Rattle.qm_search.proofs.Ranges.{map-map}
-
--- the segments of readers
-abbrev pub segments_of : List SegmentReader → List Segment
-segments_of readers = map (λ r. r.segment) readers
 
 abbrev documents_of : List Segment → List Document
 documents_of segments = flat_map (λ s. s.documents) segments
@@ -119,6 +116,21 @@ count-append xs ys = ap length (flat_map-append (λ s. s.documents) xs ys) ∙ l
 pub count-push : (readers : List SegmentReader) (last : SegmentReader) → document_count (segments_of (readers ++ last ∷ [])) ≡ document_count (segments_of readers) + length last.segment.documents
 count-push readers last =
     ap document_count (map-append (λ r. r.segment) readers (last ∷ [])) ∙ count-append (segments_of readers) (last.segment ∷ []) ∙ ap (λ ds. document_count (segments_of readers) + length ds) (append-nil last.segment.documents)
+
+-- up to one reader, and up to the next
+pub count-next_taken : (readers : List SegmentReader) (i : ℕ) (item : SegmentReader) → i < length readers → item ≡ get_or readers i item → document_count (segments_of (take (i + 1) readers)) ≡ document_count (segments_of (take i readers)) + length item.segment.documents
+count-next_taken readers i item within is =
+    ap (λ rs. document_count (segments_of rs)) (take_more readers i item within ∙ ap (λ r. take i readers ++ r ∷ []) (sym is)) ∙ count-push (take i readers) item
+
+pub count-taken : (readers : List SegmentReader) (i : ℕ) → document_count (segments_of (take i readers)) ≤ document_count (segments_of readers)
+count-taken readers i =
+    let cut : document_count (segments_of readers) ≡ document_count (segments_of (take i readers)) + document_count (segments_of (drop i readers)) =
+    ap (λ rs. document_count (segments_of rs)) (sym (take-append-drop i readers)) ∙ ap document_count (map-append (λ r. r.segment) (take i readers) (drop i readers)) ∙ count-append (segments_of (take i readers)) (segments_of (drop i readers)) in
+    omega (arith, cut)
+
+-- of the segments that were ended, and of the open one
+pub count-script : (ended : List Segment) (current : Segment) → document_count (ended ++ current ∷ []) ≡ document_count ended + length current.documents
+count-script ended current = count-append ended (current ∷ []) ∙ ap (λ ds. document_count ended + length ds) (append-nil current.documents)
 
 pub few-segments : (readers : List SegmentReader) (ended : ℕ) (whole : Segment) → ended ≤ length readers → document_count (segments_of (take ended readers)) ≤ ended * TERMINATED → AreParts whole (segments_of (drop ended readers)) → length whole.documents ≤ TERMINATED → document_count (segments_of readers) ≤ length (segments_of (take ended readers) ++ whole ∷ []) * TERMINATED
 few-segments readers ended whole within counted are small =

@@ -1,14 +1,14 @@
 -- What is spelled is read back.
-use Rattle.std.proofs.Common.{◌≡◌, ◌<◌, ◌≤◌, ◌^◌, ℕ, zero, suc, ℤ, pos, negsuc, List, [], ◌∷◌, ◌++◌, codes, Option, Some, length, refl, ap, sym, ◌∙◌, append_assoc, arith}
+use Rattle.std.proofs.Common.{◌≡◌, ◌<◌, ◌≤◌, ◌+◌, ◌^◌, ℕ, zero, suc, ℤ, pos, negsuc, List, [], ◌∷◌, ◌++◌, codes, Option, Some, length, refl, ap, sym, ◌∙◌, append_assoc, arith}
 use Rattle.std.proofs.lemmas.Fmt.{decimal_is_IsNumeral}
 use Rattle.std.specs.Fmt.{decimal, signed_decimal}
 use Rattle.qm_schema.specs.declared.occur.Occur.{Occur}
 use Rattle.qm_schema.specs.declared.occur.Occur.TheVariants.{Should, Must, MustNot}
-use Rattle.qm_search.specs.Script.{Clauses, Queries, Query, QueryReader, Reader, all, behind_form, boolean, boolean_at, boost, boost_at, clause, clause_at, clause_list, clauses_of, constant, constant_at, count_at, disjunction_max, disjunction_max_at, form_at, form_named, many_at, no_clause, no_query, none, number_below, occur_named, phrase, phrase_at, phrase_prefix, phrase_prefix_at, queries_of, query, query_at, score_at, sign_at, term, term_at, word_at, ◌>>=◌}
-use Rattle.qm_search.specs.Spelling.{CanBeSpelled, ClausesCanBeSpelled, IsCount, IsScore, QueriesCanBeSpelled, clause_count, clauses_depth, queries_depth, query_count, query_depth, sign, spelled, spelled_clauses, spelled_queries}
+use Rattle.qm_search.specs.Script.{Clauses, Queries, Query, QueryReader, Reader, all, behind_form, boolean, boolean_at, boost, boost_at, clause, clause_at, clause_list, clauses_of, constant, constant_at, count_at, disjunction_max, disjunction_max_at, document_at, form_at, form_named, many_at, no_clause, no_query, none, number_below, occur_named, phrase, phrase_at, phrase_prefix, phrase_prefix_at, queries_of, query, query_at, score_at, sign_at, term, term_at, threshold_at, word_at, ◌>>=◌}
+use Rattle.qm_search.specs.Spelling.{CanBeSpelled, ClausesCanBeSpelled, IsCount, IsDocumentNumber, IsScore, IsThreshold, QueriesCanBeSpelled, clause_count, clauses_depth, queries_depth, query_count, query_depth, sign, spelled, spelled_clauses, spelled_queries}
 use Rattle.qm_search.specs.declared.form.QueryForm.{QueryForm}
 use Rattle.qm_search.specs.declared.form.QueryForm.TheVariants.{All, Empty, Term, Phrase, PhrasePrefix, Boolean, Boost, Const, DisjunctionMax}
-use Rattle.qm_search.proofs.Numbers.{number-below}
+use Rattle.qm_search.proofs.Numbers.{number-below, threshold-minus, threshold-plain}
 
 -- a step that reads, and the one behind it
 pub read-then : {A B : Type 0} (o : Option A) (a : A) (f : A → Option B) (r : Option B) → o ≡ Some a → f a ≡ r → (o >>= f) ≡ r
@@ -29,6 +29,18 @@ pub score-read : (s : ℤ) (words : List (List ℕ)) → IsScore s → score_at 
 unfolding score_at
 score-read (pos n) words h = ap (λ o. o >>= λ m. Some (pos m, words)) (number-read (2 ^ 63) n h (omega arith))
 score-read (negsuc n) words h = absurd h
+
+pub document-read : (n : ℕ) (words : List (List ℕ)) → IsDocumentNumber n → document_at (decimal n ∷ words) ≡ Some (n, words)
+unfolding document_at
+document-read n words h = ap (λ o. o >>= λ m. Some (m, words)) (number-read (2 ^ 64) n h (omega arith))
+
+pub threshold-read : (t : ℤ) (words : List (List ℕ)) → IsThreshold t → threshold_at (signed_decimal t ∷ words) ≡ Some (t, words)
+unfolding threshold_at
+threshold-read (pos n) words h =
+    let numeral = decimal_is_IsNumeral n (omega arith) in
+    ap (λ o. o >>= λ t. Some (t, words)) (threshold-plain (decimal n) n numeral.0 (number-read (2 ^ 63) n h (omega arith)))
+threshold-read (negsuc n) words h =
+    ap (λ o. o >>= λ t. Some (t, words)) (threshold-minus (decimal (suc n)) (suc n) (number-read (2 ^ 63 + 1) (suc n) (omega arith) (omega arith)))
 
 sign-read : (occur : Occur) (words : List (List ℕ)) → sign_at (sign occur ∷ words) ≡ Some (occur, words)
 unfolding sign_at occur_named

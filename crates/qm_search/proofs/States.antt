@@ -3,7 +3,7 @@ use Rattle.std.proofs.Common.{◌≡◌, ℕ}
 use Rattle.std.specs.FinMap.{FinMap}
 use Rattle.qm_schema.specs.Term.{term_cmp}
 use Rattle.qm_search.specs.ScriptSegments.{Script, script}
-use Rattle.qm_search.specs.State.{State, state}
+use Rattle.qm_search.specs.State.{state}
 use Rattle.qm_search.specs.Weights.{given}
 use Rattle.qm_search.specs.declared.corpus.Corpus.{Corpus}
 

@@ -2,7 +2,7 @@
 use Rattle.std.proofs.Common.{◌≡◌, ℕ, ◌<◌, ◌==◌, Bool, true, false, not, cond, zero, suc, ◌+◌, ◌≤◌, None, map, drop, get_or, length-drop, List, [], ◌∷◌, ◌++◌, length, refl, ap, sym, ◌∙◌, subst, arith, append_assoc}
 use Rattle.std.proofs.lemmas.Bool.{ne_eqb}
 use Rattle.std.proofs.lemmas.List.{append-nil, drop_more, length-map, map-append}
-use Rattle.std.proofs.lemmas.List.Splits.{slice_split_at}
+use Rattle.std.proofs.lemmas.List.Splits.{slice_split_at, slice_split_none}
 use Rattle.std.specs.List.{drop-map}
 use Rattle.std.proofs.lemmas.Grind.{common_steps, flat_map-append}
 use Rattle.std.proofs.lemmas.List.Elements.{filter-append}
@@ -63,6 +63,24 @@ non_empty-words ((b ∷ w) ∷ words) h =
 
 pub line-words : (line : List ℕ) → AreWords (line_words line)
 line-words line = non_empty-words (flat_map cut_at_tabs (slice_split (λ b. b == 32) line)) (pieces-lack (slice_split (λ b. b == 32) line) (parts-lack (λ b. b == 32) line))
+
+-- ---- a text without tabs
+
+pub no-tabs : (text : List ℕ) → ((k : ℕ) → k < length text → get_or text k 0 ≡ 9 → ⊥) → AllByRecursion (λ b. (b == 9) ≡ false) text
+no-tabs [] h = tt
+no-tabs (b ∷ text) h = (ne_eqb b 9 (λ e. h zero (omega arith) e), no-tabs text (λ k below is. h (suc k) (omega arith) is))
+
+lacks-tabs : (w : List ℕ) → AllByRecursion (λ b. (b == 9) ≡ false) w → All (λ b. (b == 9) ≡ false) w
+lacks-tabs [] h = grind (arith, common_steps)
+lacks-tabs (b ∷ w) h = let x = lacks-tabs w h.1 in let y = h.0 in grind (arith, common_steps)
+
+uncut : (pieces : List (List ℕ)) → AllByRecursion (AllByRecursion (λ b. (b == 9) ≡ false)) pieces → flat_map cut_at_tabs pieces ≡ pieces
+uncut [] h = refl
+uncut (p ∷ pieces) h = λ i. slice_split_none (λ b. b == 9) p (lacks-tabs p h.0) i ++ uncut pieces h.1 i
+
+-- its words are those of a line
+pub words-without-tabs : (text : List ℕ) → AllByRecursion (λ b. (b == 9) ≡ false) text → line_words text ≡ words_of text
+words-without-tabs text h = ap non_empty (uncut (slice_split (λ b. b == 32) text) (parts-all (λ b. (b == 9) ≡ false) (λ b. b == 32) text h))
 
 -- ---- words from one on
 

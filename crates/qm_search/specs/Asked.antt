@@ -1,6 +1,6 @@
 -- The query that a line spells, as the query layer has it, or why there is none. Words are terms of the one
 -- field that a script's documents have, of which frequencies are read. Inner queries come first, in order.
-use Rattle.std.specs.Prelude.{◌≡◌, ◌⊎◌, ℕ, ℤ, nat_abs, nat_lt, if◌then◌else◌, List, [], ◌∷◌, Option, None, Some, Result, Ok, Err, map}
+use Rattle.std.specs.Prelude.{◌≡◌, ◌⊎◌, ℕ, nat_abs, nat_lt, if◌then◌else◌, List, [], ◌∷◌, Option, None, Some, Result, Ok, Err, map}
 use Rattle.std.specs.List.{enumerate_from}
 use Rattle.qm_query.specs.Offsets.{row_refusal, with_two}
 use Rattle.qm_query.specs.Parts.{PrefixParts}

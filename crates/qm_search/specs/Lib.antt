@@ -4,9 +4,11 @@ pub mod State
 pub mod Prefixes
 pub mod PrefixFree
 pub mod Under
+pub mod Found
 pub mod Text
 pub mod Answers
 pub mod Runs
+pub mod Fields
 pub mod Start
 pub mod Lines
 pub mod AllSegments
@@ -18,3 +20,5 @@ pub mod Spelled
 pub mod Spelling
 pub mod Requests
 pub mod Cursor
+pub mod Counts
+pub mod Pruned

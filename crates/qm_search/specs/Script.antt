@@ -1,16 +1,16 @@
 -- The language of a script's lines: which words a line has, and what it asks for. What reads a thing from
 -- the front of some words gives it, and the words behind it; None where it doesn't stand there.
-use Rattle.std.specs.Prelude.{◌≡◌, ◌<◌, ℕ, zero, suc, ℤ, pos, option_map, ◌^◌, ◌==◌, ◌&&◌, false, not, if◌then◌else◌, List, [], ◌∷◌, Option, None, Some, codes, filter, length, nat_lt, option_and_then}
+use Rattle.std.specs.Prelude.{◌≡◌, ◌<◌, ◌+◌, ℕ, zero, suc, ℤ, neg_ℤ, pos, drop, option_map, ◌^◌, ◌==◌, ◌&&◌, false, not, if◌then◌else◌, List, [], ◌∷◌, Option, None, Some, codes, filter, length, nat_lt, option_and_then}
 use Rattle.std.specs.List.{AllByRecursion, flat_map, slice_split}
 use Rattle.std.specs.Str.{all_ascii_digits, bytes_eq}
-use Rattle.std.specs.Str.Parse.{digits_value}
+use Rattle.std.specs.Str.Parse.{digits_value, starts_with_minus}
 use Rattle.qm_schema.specs.declared.occur.Occur.{Occur}
 use Rattle.qm_schema.specs.declared.occur.Occur.TheVariants.{Should, Must, MustNot}
 use Rattle.qm_search.specs.declared.form.QueryForm.{QueryForm}
 use Rattle.qm_search.specs.declared.form.QueryForm.TheVariants.{All, Empty, Term, Phrase, PhrasePrefix, Boolean, Boost, Const, DisjunctionMax}
 use Rattle.qm_search.specs.declared.spelled_query.TheConstants.{MAX_DEPTH}
 use Rattle.qm_search.specs.declared.form.LineForm.{LineForm}
-use Rattle.qm_search.specs.declared.form.LineForm.TheVariants.{Doc, Weight, Segment, Docs, Scores}
+use Rattle.qm_search.specs.declared.form.LineForm.TheVariants.{Doc, Weight, Segment, Delete, Docs, Scores, Count, Prune}
 
 infixl 10 ◌>>=◌
 abbrev pub ◌>>=◌ : {A B : Type 0} → Option A → (A → Option B) → Option B
@@ -58,6 +58,26 @@ score_at words = do
   w ← word_at words
   n ← number_below (2 ^ 63) w.0
   Some (pos n, w.1)
+
+-- a document's number: over all segments there are fewer than 18446744073709551616
+unfoldable pub document_at : List (List ℕ) → Option (ℕ × List (List ℕ))
+document_at words = do
+  w ← word_at words
+  n ← number_below (2 ^ 64) w.0
+  Some (n, w.1)
+
+-- the threshold that the word writes, from -9223372036854775808 to 9223372036854775807: a `-` may stand
+-- before its digits
+unfoldable pub threshold_of : List ℕ → Option ℤ
+threshold_of word =
+    if starts_with_minus word then option_map (λ n. neg_ℤ (pos n)) (number_below (2 ^ 63 + 1) (drop 1 word))
+    else option_map pos (number_below (2 ^ 63) word)
+
+unfoldable pub threshold_at : List (List ℕ) → Option (ℤ × List (List ℕ))
+threshold_at words = do
+  w ← word_at words
+  threshold ← threshold_of w.0
+  Some (threshold, w.1)
 
 -- What reads something from the front of some words, and leaves the words behind it.
 abbrev pub Reader : Type 0 → Type 0
@@ -230,8 +250,13 @@ pub data Request : Type 0 where
   add_document : List (List ℕ) → Request
   set_weight : List ℕ → ℤ → Request
   end_segment : Request
+  -- the document's number over all segments
+  delete_document : ℕ → Request
   list_documents : Query → Request
   list_scores : Query → Request
+  count_matches : Query → Request
+  -- the threshold by which each segment begins
+  list_above : ℤ → Query → Request
 
 -- what was read, where no word stands behind it
 abbrev pub whole : {X : Type 0} → X × List (List ℕ) → Option X
@@ -245,19 +270,34 @@ weight_at words = do
   n ← whole weight
   Some (set_weight w.0 n)
 
+unfoldable pub delete_at : List (List ℕ) → Option Request
+delete_at words = do
+  number ← document_at words
+  n ← whole number
+  Some (delete_document n)
+
 -- a query that takes all of the words
 unfoldable pub whole_query : List (List ℕ) → Option Query
 whole_query words = do
   q ← query_at MAX_DEPTH words
   whole q
 
+unfoldable pub prune_at : List (List ℕ) → Option Request
+prune_at words = do
+  threshold ← threshold_at words
+  q ← whole_query threshold.1
+  Some (list_above threshold.0 q)
+
 -- what stands behind the first word of a line
 unfoldable pub behind_line_form : LineForm → List (List ℕ) → Option Request
 behind_line_form Doc words = Some (add_document words)
 behind_line_form Weight words = weight_at words
 behind_line_form Segment words = whole (end_segment, words)
+behind_line_form Delete words = delete_at words
 behind_line_form Docs words = option_map list_documents (whole_query words)
 behind_line_form Scores words = option_map list_scores (whole_query words)
+behind_line_form Count words = option_map count_matches (whole_query words)
+behind_line_form Prune words = prune_at words
 
 -- the word by which a line begins
 unfoldable pub line_form_named : List ℕ → Option LineForm
@@ -265,8 +305,11 @@ line_form_named w =
     if bytes_eq w (codes "doc") then Some Doc
     else if bytes_eq w (codes "weight") then Some Weight
     else if bytes_eq w (codes "segment") then Some Segment
+    else if bytes_eq w (codes "delete") then Some Delete
     else if bytes_eq w (codes "docs") then Some Docs
     else if bytes_eq w (codes "scores") then Some Scores
+    else if bytes_eq w (codes "count") then Some Count
+    else if bytes_eq w (codes "prune") then Some Prune
     else None
 
 unfoldable pub words_request : List (List ℕ) → Option Request

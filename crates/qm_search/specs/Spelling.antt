@@ -4,7 +4,7 @@ use Rattle.std.specs.Fmt.{decimal, signed_decimal}
 use Rattle.std.specs.List.{AllByRecursion, join_with_byte}
 use Rattle.qm_schema.specs.declared.occur.Occur.{Occur}
 use Rattle.qm_schema.specs.declared.occur.Occur.TheVariants.{Should, Must, MustNot}
-use Rattle.qm_search.specs.Script.{Clauses, Queries, Query, Request, add_document, all, boolean, boost, clause, constant, disjunction_max, end_segment, list_documents, list_scores, no_clause, no_query, none, nothing, phrase, phrase_prefix, query, set_weight, term}
+use Rattle.qm_search.specs.Script.{Clauses, Queries, Query, Request, add_document, all, boolean, boost, clause, constant, count_matches, delete_document, disjunction_max, end_segment, list_above, list_documents, list_scores, no_clause, no_query, none, nothing, phrase, phrase_prefix, query, set_weight, term}
 use Rattle.qm_search.specs.declared.spelled_query.TheConstants.{MAX_DEPTH}
 
 -- ---- queries
@@ -74,6 +74,15 @@ abbrev pub IsScore : ℤ → Type 0
 IsScore (pos n) = n < 2 ^ 63
 IsScore (negsuc n) = ⊥
 
+-- a document's number over all segments
+abbrev pub IsDocumentNumber : ℕ → Type 0
+IsDocumentNumber n = n < 2 ^ 64
+
+-- a threshold, from -2 ^ 63 on
+abbrev pub IsThreshold : ℤ → Type 0
+IsThreshold (pos n) = n < 2 ^ 63
+IsThreshold (negsuc n) = n < 2 ^ 63
+
 -- a word of a line: it isn't empty, and no space or tab is in it
 pub record IsLineWord (word : List ℕ) : Type 0 where
   pub some : 0 < length word
@@ -111,8 +120,11 @@ request_words nothing = []
 request_words (add_document words) = codes "doc" ∷ words
 request_words (set_weight word weight) = codes "weight" ∷ word ∷ signed_decimal weight ∷ []
 request_words end_segment = codes "segment" ∷ []
+request_words (delete_document number) = codes "delete" ∷ decimal number ∷ []
 request_words (list_documents q) = codes "docs" ∷ spelled q
 request_words (list_scores q) = codes "scores" ∷ spelled q
+request_words (count_matches q) = codes "count" ∷ spelled q
+request_words (list_above threshold q) = codes "prune" ∷ signed_decimal threshold ∷ spelled q
 
 -- a line that asks for this: its words, with a space between each two
 abbrev pub line_text : Request → List ℕ
@@ -128,8 +140,11 @@ IsAskable nothing = Unit {0}
 IsAskable (add_document words) = AreLineWords words
 IsAskable (set_weight word weight) = IsLineWord word × IsScore weight
 IsAskable end_segment = Unit {0}
+IsAskable (delete_document number) = IsDocumentNumber number
 IsAskable (list_documents q) = CanBeAsked q
 IsAskable (list_scores q) = CanBeAsked q
+IsAskable (count_matches q) = CanBeAsked q
+IsAskable (list_above threshold q) = IsThreshold threshold × CanBeAsked q
 
 -- a line that spells a request
 pub record Spells (line : List ℕ) (request : Request) : Type 0 where

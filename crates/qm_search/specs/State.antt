@@ -1,5 +1,5 @@
 -- What a line finds and leaves: the documents of the lines before it, and what they say that words weigh.
-use Rattle.std.specs.Prelude.{◌≡◌, ℕ, List}
+use Rattle.std.specs.Prelude.{ℕ, List}
 use Rattle.std.specs.FinMap.{FinMap, empty, insert}
 use Rattle.qm_schema.specs.Term.{term_cmp}
 use Rattle.qm_search.specs.Asked.{term_of}

@@ -1,16 +1,19 @@
 //! What the program answers to a line.
 
 ghost use Rattle.std.specs.Prelude.{◌≡◌, IfOk, OnOk, length, string_bytes};
-ghost use Rattle.qm_search.specs.Answers.{IsChangeAnswer, IsListingAnswer, ListsDocuments, ListsScores, Step, answer_text, status_of};
+ghost use Rattle.qm_search.specs.Answers.{CountsMatches, DeletesDocument, IsChangeAnswer, IsListingAnswer, ListsAbove, ListsDocuments, ListsScores, Step, answer_text, status_of};
 ghost use Rattle.qm_search.specs.Spelled.{query_of};
 ghost use Rattle.qm_search.specs.State.{state};
 
 use crate::build_query::build_query;
 use crate::corpus::Corpus;
+use crate::counting::write_count;
 use crate::has_prefix::has_prefix;
 use crate::listing::write_matches;
 use crate::parse::Command;
+use crate::pruning::write_pruned;
 use crate::spelled_query::SpelledQuery;
+use qm_docset::Score;
 use qm_query::EnableScoring;
 use qm_schema::QueryError;
 use std::alloc::{AllocError, Global};
@@ -20,7 +23,7 @@ use std::alloc::{AllocError, Global};
 pub(crate) enum Answer {
     /// Nothing is written: the line had no word, or it added something.
     Silence,
-    /// What matches was listed.
+    /// What was asked for is listed: documents, or their number.
     Listing,
     /// The line was refused, with the refusal's number.
     Refused(u8),
@@ -88,6 +91,23 @@ pub(crate) fn answer_command(
         Some(Command::EndSegment) => answer_change(corpus.end_segment(alloc)),
         Some(Command::ListDocuments(query)) => list_documents(alloc, corpus, &query, text),
         Some(Command::ListScores(query)) => list_scores(alloc, corpus, &query, text),
+        Some(Command::DeleteDocument(number)) => answer_deletion(corpus, number),
+        Some(Command::CountMatches(query)) => count_matches(alloc, corpus, &query, text),
+        Some(Command::ListAbove(threshold, query)) => list_above(
+            alloc, corpus, threshold, &query, text,
+        ),
+    }
+}
+
+// A deletion is silent; a line that deletes a document that is not there is not understood.
+#[tactic(auto, using(crate::proofs::States::is_state))]
+fn answer_deletion(corpus: &mut Corpus, number: u64) -> Result<Answer, AllocError>
+    ensures { IfOk result (λ answer. DeletesDocument number (state corpus.old) answer (state corpus.new)) }
+{
+    if corpus.delete(number)? {
+        Ok(Answer::Silence)
+    } else {
+        Ok(Answer::NotUnderstood)
     }
 }
 
@@ -128,7 +148,34 @@ fn list_documents(
     }
 }
 
-// The same with scores.
+// Answers a line that counts documents which weren't deleted.
+#[tactic(auto, using(crate::proofs::States::is_state))]
+fn count_matches(
+    alloc: Global,
+    corpus: &mut Corpus,
+    spelled: &SpelledQuery,
+    text: &mut String,
+) -> Result<Answer, AllocError>
+    requires { length (string_bytes text.old) ≡ 0 }
+    ensures answer { IfOk result (λ answer. CountsMatches (query_of spelled.now) (state corpus.old).documents answer (string_bytes text.new)) }
+    ensures unchanged { OnOk result (state corpus.new ≡ state corpus.old) }
+{
+    match build_query(alloc, spelled) {
+        Ok(query) => match corpus.build_segments(alloc, has_prefix(spelled)) {
+            Ok(()) => {
+                let enable = EnableScoring::disabled_from_schema(corpus.schema());
+                let segments = corpus.segments();
+                let deleted = corpus.deleted();
+                let written = write_count(alloc, segments, enable, &query, deleted, text);
+                Ok(answer_listing(written))
+            }
+            Err(error) => answer_change(Err(error)),
+        },
+        Err(error) => Ok(Answer::Refused(error.number())),
+    }
+}
+
+// Answers a line that lists documents with scores.
 #[tactic(auto, using(crate::proofs::States::is_state))]
 fn list_scores(
     alloc: Global,
@@ -145,6 +192,40 @@ fn list_scores(
             Ok(()) => {
                 let enable = EnableScoring::enabled_from_searcher(corpus.searcher());
                 let written = write_matches(alloc, corpus.segments(), enable, &query, text);
+                Ok(answer_listing(written))
+            }
+            Err(error) => answer_change(Err(error)),
+        },
+        Err(error) => Ok(Answer::Refused(error.number())),
+    }
+}
+
+// Answers a line that lists those of them for which a pruned run calls. The open segment is built as one
+// part, so that one run goes through all of it.
+#[tactic(auto, using(crate::proofs::States::is_state))]
+fn list_above(
+    alloc: Global,
+    corpus: &mut Corpus,
+    threshold: Score,
+    spelled: &SpelledQuery,
+    text: &mut String,
+) -> Result<Answer, AllocError>
+    requires { length (string_bytes text.old) ≡ 0 }
+    ensures answer { IfOk result (λ answer. ListsAbove threshold (query_of spelled.now) (state corpus.old) answer (string_bytes text.new)) }
+    ensures unchanged { OnOk result (state corpus.new ≡ state corpus.old) }
+{
+    match build_query(alloc, spelled) {
+        Ok(query) => match corpus.build_scored_segments(alloc, true) {
+            Ok(()) => {
+                let enable = EnableScoring::enabled_from_searcher(corpus.searcher());
+                let written = write_pruned(
+                    alloc,
+                    corpus.segments(),
+                    enable,
+                    &query,
+                    threshold,
+                    text,
+                );
                 Ok(answer_listing(written))
             }
             Err(error) => answer_change(Err(error)),

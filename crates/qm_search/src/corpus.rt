@@ -5,7 +5,7 @@ ghost use Rattle.std.specs.List.Sorted.{IsNonDecreasing};
 ghost use Rattle.std.specs.Option.{ForSome};
 ghost use Rattle.qm_docset.specs.declared.numbers.TheConstants.{TERMINATED};
 ghost use Rattle.qm_search.specs.Parts.{document_count};
-ghost use Rattle.qm_search.specs.ScriptSegments.{AreOnePart, AreSegments, IsBuilt, IsWhole, all_segments, script, with_document_of, with_segment_ended};
+ghost use Rattle.qm_search.specs.ScriptSegments.{AreOnePart, AreSegments, Deletes, IsBuilt, IsWhole, all_segments, script, with_document_of, with_segment_ended};
 ghost use Rattle.qm_search.specs.Start.{start_script};
 ghost use Rattle.qm_search.specs.TextSegments.{IsTextRefusal};
 ghost use Rattle.qm_search.specs.Weights.{IsWeighedBy, given};
@@ -19,7 +19,8 @@ use crate::word_weights::WordWeights;
 use qm_docset::Score;
 use qm_postings::{Searcher, SegmentReader};
 use qm_schema::{QueryError, Schema};
-use std::alloc::Global;
+use std::alloc::{AllocError, Global};
+use std::collections::BTreeSet;
 
 /// What a word weighs where the script gives it no weight.
 const DEFAULT_WEIGHT: Score = 1000;
@@ -71,6 +72,16 @@ impl Corpus {
         ensures refused { IsOkUnless result QueryError.Memory }
     {
         self.documents.end_segment(alloc)
+    }
+
+    /// Deletes the document of this number over all segments, and answers whether there is one. Its only
+    /// error is the want of memory. Costs the number of segments, and the logarithm of the number of
+    /// deleted documents.
+    pub(crate) fn delete(&mut self, number: u64) -> Result<bool, AllocError>
+        ensures deleted { IfOk result (λ exists. Deletes number (script self.old.documents) exists (script self.new.documents)) }
+        ensures weights { self.new.weights ≡ self.old.weights }
+    {
+        self.documents.delete(number)
     }
 
     /// Gives a word its weight from now on. Costs the logarithm of the number of words that were given
@@ -151,6 +162,13 @@ impl Corpus {
         ensures few { document_count (map (λ r. r.segment) result.now) ≤ MAX_SEGMENTS * TERMINATED }
     {
         self.documents.segments()
+    }
+
+    /// The numbers of the deleted documents over all segments.
+    pub(crate) fn deleted(&self) -> &BTreeSet<u64>
+        ensures { result.now.keys ≡ (script self.now.documents).deleted }
+    {
+        self.documents.deleted()
     }
 
     /// What words weigh. Asks that [`Corpus::build_searcher`] was called after the last weight.

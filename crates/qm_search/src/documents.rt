@@ -1,9 +1,10 @@
 //! The documents of a script, in segments.
 
-ghost use Rattle.std.specs.Prelude.{◌≡◌, ◌<◌, ◌≤◌, ◌*◌, ◌+◌, ◌⊎◌, All, IfErr, IfOk, IsOkUnless, OnErr, OnOk, drop, length, map, string_bytes, take, vec_len};
+ghost use Rattle.std.specs.Prelude.{◌≡◌, ◌<◌, ◌≤◌, ◌*◌, ◌+◌, ◌⊎◌, All, IfErr, IfOk, IsOkUnless, IsTrue, OnErr, OnOk, ◌↔◌, drop, length, map, string_bytes, take, vec_len};
 ghost use Rattle.std.specs.Option.{ForSome};
 ghost use Rattle.qm_docset.specs.declared.numbers.TheConstants.{TERMINATED};
 ghost use Rattle.qm_postings.specs.Segment.{IsGood};
+ghost use Rattle.qm_search.specs.Fields.{script_fields};
 ghost use Rattle.qm_search.specs.Parts.{document_count, joined};
 ghost use Rattle.qm_search.specs.TextSegments.{IsBadText, IsTextRefusal, segment_of, text_draft, with_text};
 
@@ -11,7 +12,8 @@ use crate::terms::body;
 use qm_docset::TERMINATED;
 use qm_postings::{PlainDoc, SegmentBuilder, SegmentReader};
 use qm_schema::{IndexRecordOption, QueryError, Schema};
-use std::alloc::Global;
+use std::alloc::{AllocError, Global};
+use std::collections::BTreeSet;
 
 /// How many postings a block has.
 const BLOCK_LEN: u32 = 128;
@@ -33,6 +35,9 @@ pub(crate) struct Documents {
     built: usize,
     // a builder that has the documents behind these, as long as there is one
     builder: Option<SegmentBuilder>,
+    // the numbers of the deleted documents over all segments, which keep their postings
+    deleted: BTreeSet<u64>,
+    ghost fields: { schema ≡ script_fields },
     ghost within: { ended ≤ vec_len segments },
     ghost some_built: { built ≤ vec_len texts },
     ghost few: { vec_len texts ≤ TERMINATED },
@@ -46,7 +51,7 @@ pub(crate) struct Documents {
 
 impl Documents {
     ghost use Rattle.qm_search.specs.Start.{start_script};
-    ghost use Rattle.qm_search.specs.ScriptSegments.{AreOnePart, AreSegments, IsBuilt, IsWhole, all_segments, script, with_document_of, with_segment_ended};
+    ghost use Rattle.qm_search.specs.ScriptSegments.{AreOnePart, AreSegments, Deletes, IsBuilt, IsWhole, all_segments, script, with_document_of, with_segment_ended};
 
     /// A script's documents at its beginning: one open segment without documents.
     pub(crate) fn new(alloc: Global) -> Result<Documents, QueryError>
@@ -61,6 +66,7 @@ impl Documents {
             texts: Vec::new(alloc),
             built: 0,
             builder: None,
+            deleted: BTreeSet::new(alloc),
         })
     }
 
@@ -169,6 +175,42 @@ impl Documents {
         self.segments.as_slice()
     }
 
+    /// Deletes the document of this number over all segments, and answers whether there is one. Other
+    /// documents keep their numbers; one that is deleted already stays so. Costs the number of segments,
+    /// and the logarithm of the number of deleted documents.
+    pub(crate) fn delete(&mut self, number: u64) -> Result<bool, AllocError>
+        ensures deleted { IfOk result (λ exists. Deletes number (script self.old) exists (script self.new)) }
+        ensures fields { self.new.schema ≡ self.old.schema }
+    {
+        if !self.has_document(number) {
+            return Ok(false);
+        }
+        self.deleted.insert(number)?;
+        Ok(true)
+    }
+
+    /// The numbers of the deleted documents over all segments.
+    pub(crate) fn deleted(&self) -> &BTreeSet<u64>
+        ensures { result.now.keys ≡ (script self.now).deleted }
+    {
+        &self.deleted
+    }
+
+    // Whether there is a document of this number over all segments.
+    fn has_document(&self, number: u64) -> bool
+        ensures { IsTrue result ↔ (number < document_count (all_segments (script self.now))) }
+    {
+        let mut left = number;
+        for segment in &self.segments[..self.ended] {
+            let len = u64::from(segment.max_doc());
+            if left < len {
+                return true;
+            }
+            left -= len;
+        }
+        left < self.texts.len() as u64
+    }
+
     // Takes the last parts back, as long as one has fewer than twice the documents behind it.
     fn take_small_parts_back(&mut self)
         ensures { script self.new ≡ script self.old }
@@ -214,6 +256,7 @@ impl Documents {
         ensures ended { self.new.ended ≡ self.old.ended }
         ensures texts { self.new.texts ≡ self.old.texts }
         ensures built { self.new.built ≡ self.old.built }
+        ensures deleted { self.new.deleted ≡ self.old.deleted }
         ensures schema { self.new.schema ≡ self.old.schema }
         ensures taken { self.new.builder ≡ None }
         ensures refused { IsOkUnless result QueryError.Memory }

@@ -11,8 +11,11 @@ pub enum LineForm {
     Doc,
     Weight,
     Segment,
+    Delete,
     Docs,
     Scores,
+    Count,
+    Prune,
 }
 
 /// What a query is, by its first word.
@@ -70,8 +73,11 @@ pub(crate) fn line_form(word: &str) -> Option<LineForm>
         "doc" => Some(LineForm::Doc),
         "weight" => Some(LineForm::Weight),
         "segment" => Some(LineForm::Segment),
+        "delete" => Some(LineForm::Delete),
         "docs" => Some(LineForm::Docs),
         "scores" => Some(LineForm::Scores),
+        "count" => Some(LineForm::Count),
+        "prune" => Some(LineForm::Prune),
         _ => None,
     }
 }

@@ -2,12 +2,12 @@
 
 ghost use Rattle.std.specs.Prelude.{◌≡◌, ◌≤◌, ◌*◌, ◌∷◌, [], None, Some, IfErr, IsTrue, OnOk, length, map, string_bytes, true};
 ghost use Rattle.qm_docset.specs.declared.numbers.TheConstants.{TERMINATED};
-ghost use Rattle.qm_query.specs.EnableScoring.{is_enabled};
 ghost use Rattle.qm_query.specs.Query.{query_of};
 ghost use Rattle.qm_search.specs.AllSegments.{all_listed, listed};
+ghost use Rattle.qm_search.specs.Found.{found_matches, segments_of};
 ghost use Rattle.qm_search.specs.Parts.{document_count};
 ghost use Rattle.qm_search.specs.Text.{AddsToListing, IsListing, numbered};
-ghost use Rattle.qm_search.specs.Under.{IsListingRefusal, tree_of as asked_tree};
+ghost use Rattle.qm_search.specs.Under.{IsListingRefusal};
 ghost use Rattle.qm_search.specs.declared.corpus.TheConstants.{MAX_SEGMENTS};
 ghost use Rattle.qm_weight.specs.Scorers.{IsRefusalOf};
 ghost use Rattle.qm_weight.specs.Tree.{is_scoring};
@@ -36,7 +36,7 @@ pub(crate) fn write_matches(
 ) -> Result<(), QueryError>
     requires few { document_count (map (λ r. r.segment) segments.now) ≤ MAX_SEGMENTS * TERMINATED }
     requires empty { length (string_bytes text.old) ≡ 0 }
-    ensures listed { OnOk result (IsListing (all_listed (is_enabled enable_scoring.entry) (asked_tree enable_scoring.entry (query_of query.now)) (map (λ r. r.segment) segments.now)) (string_bytes text.new)) }
+    ensures listed { OnOk result (IsListing (found_matches enable_scoring.entry (query_of query.now) (segments_of segments.now)) (string_bytes text.new)) }
     ensures refused { IfErr result (IsListingRefusal enable_scoring.entry (query_of query.now)) }
 {
     let weight = query.weight(alloc, enable_scoring)?;
@@ -102,7 +102,12 @@ fn write_documents(text: &mut String, first: u64, found: &[DocId]) -> Result<(),
     Ok(())
 }
 
-fn write_scores(text: &mut String, first: u64, found: &[(DocId, Score)]) -> Result<(), AllocError>
+/// Writes documents of a segment, whose first document has this number, each with its score.
+pub(crate) fn write_scores(
+    text: &mut String,
+    first: u64,
+    found: &[(DocId, Score)],
+) -> Result<(), AllocError>
     requires { first ≤ MAX_SEGMENTS * TERMINATED }
     ensures { AddsToListing result (numbered first (map (λ p. (p.0, Some p.1)) found.now)) (string_bytes text.old) (string_bytes text.new) }
 {
@@ -111,6 +116,7 @@ fn write_scores(text: &mut String, first: u64, found: &[(DocId, Score)]) -> Resu
     }
     Ok(())
 }
+
 // Writes a document's number, behind a space where something stands before it.
 fn write_document(text: &mut String, document: u64) -> Result<(), AllocError>
     ensures { AddsToListing result ((document, None) ∷ []) (string_bytes text.old) (string_bytes text.new) }

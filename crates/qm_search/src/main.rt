@@ -5,6 +5,8 @@
 mod answer;
 mod build_query;
 mod corpus;
+mod counting;
+mod document_line;
 mod documents;
 mod form;
 mod has_prefix;
@@ -12,6 +14,7 @@ mod lines;
 mod listing;
 mod non_negative_score;
 mod parse;
+mod pruning;
 mod read_query;
 mod run;
 mod spelled_query;

@@ -2,17 +2,19 @@
 
 ghost use Rattle.std.specs.Prelude.{◌≡◌, map, IfOk, IsUtf8, Some};
 ghost use Rattle.qm_search.specs.Cursor.{words_left};
-ghost use Rattle.qm_search.specs.Script.{AreWords, Request, behind_line_form, line_request, weight_at, whole_query, words_request};
+ghost use Rattle.qm_search.specs.Script.{AreWords, Request, behind_line_form, delete_at, line_request, prune_at, weight_at, whole_query, words_request};
 ghost use Rattle.qm_search.specs.Requests.{request_of};
 ghost use Rattle.qm_search.specs.Spelled.{Gives, query_of};
 ghost use Rattle.qm_search.specs.Spelling.{Spells};
 
+use crate::document_line::document_text;
 use crate::form::{LineForm, line_form};
 use crate::non_negative_score::NonNegativeScore;
 use crate::read_query::read_query;
 use crate::spelled_query::{MAX_DEPTH, SpelledQuery};
 use crate::unparsed::Unparsed;
 use crate::words::{Words, cut_words};
+use qm_docset::Score;
 use std::alloc::Global;
 use std::str;
 
@@ -27,10 +29,17 @@ pub enum Command {
     SetWeight(String, NonNegativeScore),
     /// To end the open segment, and to open another.
     EndSegment,
+    /// To delete the document of this number over all segments.
+    DeleteDocument(u64),
     /// To list the documents that match.
     ListDocuments(SpelledQuery),
     /// To list the documents that match, each with its score.
     ListScores(SpelledQuery),
+    /// To count the documents that match and weren't deleted.
+    CountMatches(SpelledQuery),
+    /// To list the documents that match and score more than all before them in their segment and than
+    /// the threshold, each with its score.
+    ListAbove(Score, SpelledQuery),
 }
 
 /// What a line asks for.
@@ -43,6 +52,15 @@ pub fn parse_line(alloc: Global, line: &[u8]) -> Result<Command, Unparsed>
     let Ok(text) = str::from_utf8(line) else {
         return Err(Unparsed::NotUnderstood);
     };
+    match document_text(text) {
+        Some(words) => Ok(Command::AddDocument(String::from_str(alloc, words)?)),
+        None => parse_text(alloc, text),
+    }
+}
+
+fn parse_text(alloc: Global, text: &str) -> Result<Command, Unparsed>
+    ensures { Gives request_of result (line_request text.now) }
+{
     let words = cut_words(alloc, text)?;
     parse_words(alloc, words.as_slice())
 }
@@ -78,8 +96,11 @@ fn parse_behind_form(
             words.end()?;
             Ok(Command::EndSegment)
         }
+        LineForm::Delete => parse_delete(words),
         LineForm::Docs => Ok(Command::ListDocuments(parse_query(alloc, words)?)),
         LineForm::Scores => Ok(Command::ListScores(parse_query(alloc, words)?)),
+        LineForm::Count => Ok(Command::CountMatches(parse_query(alloc, words)?)),
+        LineForm::Prune => parse_prune(alloc, words),
     }
 }
 
@@ -91,6 +112,24 @@ fn parse_weight(alloc: Global, words: &mut Words<'_>) -> Result<Command, Unparse
     let weight = words.score()?;
     words.end()?;
     Ok(Command::SetWeight(word, weight))
+}
+
+#[tactic(auto, unfolding(crate::specs::Script::delete_at))]
+fn parse_delete(words: &mut Words<'_>) -> Result<Command, Unparsed>
+    ensures { Gives request_of result (delete_at (words_left words.old)) }
+{
+    let number = words.document()?;
+    words.end()?;
+    Ok(Command::DeleteDocument(number))
+}
+
+#[tactic(auto, unfolding(crate::specs::Script::prune_at))]
+fn parse_prune(alloc: Global, words: &mut Words<'_>) -> Result<Command, Unparsed>
+    ensures { Gives request_of result (prune_at (words_left words.old)) }
+{
+    let threshold = words.threshold()?;
+    let query = parse_query(alloc, words)?;
+    Ok(Command::ListAbove(threshold, query))
 }
 
 // A query that takes all of the words.
@@ -127,6 +166,38 @@ mod tests {
             line.extend_from_slice(query.as_bytes())?;
             assert_eq!(rt;
                 parse_line(rt.alloc(), line.as_slice()).is_ok(),
+                is_understood
+            );
+        }
+        Ok(())
+    }
+
+    #[test]
+    fn reads_numbers_of_documents_and_thresholds(rt: HostRuntime) -> Result<(), Fail> {
+        let cases = [
+            ("delete 0", true),
+            ("delete 0018446744073709551615", true),
+            ("delete 18446744073709551616", false),
+            ("delete -1", false),
+            ("delete", false),
+            ("delete 1 2", false),
+            ("count all", true),
+            ("count", false),
+            ("prune 9223372036854775807 all", true),
+            ("prune 9223372036854775808 all", false),
+            ("prune -9223372036854775808 all", true),
+            ("prune -9223372036854775809 all", false),
+            ("prune -00 all", true),
+            ("prune - all", false),
+            ("prune +1 all", false),
+            ("prune --1 all", false),
+            ("prune -+1 all", false),
+            ("prune 1", false),
+            ("prune all", false),
+        ];
+        for (line, is_understood) in cases {
+            assert_eq!(rt;
+                parse_line(rt.alloc(), line.as_bytes()).is_ok(),
                 is_understood
             );
         }

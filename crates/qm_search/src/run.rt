@@ -147,6 +147,10 @@ fn flush<W: Write>(output: &mut W) -> Result<(), RunError>
 }
 
 #[cfg(test)]
+mod counted_and_pruned;
+#[cfg(test)]
+mod cut_lines;
+#[cfg(test)]
 mod fakes;
 #[cfg(test)]
 mod known_input;

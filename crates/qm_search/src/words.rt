@@ -2,7 +2,7 @@
 
 ghost use Rattle.std.specs.Prelude.{IfSome, IsOkUnless, ◌≤ℤ◌, ◌≡◌, ℕ, Some, ◌^◌, ◌<◌, ◌==◌, IfOk, SomeIff, length, option_map, map, pos, string_bytes};
 ghost use Rattle.std.specs.Str.Parse.{IsNumeral, digits_value};
-ghost use Rattle.qm_search.specs.Script.{line_words, number_below};
+ghost use Rattle.qm_search.specs.Script.{line_words, number_below, threshold_of};
 
 use crate::form::occur_of;
 use crate::non_negative_score::NonNegativeScore;
@@ -15,7 +15,7 @@ use std::alloc::{AllocError, Global};
 pub(crate) fn cut_words<'a>(alloc: Global, line: &'a str) -> Result<Vec<&'a str>, AllocError>
     ensures { IfOk result (λ words. map (λ w. w.now) words.items ≡ line_words line.now) }
 {
-    let mut words = Vec::new(alloc);
+    let mut words = Vec::with_capacity(alloc, 16)?;
     for piece in line.split(' ') {
         for word in piece.split('\t') {
             if !word.is_empty() {
@@ -35,7 +35,7 @@ pub(crate) struct Words<'a> {
 
 impl<'a> Words<'a> {
     ghost use Rattle.qm_search.specs.Cursor.{words_left};
-    ghost use Rattle.qm_search.specs.Script.{AreWords, count_at, score_at, sign_at, many_at, whole, word_at};
+    ghost use Rattle.qm_search.specs.Script.{AreWords, count_at, document_at, score_at, sign_at, many_at, threshold_at, whole, word_at};
     ghost use Rattle.qm_postings.specs.Document.{words_of};
     ghost use Rattle.qm_search.specs.Spelled.{Gives, Reads, texts};
 
@@ -77,6 +77,28 @@ impl<'a> Words<'a> {
     {
         match parse_score(self.word()?) {
             Some(score) => Ok(NonNegativeScore::new(score)),
+            None => Err(Unparsed::NotUnderstood),
+        }
+    }
+
+    /// A document's number, up to 18446744073709551615.
+    #[tactic(auto, unfolding(crate::specs::Script::document_at))]
+    pub(crate) fn document(&mut self) -> Result<u64, Unparsed>
+        ensures { Reads (λ n. n) result (words_left self.new) (document_at (words_left self.old)) }
+    {
+        match parse_document(self.word()?) {
+            Some(number) => Ok(number),
+            None => Err(Unparsed::NotUnderstood),
+        }
+    }
+
+    /// A threshold, from -9223372036854775808 to 9223372036854775807.
+    #[tactic(auto, unfolding(crate::specs::Script::threshold_at))]
+    pub(crate) fn threshold(&mut self) -> Result<Score, Unparsed>
+        ensures { Reads (λ t. t) result (words_left self.new) (threshold_at (words_left self.old)) }
+    {
+        match parse_threshold(self.word()?) {
+            Some(threshold) => Ok(threshold),
             None => Err(Unparsed::NotUnderstood),
         }
     }
@@ -148,6 +170,23 @@ fn parse_score(text: &str) -> Option<Score>
     ensures value { result ≡ option_map pos (number_below (2 ^ 63) text.now) }
 {
     Score::try_from(parse_digits(text)?).ok()
+}
+
+// Decimal digits, with leading zeros or none, up to 18446744073709551615.
+fn parse_document(text: &str) -> Option<u64>
+    ensures { result ≡ number_below (2 ^ 64) text.now }
+{
+    parse_digits(text)
+}
+
+// Decimal digits up to 9223372036854775807, or a `-` and decimal digits up to 9223372036854775808.
+fn parse_threshold(text: &str) -> Option<Score>
+    ensures { result ≡ threshold_of text.now }
+{
+    if text.starts_with('+') {
+        return None;
+    }
+    text.parse().ok()
 }
 
 // Decimal digits, with leading zeros or none, up to 18446744073709551615.

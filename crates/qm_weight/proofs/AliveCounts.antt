@@ -1,7 +1,7 @@
 -- How many documents of a tree are alive: what a cursor that lists them counts.
 use Rattle.std.specs.Prelude.{◌≡◌, ℕ, ◌+◌, ◌<◌, ◌≤◌, Bool, true, false, ◌&&◌, ◌==◌, if◌then◌else◌, not, nat_le, nat_lt, List, [], ◌∷◌, Option, None, Some, All, filter, length, map}
 use Rattle.std.specs.List.{list_any, range_with_len}
-use Rattle.std.proofs.Common.{zero, suc, arith, refl, sym, ap, subst, ◌∙◌, inl, inr}
+use Rattle.std.proofs.Common.{zero, suc, arith, refl, sym, ap, subst, ◌∙◌, inl, inr, Box, Global}
 use Rattle.std.proofs.lemmas.Bool.{cases_Bool, lt-ltb}
 use Rattle.std.proofs.lemmas.List.{length-map}
 use Rattle.qm_docset.specs.AliveBitSet.{alive_docs, alive_entries}
@@ -12,14 +12,19 @@ use Rattle.qm_docset.specs.Members.{members_between}
 use Rattle.qm_docset.specs.declared.alive_bitset.AliveBitSet.{AliveBitSet}
 use Rattle.qm_postings.specs.Segment.{Segment, alive_documents, is_alive}
 use Rattle.qm_schema.specs.Term.{TermKey}
+use Rattle.qm_schema.specs.declared.error.QueryError.{QueryError}
+use Rattle.qm_schema.specs.declared.error.QueryError.TheVariants.{Memory, ScoreBound}
 use Rattle.qm_schema.specs.declared.occur.Occur.{Occur}
 use Rattle.qm_schema.specs.declared.occur.Occur.TheVariants.{Should, Must, MustNot}
 use Rattle.qm_schema.specs.declared.schema.option.IndexRecordOption.{IndexRecordOption}
 use Rattle.qm_term.specs.Bm25.{Weighing}
 use Rattle.qm_weight.specs.Counts.{alive_count, alive_matching}
-use Rattle.qm_weight.specs.ClauseScorers.{is_one_clause}
-use Rattle.qm_weight.specs.Tree.{Clauses, Combiner, Tree, all, boolean, boolean_matches, clause, matches, matching, no_clause, none, term}
-use Rattle.qm_weight.specs.Weights.{clauses_from, tree_of}
+use Rattle.qm_weight.specs.ClauseScorers.{decides_alone}
+use Rattle.qm_weight.specs.Scorers.{IsRefusalOf}
+use Rattle.qm_weight.specs.Tree.{Clauses, ClausesFit, Combiner, Tree, all, boolean, boolean_matches, clause, matches, matching, no_clause, none, term}
+use Rattle.qm_weight.specs.Weights.{boolean_tree, clauses_from, combiner_of, tree_of}
+use Rattle.qm_weight.specs.declared.any_weight.AnyWeight.{AnyWeight}
+use Rattle.qm_weight.specs.declared.boolean_weight.BooleanWeight.{BooleanWeight}
 use Rattle.qm_weight.proofs.Leaves.{from_start, matching-all, matching-none}
 
 -- one test and then another
@@ -103,12 +108,25 @@ should_alone minimum false met = and_false (nat_le minimum 0)
 
 -- a Boolean of one clause that has to match matches what the clause matches
 pub matches-one_clause : (scoring : Bool) (minimum : ℕ) (combiner : Combiner) (occur : Occur) (inside : Tree) (segment : Segment) (d : ℕ)
-    → is_one_clause minimum (clause occur inside no_clause) ≡ true → matches (boolean scoring minimum combiner (clause occur inside no_clause)) segment d ≡ matches inside segment d
+    → decides_alone minimum occur ≡ true → matches (boolean scoring minimum combiner (clause occur inside no_clause)) segment d ≡ matches inside segment d
 matches-one_clause scoring minimum combiner Must inside segment d met = must_alone minimum (matches inside segment d) met
 matches-one_clause scoring minimum combiner Should inside segment d met = should_alone minimum (matches inside segment d) met
 matches-one_clause scoring minimum combiner MustNot inside segment d met = absurd (cc met)
 
 pub alive_count-one_clause : (scoring : Bool) (minimum : ℕ) (combiner : Combiner) (occur : Occur) (inside : Tree) (segment : Segment)
-    → is_one_clause minimum (clause occur inside no_clause) ≡ true → alive_count (boolean scoring minimum combiner (clause occur inside no_clause)) segment ≡ alive_count inside segment
+    → decides_alone minimum occur ≡ true → alive_count (boolean scoring minimum combiner (clause occur inside no_clause)) segment ≡ alive_count inside segment
 alive_count-one_clause scoring minimum combiner occur inside segment met =
     ap (λ ds. length (filter (is_alive segment) ds)) (filter-same (matches (boolean scoring minimum combiner (clause occur inside no_clause)) segment) (matches inside segment) (range_with_len 0 (length segment.documents)) (λ d. matches-one_clause scoring minimum combiner occur inside segment d met))
+
+-- so does the weight of one clause
+pub alive_count-one_weight : (weight : BooleanWeight) (w : Occur × Box AnyWeight Global) (segment : Segment)
+    → weight.weights.items ≡ w ∷ [] → decides_alone weight.minimum_number_should_match w.0 ≡ true → alive_count (boolean_tree weight) segment ≡ alive_count (tree_of w.1.value) segment
+alive_count-one_weight weight w segment one met =
+    ap (λ ws. alive_count (boolean weight.scoring_enabled weight.minimum_number_should_match (combiner_of weight.score_combiner) (clauses_from ws)) segment) one
+    ∙ alive_count-one_clause weight.scoring_enabled weight.minimum_number_should_match (combiner_of weight.score_combiner) w.0 (tree_of w.1.value) segment met
+
+-- and it is refused where the clause is
+pub refusal-one_weight : (weight : BooleanWeight) (w : Occur × Box AnyWeight Global) (b : ℕ) (e : QueryError) → weight.weights.items ≡ w ∷ [] → IsRefusalOf (tree_of w.1.value) b e → IsRefusalOf (boolean_tree weight) b e
+refusal-one_weight weight w b ScoreBound one refused = λ fits. refused (subst (λ ws. ClausesFit (clauses_from ws) b) one fits.1).0
+refusal-one_weight weight w b Memory one refused = tt
+refusal-one_weight weight w b e one refused = absurd refused

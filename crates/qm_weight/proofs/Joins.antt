@@ -20,6 +20,7 @@ use Rattle.qm_schema.specs.declared.occur.Occur.TheVariants.{Should, Must, MustN
 use Rattle.qm_scorer.specs.Bare.{scores_to}
 use Rattle.qm_scorer.specs.Built.{IsAtLeastOf}
 use Rattle.qm_scorer.specs.Intersection.{ListsShared}
+use Rattle.qm_scorer.proofs.Intersections.{shared-placed}
 use Rattle.qm_weight.specs.ClauseScorers.{AreScorersOf, AreWantedScorers, IsOneClause, IsWantedRefusal, clause_trees, wanted_tree}
 use Rattle.qm_weight.specs.Scorers.{IsListOf, IsRefusalOf, IsScorerOf}
 use Rattle.qm_weight.specs.Tree.{clause_bounds}
@@ -41,13 +42,8 @@ pub if_fits : {S : Type 0} {P Q : S → Type 0} (r : Result S QueryError) (n : �
 if_fits (Ok s) n past made follows = follows s (not_past (λ more. let refused = past more in cc)) made
 if_fits (Err e) n past made follows = tt
 
--- what several scorers have in common stands where they do, within their bounds together
+-- what several scorers have in common is within their bounds together
 module _ {T : Type 0} (D : Ghosts T) where
-  pub shared-placed : (members : List T) (s : T) → ArePlaced D members → ListsShared D members s → IsPlaced D s
-  shared-placed [] s h shared = record { valid = shared.valid; placed = shared.placed }
-  shared-placed (x ∷ []) s h shared = subst (IsPlaced D) (sym shared) (record { valid = All-head D.valid x [] h.valid; placed = All-head D.placed x [] h.placed })
-  shared-placed (x ∷ y ∷ others) s h shared = record { valid = shared.valid; placed = shared.placed }
-
   pub shared-top : (members : List T) (s : T) → ListsShared D members s → (D.limits s).top ≤ total_top (bounds D members)
   shared-top [] s shared = omega (arith, ap (λ l. l.top) shared.limits)
   shared-top (x ∷ []) s shared = omega (arith, ap (λ y. (D.limits y).top) shared)

@@ -8,8 +8,10 @@ pub mod LeafScorers
 pub mod ClauseScorers
 pub mod TermScorers
 pub mod TreeFacts
+pub mod OrderFacts
 pub mod BoostFacts
 pub mod ScoringFacts
+pub mod CallerFacts
 pub mod Counts
 pub mod TreeRuns
 pub mod Explanations

@@ -3,13 +3,14 @@
 ghost use Rattle.std.specs.Prelude.{◌≡◌, ◌<◌, ◌≤◌, IfErr, IfOk, length};
 ghost use Rattle.qm_docset.specs.Entry.{greatest_score};
 ghost use Rattle.qm_term.specs.Explained.{value_of};
+ghost use Rattle.qm_weight.specs.ClauseScorers.{decides_alone};
 ghost use Rattle.qm_weight.specs.Counts.{alive_count};
 ghost use Rattle.qm_weight.specs.Explanations.{IsExplained, IsExplainRefusal};
 ghost use Rattle.qm_weight.specs.Scorers.{IsRefusalOf, IsScorerOf};
 ghost use Rattle.qm_weight.specs.Tree.{boolean};
 ghost use Rattle.qm_weight.specs.Weights.{boolean_tree, clauses_from, combiner_of};
 
-use crate::any_weight::AnyWeight;
+use crate::any_weight::{AnyWeight, count_any};
 use crate::counts::count_alive;
 use crate::explanations::{check_document, score_of};
 use crate::weight::{
@@ -151,7 +152,9 @@ pub(crate) fn build_boolean<'a, S: Scorer>(
     join_clauses(weight, alloc, reader, scorers)
 }
 
-// What the scorer lists is counted.
+// What one clause alone matches, which decides, is counted as the clause counts it; and else what the
+// scorer lists.
+#[cycle(count)]
 pub(crate) fn count_boolean(
     weight: &BooleanWeight,
     alloc: Global,
@@ -162,8 +165,24 @@ pub(crate) fn count_boolean(
     ensures count { IfOk result (λ n. n ≡ alive_count (boolean_tree weight.now) reader.now.segment) }
     ensures refused { IfErr result (IsRefusalOf (boolean_tree weight.now) boost) }
 {
+    if let [(occur, inside)] = weight.weights.as_slice()
+        && decides(*occur, weight.minimum_number_should_match)
+    {
+        return count_any(inside, alloc, reader, boost);
+    }
     let mut scorer: AnyScorer<EmptyScorer> = build_boolean(weight, alloc, reader, boost)?;
     Ok(count_alive(&mut scorer, reader))
+}
+
+// Whether a clause that occurs so decides alone what a Boolean with this minimum matches.
+fn decides(occur: Occur, minimum: usize) -> bool
+    ensures { result ≡ decides_alone minimum occur }
+{
+    match occur {
+        Occur::Must => minimum == 0,
+        Occur::Should => minimum <= 1,
+        Occur::MustNot => false,
+    }
 }
 
 // The score of the Boolean, and as details the clauses that match and add to it.

@@ -51,7 +51,8 @@ pub trait Weight {
     ///
     /// Refused as [`scorer`](Weight::scorer) is at a boost of 1. Costs what the scorer does, and an
     /// `advance` a document that matches; without deleted documents a term costs its look-up alone, and
-    /// where every document matches the number is at hand.
+    /// where every document matches the number is at hand. A boost, a constant and a Boolean of one clause
+    /// that has to match cost what is inside.
     fn count(&self, alloc: Global, reader: &SegmentReader) -> Result<u32, QueryError>
         ensures count { IfOk result (λ n. n ≡ alive_count (tree self.now) reader.now.segment) }
         ensures refused { IfErr result (IsRefusalOf (tree self.now) 1) };

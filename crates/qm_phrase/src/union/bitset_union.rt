@@ -34,7 +34,7 @@ impl<D: Postings> BitSetPostingUnion<D> {
     pub fn build(docsets: Vec<D>, bitset: BitSetDocSet) -> BitSetPostingUnion<D>
         requires placed { ArePlaced D.DocSet docsets.items }
         requires set { IsPlaced ⟦<BitSetDocSet as DocSet>⟧ bitset }
-        ensures lists { Lists ⟦<BitSetPostingUnion<D> as DocSet>⟧ result
+        ensures lists { Lists ⟦<Self as DocSet>⟧ result
             (united_over (remaining_members bitset) (lists D.DocSet docsets.items)) (postings_limits (bounds D.DocSet docsets.items)) }
     {
         let mut members = docsets;

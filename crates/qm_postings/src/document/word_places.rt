@@ -1,9 +1,14 @@
 //! The words of a text, each once, with all its places.
 
-ghost use Rattle.std.specs.Prelude.{◌≡◌, ◌<◌, ℕ, [], ◌∷◌, length, map, vec_len, slice_set, slice_index_or, IfOk, OnOk, IsOkUnless};
+ghost use Rattle.std.specs.Prelude.{◌≡◌, ◌<◌, ℕ, [], ◌∷◌, length, map, vec_len, slice_set, slice_index_or, IfOk, OnOk, IsOkUnless, Some, unwrap_or};
+ghost use Rattle.std.specs.BTreeMap.{Updates, get};
+ghost use Rattle.std.specs.Cmp.Lexicographic.{slice_cmp};
+ghost use Rattle.std.specs.Ordering.{nat_cmp};
 ghost use Rattle.qm_postings.specs.Document.{Given, words_of, text_terms, with_place};
 
 use crate::document::GivenTerm;
+use crate::document::headed_word::HeadedWord;
+use crate::headed_term::HeadedTerm;
 use qm_schema::{Field, QueryError, Term};
 use std::alloc::Global;
 use std::collections::BTreeMap;
@@ -24,19 +29,19 @@ impl WordPlaces {
         ensures refused { IsOkUnless result QueryError.Memory }
     {
         let mut terms: Vec<GivenTerm> = Vec::new(alloc);
-        let mut numbers: BTreeMap<&str, usize> = BTreeMap::new(alloc);
+        let mut numbers: BTreeMap<HeadedWord<'_>, usize> = BTreeMap::new(alloc);
         let mut count: usize = 0;
         for word in text.split(' ') {
             if word.is_empty() {
                 continue;
             }
             let place = count.min(4294967295) as u32;
-            match numbers.get(word) {
-                Some(number) => add_place(&mut terms, *number, place)?,
-                None => {
-                    numbers.insert(word, terms.len())?;
-                    terms.push(first_place(alloc, field, word, place)?)?;
-                }
+            let known = terms.len();
+            let number = number_of(&mut numbers, word, known)?;
+            if number < known {
+                add_place(&mut terms, number, place)?;
+            } else {
+                terms.push(first_place(alloc, field, word, place)?)?;
             }
             count += 1;
         }
@@ -44,12 +49,25 @@ impl WordPlaces {
     }
 }
 
+/// The number of a word, which gets the next one where it has none.
+fn number_of<'t>(
+    numbers: &mut BTreeMap<HeadedWord<'t>, usize>,
+    word: &'t str,
+    next: usize,
+) -> Result<usize, QueryError>
+    ensures number { IfOk result (λ number. number ≡ unwrap_or (get (slice_cmp nat_cmp) numbers.old word.now) next) }
+    ensures kept { IfOk result (λ number. Updates (slice_cmp nat_cmp) numbers.old numbers.new word.now (Some number)) }
+    ensures refused { IsOkUnless result QueryError.Memory }
+{
+    Ok(*numbers.entry(HeadedWord::new(word))?.or_insert(next))
+}
+
 /// A word with the place where it first stands.
 fn first_place(alloc: Global, field: Field, word: &str, place: u32) -> Result<GivenTerm, QueryError>
     ensures given { IfOk result (λ given. given ≡ record { term = record { field = field; bytes = word.now }; positions = place ∷ [] }) }
     ensures refused { IsOkUnless result QueryError.Memory }
 {
-    let term = Term::from_field_text(alloc, field, word)?;
+    let term = HeadedTerm::new(Term::from_field_text(alloc, field, word)?);
     let positions = vec![in alloc; place]?;
     Ok(GivenTerm { term, positions })
 }

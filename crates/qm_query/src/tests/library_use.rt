@@ -34,24 +34,25 @@ fn search(
     Ok(scores_left(alloc, scorer)?)
 }
 
+// What these documents find.
+fn found(alloc: Global, searcher: &Searcher) -> Result<Vec<(DocId, Score)>, QueryError> {
+    let Some(segment) = searcher.segment_reader(0) else {
+        return Err(QueryError::NoSuchSegment(0));
+    };
+    let (quick, fox) = (term(alloc, "quick")?, term(alloc, "fox")?);
+    search(alloc, searcher, segment, quick, fox, term(alloc, "dog")?)
+}
+
 #[test]
 fn a_phrase_and_a_word_that_counts_twice(rt: HostRuntime) -> Result<(), Fail> {
-    let alloc = rt.alloc();
     let texts = [
         "the quick fox",
         "the lazy dog",
         "the quick fox and the lazy dog and the other fox",
     ];
-    let searcher = searcher_of(alloc, &texts, 1000)?;
-    for segment in searcher.segment_readers() {
-        let (quick, fox) = (term(alloc, "quick")?, term(alloc, "fox")?);
-        let dog = term(alloc, "dog")?;
-        // 2000 / (1 + 3), and 2000 / (1 + 11) with twice 1000 / (1 + 11), each rounded down
-        let want = [(0, 500), (2, 166 + 2 * 83)];
-        assert_eq!(&rt;
-            search(alloc, &searcher, segment, quick, fox, dog)?.as_slice(),
-            want.as_slice()
-        );
-    }
+    let searcher = searcher_of(rt.alloc(), &texts, 1000)?;
+    // 2000 / (1 + 3), and 2000 / (1 + 11) with twice 1000 / (1 + 11), each rounded down
+    let want = [(0, 500), (2, 166 + 2 * 83)];
+    assert_eq!(rt; found(rt.alloc(), &searcher)?.as_slice(), want.as_slice());
     Ok(())
 }

@@ -3,60 +3,97 @@
 use super::terms::{placed, spelled, terms};
 use crate::{PhrasePrefixQuery, PhraseQuery};
 use qm_schema::QueryError;
+use std::alloc::Global;
 use std::test::Fail;
+
+type Rows = &'static [(usize, u32, &'static str)];
+
+// The rows of a phrase, and why it is refused.
+const REFUSED: [(Rows, Option<QueryError>); 6] = [
+    // the offset of the one term is too large too
+    (&[(4294967296, 0, "a")], Some(QueryError::TooFewTerms)),
+    (
+        &[(0, 0, "a"), (4294967296, 0, "b")],
+        Some(QueryError::OffsetTooLarge(4294967296)),
+    ),
+    (
+        &[(4294967297, 0, "a"), (4294967296, 0, "b")],
+        Some(QueryError::OffsetTooLarge(4294967297)),
+    ),
+    (&[(0, 0, "a"), (4294967295, 0, "b")], None),
+    (
+        &[(0, 0, "a"), (4294967296, 1, "b")],
+        Some(QueryError::MixedFields),
+    ),
+    (&[], Some(QueryError::TooFewTerms)),
+];
+
+fn refusal(alloc: Global, rows: Rows) -> Result<Option<QueryError>, QueryError> {
+    Ok(PhraseQuery::new_with_offset(alloc, placed(alloc, rows)?).err())
+}
+
+fn prefix_refusal(alloc: Global, rows: Rows) -> Result<Option<QueryError>, QueryError> {
+    Ok(PhrasePrefixQuery::new_with_offset(alloc, placed(alloc, rows)?).err())
+}
 
 #[test]
 fn phrases_refuse_what_is_no_phrase(rt: HostRuntime) -> Result<(), Fail> {
-    let alloc = rt.alloc();
-    // the offset of the one term is too large too
-    let rows: [(&[(usize, u32, &str)], Option<QueryError>); 6] = [
-        (&[(4294967296, 0, "a")], Some(QueryError::TooFewTerms)),
-        (
-            &[(0, 0, "a"), (4294967296, 0, "b")],
-            Some(QueryError::OffsetTooLarge(4294967296)),
-        ),
-        (
-            &[(4294967297, 0, "a"), (4294967296, 0, "b")],
-            Some(QueryError::OffsetTooLarge(4294967297)),
-        ),
-        (&[(0, 0, "a"), (4294967295, 0, "b")], None),
-        (
-            &[(0, 0, "a"), (4294967296, 1, "b")],
-            Some(QueryError::MixedFields),
-        ),
-        (&[], Some(QueryError::TooFewTerms)),
-    ];
-    for (row, refusal) in rows {
-        let made = PhraseQuery::new_with_offset(alloc, placed(alloc, row)?);
-        assert_eq!(rt; made.err(), refusal);
+    for (rows, want) in REFUSED {
+        assert_eq!(rt; refusal(rt.alloc(), rows)?, want);
     }
-    let one = PhraseQuery::new(alloc, terms(alloc, &["a"])?);
+    let one = PhraseQuery::new(rt.alloc(), terms(rt.alloc(), &["a"])?);
     assert_eq!(rt; one.err(), Some(QueryError::TooFewTerms));
-    let none = PhrasePrefixQuery::new(alloc, Vec::new(alloc));
-    assert_eq!(rt; none.err(), Some(QueryError::EmptyPrefix));
-    let none = PhrasePrefixQuery::new_with_offset(alloc, Vec::new(alloc));
-    assert_eq!(rt; none.err(), Some(QueryError::EmptyPrefix));
-    let mixed = placed(alloc, &[(0, 0, "a"), (1, 1, "b")])?;
-    let mixed = PhrasePrefixQuery::new_with_offset(alloc, mixed);
-    assert_eq!(rt; mixed.err(), Some(QueryError::MixedFields));
     Ok(())
 }
 
 #[test]
-fn terms_stand_in_the_order_of_their_offsets(rt: HostRuntime) -> Result<(), Fail> {
-    let alloc = rt.alloc();
-    // two terms have the offset 2, and stand as they were given
-    let rows = [(2, 0, "d"), (1, 0, "b"), (2, 0, "c"), (0, 0, "a")];
-    let phrase = PhraseQuery::new_with_offset_and_slop(alloc, placed(alloc, &rows)?, 3)?;
-    let kept = spelled(alloc, &phrase.phrase_terms(alloc)?)?;
-    assert_eq!(rt; kept.as_slice(), b"a b d c ".as_slice());
-    assert_eq!(rt; phrase.field().field_id(), 0);
-    let prefix = PhrasePrefixQuery::new_with_offset(alloc, placed(alloc, &rows)?)?;
-    let kept = spelled(alloc, &prefix.phrase_terms(alloc)?)?;
-    assert_eq!(rt; kept.as_slice(), b"a b d ".as_slice());
-    assert_eq!(rt; prefix.field().field_id(), 0);
+fn prefixes_refuse_what_is_no_phrase(rt: HostRuntime) -> Result<(), Fail> {
+    let none = PhrasePrefixQuery::new(rt.alloc(), Vec::new(rt.alloc()));
+    assert_eq!(rt; none.err(), Some(QueryError::EmptyPrefix));
+    let rows: [(Rows, QueryError); 2] = [
+        (&[], QueryError::EmptyPrefix),
+        (&[(0, 0, "a"), (1, 1, "b")], QueryError::MixedFields),
+    ];
+    for (rows, want) in rows {
+        assert_eq!(rt; prefix_refusal(rt.alloc(), rows)?, Some(want));
+    }
+    Ok(())
+}
+
+// Two terms have the offset 2, and stand as they were given.
+const UNSORTED: [(usize, u32, &str); 4] = [(2, 0, "d"), (1, 0, "b"), (2, 0, "c"), (0, 0, "a")];
+
+// The field of a phrase, and its terms.
+fn kept_in_phrase(alloc: Global) -> Result<(u32, Vec<u8>), QueryError> {
+    let phrase = PhraseQuery::new_with_offset_and_slop(alloc, placed(alloc, &UNSORTED)?, 3)?;
+    let kept = phrase.phrase_terms(alloc)?;
+    Ok((phrase.field().field_id(), spelled(alloc, &kept)?))
+}
+
+// The same of a phrase prefix.
+fn kept_in_prefix(alloc: Global) -> Result<(u32, Vec<u8>), QueryError> {
+    let prefix = PhrasePrefixQuery::new_with_offset(alloc, placed(alloc, &UNSORTED)?)?;
+    let kept = prefix.phrase_terms(alloc)?;
+    Ok((prefix.field().field_id(), spelled(alloc, &kept)?))
+}
+
+// The same of a phrase of terms one behind the other.
+fn kept_in_row(alloc: Global) -> Result<(u32, Vec<u8>), QueryError> {
     let row = PhraseQuery::new(alloc, terms(alloc, &["b", "a"])?)?;
-    let kept = spelled(alloc, &row.phrase_terms(alloc)?)?;
-    assert_eq!(rt; kept.as_slice(), b"b a ".as_slice());
+    let kept = row.phrase_terms(alloc)?;
+    Ok((row.field().field_id(), spelled(alloc, &kept)?))
+}
+
+#[test]
+fn terms_stand_in_the_order_of_their_offsets(rt: HostRuntime) -> Result<(), Fail> {
+    for (made, want) in [
+        (kept_in_phrase(rt.alloc()), "a b d c "),
+        (kept_in_prefix(rt.alloc()), "a b d "),
+        (kept_in_row(rt.alloc()), "b a "),
+    ] {
+        let (field, kept) = made?;
+        assert_eq!(rt; field, 0);
+        assert_eq!(rt; kept.as_slice(), want.as_bytes());
+    }
     Ok(())
 }

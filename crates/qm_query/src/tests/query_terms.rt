@@ -3,6 +3,7 @@
 ghost use Rattle.std.specs.Prelude.{◌≡◌, IfOk, [], ◌∷◌, ◌++◌, false};
 ghost use Rattle.qm_query.specs.QueryTerms.{terms_of_query};
 
+use super::queries::{add_clause, boxed, phrase, word};
 use super::terms::{placed, term, terms};
 use crate::{
     AllQuery, AnyQuery, BooleanQuery, BoostQuery, ConstScoreQuery, DisjunctionMaxQuery, EmptyQuery,
@@ -54,97 +55,103 @@ pub fn collect_terms<Q: Query>(alloc: Global, query: &Q) -> Result<Vec<(Term, bo
     }
 }
 
+/// Whether the query names these terms of field 0, in this order.
+fn names<Q: Query>(alloc: Global, query: &Q, want: &[(&str, bool)]) -> Result<bool, QueryError> {
+    let found = collect_terms(alloc, query)?;
+    for (named, (text, positions_wanted)) in found.iter().zip(want) {
+        if named.0 != term(alloc, text)? || named.1 != *positions_wanted {
+            return Ok(false);
+        }
+    }
+    Ok(found.len() == want.len())
+}
+
 /// Asserts that the query names these terms of field 0, in this order.
 fn assert_names<Q: Query>(
     rt: &(impl Abort + AllocGlobal),
     query: &Q,
     want: &[(&str, bool)],
 ) -> Result<(), Fail> {
-    let found = collect_terms(rt.alloc(), query)?;
-    assert_eq!(rt; found.len(), want.len());
-    for (place, (text, positions_wanted)) in want.iter().enumerate() {
-        assert_eq!(rt; found[place].0, term(rt.alloc(), text)?);
-        assert_eq!(rt; found[place].1, *positions_wanted);
-    }
+    assert!(rt; names(rt.alloc(), query, want)?, "{want:?}");
     Ok(())
 }
 
-fn word(alloc: Global, text: &str) -> Result<AnyQuery, QueryError> {
-    let query = TermQuery::new(term(alloc, text)?, IndexRecordOption::WithFreqs);
-    Ok(AnyQuery::Term(query))
-}
-
-fn phrase(alloc: Global, texts: &[&str]) -> Result<AnyQuery, QueryError> {
-    let query = PhraseQuery::new(alloc, terms(alloc, texts)?)?;
-    Ok(AnyQuery::Phrase(query))
-}
-
-fn clauses(
-    alloc: Global,
-    queries: [(Occur, AnyQuery); 3],
-) -> Result<Vec<(Occur, Box<AnyQuery>)>, QueryError> {
-    let mut clauses = Vec::with_capacity(alloc, 3)?;
-    for (occur, query) in queries {
-        clauses.push((occur, Box::new(alloc, query)?))?;
-    }
-    Ok(clauses)
+// Clauses of every kind, the second of which no document may match.
+fn clauses(alloc: Global) -> Result<BooleanQuery, QueryError> {
+    let mut clauses = Vec::new(alloc);
+    add_clause(alloc, &mut clauses, Occur::Should, word(alloc, "a")?)?;
+    add_clause(alloc, &mut clauses, Occur::MustNot, word(alloc, "b")?)?;
+    add_clause(
+        alloc,
+        &mut clauses,
+        Occur::Must,
+        phrase(alloc, &["c", "d"])?,
+    )?;
+    Ok(BooleanQuery::new(clauses))
 }
 
 #[test]
 fn a_boolean_query_names_the_terms_of_all_clauses(rt: HostRuntime) -> Result<(), Fail> {
-    let alloc = rt.alloc();
-    let rows = [
-        (Occur::Should, word(alloc, "a")?),
-        (Occur::MustNot, word(alloc, "b")?),
-        (Occur::Must, phrase(alloc, &["c", "d"])?),
-    ];
-    let query = BooleanQuery::new(clauses(alloc, rows)?);
+    let query = clauses(rt.alloc())?;
     let want = [("a", false), ("b", false), ("c", true), ("d", true)];
     assert_names(&rt, &query, &want)?;
     // the same as a query of any kind, and in a box
     let query = AnyQuery::Boolean(query);
     assert_names(&rt, &query, &want)?;
-    assert_names(&rt, &Box::new(alloc, query)?, &want)?;
-    assert_names(&rt, &BooleanQuery::new(Vec::new(alloc)), &[])?;
-    Ok(())
+    assert_names(&rt, &boxed(rt.alloc(), query)?, &want)?;
+    assert_names(&rt, &BooleanQuery::new(Vec::new(rt.alloc())), &[])
 }
 
 #[test]
 fn leaves_name_what_they_are_made_of(rt: HostRuntime) -> Result<(), Fail> {
-    let alloc = rt.alloc();
     assert_names(&rt, &AllQuery, &[])?;
     assert_names(&rt, &EmptyQuery, &[])?;
-    let one = TermQuery::new(term(alloc, "a")?, IndexRecordOption::Basic);
-    assert_names(&rt, &one, &[("a", false)])?;
-    // by their offsets, and a term as often as it was given
-    let rows = [(4, 0, "c"), (1, 0, "a"), (2, 0, "a")];
-    let row = PhraseQuery::new_with_offset(alloc, placed(alloc, &rows)?)?;
+    let one = TermQuery::new(term(rt.alloc(), "a")?, IndexRecordOption::Basic);
+    assert_names(&rt, &one, &[("a", false)])
+}
+
+// Not in the order of their offsets, and a term twice.
+const UNSORTED: [(usize, u32, &str); 3] = [(4, 0, "c"), (1, 0, "a"), (2, 0, "a")];
+
+#[test]
+fn phrases_name_their_terms_by_their_offsets(rt: HostRuntime) -> Result<(), Fail> {
+    let alloc = rt.alloc();
+    let row = PhraseQuery::new_with_offset(alloc, placed(alloc, &UNSORTED)?)?;
     assert_names(&rt, &row, &[("a", true), ("a", true), ("c", true)])?;
     // the last of them is the prefix
-    let row = PhrasePrefixQuery::new_with_offset(alloc, placed(alloc, &rows)?)?;
+    let row = PhrasePrefixQuery::new_with_offset(alloc, placed(alloc, &UNSORTED)?)?;
     assert_names(&rt, &row, &[("a", true), ("a", true)])?;
-    let alone = PhrasePrefixQuery::new(alloc, terms(alloc, &["a"])?)?;
-    assert_names(&rt, &alone, &[])?;
-    Ok(())
+    assert_names(
+        &rt,
+        &PhrasePrefixQuery::new(alloc, terms(alloc, &["a"])?)?,
+        &[],
+    )
+}
+
+fn boosted(alloc: Global) -> Result<BoostQuery, QueryError> {
+    let inside = boxed(alloc, phrase(alloc, &["b", "a"])?)?;
+    Ok(BoostQuery::new(inside, 0))
+}
+
+fn constant(alloc: Global) -> Result<ConstScoreQuery, QueryError> {
+    let inside = boxed(alloc, AnyQuery::Boost(boosted(alloc)?))?;
+    Ok(ConstScoreQuery::new(inside, 3))
+}
+
+// A word, the query with a constant score, and the word again.
+fn best(alloc: Global) -> Result<DisjunctionMaxQuery, QueryError> {
+    let mut disjuncts = Vec::new(alloc);
+    disjuncts.push(boxed(alloc, word(alloc, "z")?)?)?;
+    disjuncts.push(boxed(alloc, AnyQuery::ConstScore(constant(alloc)?))?)?;
+    disjuncts.push(boxed(alloc, word(alloc, "z")?)?)?;
+    Ok(DisjunctionMaxQuery::new(disjuncts))
 }
 
 #[test]
 fn nodes_name_the_terms_of_what_is_inside(rt: HostRuntime) -> Result<(), Fail> {
-    let alloc = rt.alloc();
-    let inside = Box::new(alloc, phrase(alloc, &["b", "a"])?)?;
-    let boosted = BoostQuery::new(inside, 0);
-    assert_names(&rt, &boosted, &[("b", true), ("a", true)])?;
-    let constant = ConstScoreQuery::new(Box::new(alloc, AnyQuery::Boost(boosted))?, 3);
-    assert_names(&rt, &constant, &[("b", true), ("a", true)])?;
-    let mut disjuncts = Vec::with_capacity(alloc, 3)?;
-    disjuncts.push(Box::new(alloc, word(alloc, "z")?)?)?;
-    disjuncts.push(Box::new(alloc, AnyQuery::ConstScore(constant))?)?;
-    disjuncts.push(Box::new(alloc, word(alloc, "z")?)?)?;
-    let best = DisjunctionMaxQuery::new(disjuncts);
-    assert_names(
-        &rt,
-        &best,
-        &[("z", false), ("b", true), ("a", true), ("z", false)],
-    )?;
-    Ok(())
+    let inside = [("b", true), ("a", true)];
+    assert_names(&rt, &boosted(rt.alloc())?, &inside)?;
+    assert_names(&rt, &constant(rt.alloc())?, &inside)?;
+    let both = [("z", false), ("b", true), ("a", true), ("z", false)];
+    assert_names(&rt, &best(rt.alloc())?, &both)
 }

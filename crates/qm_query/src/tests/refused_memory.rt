@@ -2,7 +2,8 @@
 //! preloaded. Without it nothing is refused, and `rt ci` runs these tests so.
 
 use super::builders::every_kind;
-use super::segments::{searcher_of, words};
+use super::queries::{all_of, at_least, words};
+use super::segments::searcher_of;
 use super::terms::{placed, term, terms};
 use crate::{
     BooleanQuery, EnableScoring, PhrasePrefixQuery, PhraseQuery, Query, QueryClone, TermQuery,
@@ -52,6 +53,15 @@ pub(super) fn each_request_is_refused<F: Fn(Global) -> Result<(), QueryError>>(
     assert!(rt; false, "a call asks for memory a thousand times");
 }
 
+fn weighed<Q: Query>(
+    alloc: Global,
+    query: &Q,
+    scoring: EnableScoring<'_, Searcher>,
+) -> Result<(), QueryError> {
+    query.weight(alloc, scoring)?;
+    Ok(())
+}
+
 #[test]
 fn queries_are_refused_their_memory(rt: HostRuntime) -> Result<(), Fail> {
     if !can_refuse(&rt) {
@@ -73,25 +83,32 @@ fn queries_are_refused_their_memory(rt: HostRuntime) -> Result<(), Fail> {
     Ok(())
 }
 
+// Not in the order of their offsets, so that they are sorted.
+const UNSORTED: [(usize, u32, &str); 3] = [(2, 0, "c"), (1, 0, "b"), (0, 0, "a")];
+
+fn phrase(alloc: Global) -> Result<PhraseQuery, QueryError> {
+    PhraseQuery::new_with_offset_and_slop(alloc, placed(alloc, &UNSORTED)?, 1)
+}
+
+fn phrase_prefix(alloc: Global) -> Result<PhrasePrefixQuery, QueryError> {
+    PhrasePrefixQuery::new_with_offset(alloc, placed(alloc, &UNSORTED)?)
+}
+
 #[test]
 fn phrases_are_refused_their_memory(rt: HostRuntime) -> Result<(), Fail> {
     if !can_refuse(&rt) {
         return Ok(());
     }
-    // not in the order of their offsets, so that they are sorted
-    let rows = [(2, 0, "c"), (1, 0, "b"), (0, 0, "a")];
     each_request_is_refused(&rt, |alloc| {
-        PhraseQuery::new_with_offset_and_slop(alloc, placed(alloc, &rows)?, 1)?.phrase_terms(
-            alloc,
-        )?;
+        phrase(alloc)?.phrase_terms(alloc)?;
         Ok(())
     });
     each_request_is_refused(&rt, |alloc| {
-        PhraseQuery::new_with_offset(alloc, placed(alloc, &rows)?)?.clone(alloc)?;
+        PhraseQuery::new_with_offset(alloc, placed(alloc, &UNSORTED)?)?.clone(alloc)?;
         Ok(())
     });
     each_request_is_refused(&rt, |alloc| {
-        PhrasePrefixQuery::new_with_offset(alloc, placed(alloc, &rows)?)?.phrase_terms(alloc)?;
+        phrase_prefix(alloc)?.phrase_terms(alloc)?;
         Ok(())
     });
     Ok(())
@@ -103,7 +120,7 @@ fn clauses_are_refused_their_memory(rt: HostRuntime) -> Result<(), Fail> {
         return Ok(());
     }
     each_request_is_refused(&rt, |alloc| {
-        BooleanQuery::intersection(alloc, words(alloc, &["a", "b"])?)?;
+        all_of(alloc, &["a", "b"])?;
         Ok(())
     });
     each_request_is_refused(&rt, |alloc| {
@@ -111,7 +128,7 @@ fn clauses_are_refused_their_memory(rt: HostRuntime) -> Result<(), Fail> {
         Ok(())
     });
     each_request_is_refused(&rt, |alloc| {
-        BooleanQuery::union_with_minimum_required_clauses(alloc, words(alloc, &["a", "b"])?, 2)?;
+        at_least(alloc, 2, &["a", "b"])?;
         Ok(())
     });
     each_request_is_refused(&rt, |alloc| {
@@ -128,16 +145,10 @@ fn weights_are_refused_their_memory(rt: HostRuntime) -> Result<(), Fail> {
     }
     let searcher = searcher_of(rt.alloc(), &["a b c d"], 1000)?;
     let on = EnableScoring::enabled_from_searcher(&searcher);
-    let off: EnableScoring<'_, Searcher> = EnableScoring::disabled_from_searcher(&searcher);
+    let off = EnableScoring::disabled_from_searcher(&searcher);
     let query = every_kind(rt.alloc())?;
-    each_request_is_refused(&rt, |alloc| {
-        query.weight(alloc, on)?;
-        Ok(())
-    });
-    each_request_is_refused(&rt, |alloc| {
-        query.weight(alloc, off)?;
-        Ok(())
-    });
+    each_request_is_refused(&rt, |alloc| weighed(alloc, &query, on));
+    each_request_is_refused(&rt, |alloc| weighed(alloc, &query, off));
     Ok(())
 }
 
@@ -154,9 +165,6 @@ fn leaves_are_refused_their_memory(rt: HostRuntime) -> Result<(), Fail> {
         Ok(())
     });
     let prefix = PhrasePrefixQuery::new(rt.alloc(), terms(rt.alloc(), &["a"])?)?;
-    each_request_is_refused(&rt, |alloc| {
-        prefix.weight(alloc, on)?;
-        Ok(())
-    });
+    each_request_is_refused(&rt, |alloc| weighed(alloc, &prefix, on));
     Ok(())
 }

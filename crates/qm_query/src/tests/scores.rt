@@ -1,7 +1,10 @@
 //! What queries score, and the bound on scores.
 
+ghost use Rattle.std.specs.Prelude.{◌≤ℤ◌, pos};
+
 use crate::tests::callers::{calls_of_run, matches};
-use crate::tests::segments::{searcher_of, word};
+use crate::tests::queries::{boxed, word};
+use crate::tests::segments::searcher_of;
 use crate::tests::terms::term;
 use crate::{
     AllQuery, AnyQuery, BooleanQuery, BoostQuery, ConstScoreQuery, DisjunctionMaxQuery,
@@ -9,19 +12,46 @@ use crate::{
 };
 use qm_combine::EmptyScorer;
 use qm_docset::{DocId, Score};
-use qm_postings::Searcher;
+use qm_postings::{Searcher, SegmentReader};
 use qm_schema::{IndexRecordOption, QueryError};
 use qm_scorer::AnyScorer;
 use std::alloc::Global;
 use std::process::Abort;
 use std::test::Fail;
 
-/// Every document with this score, which the caller keeps at 0 or more.
-fn constant(rt: &impl Abort, alloc: Global, score: Score) -> Result<Box<AnyQuery>, Fail> {
-    assert!(rt; score >= 0);
-    let all = Box::new(alloc, AnyQuery::All(AllQuery))?;
-    let query = ConstScoreQuery::new(all, score);
-    Ok(Box::new(alloc, AnyQuery::ConstScore(query))?)
+/// Every document with this score.
+fn constant(alloc: Global, score: Score) -> Result<Box<AnyQuery>, QueryError>
+    requires { pos 0 ≤ℤ score }
+{
+    let all = boxed(alloc, AnyQuery::All(AllQuery))?;
+    boxed(
+        alloc,
+        AnyQuery::ConstScore(ConstScoreQuery::new(all, score)),
+    )
+}
+
+/// Every document with two such scores.
+fn constants(alloc: Global, first: Score, second: Score) -> Result<Vec<Box<AnyQuery>>, QueryError>
+    requires first { pos 0 ≤ℤ first }
+    requires second { pos 0 ≤ℤ second }
+{
+    let mut queries = Vec::new(alloc);
+    queries.push(constant(alloc, first)?)?;
+    queries.push(constant(alloc, second)?)?;
+    Ok(queries)
+}
+
+/// Whether a query scores so in a segment, by steps and by a run.
+fn has_scores<Q: Query>(
+    alloc: Global,
+    query: &Q,
+    scoring: EnableScoring<'_, Searcher>,
+    reader: &SegmentReader,
+    want: &[(DocId, Score)],
+) -> Result<bool, QueryError> {
+    let found = matches(alloc, query, scoring, reader)?;
+    let calls = calls_of_run(alloc, query, scoring, reader)?;
+    Ok(found.as_slice() == want && calls.as_slice() == want)
 }
 
 /// Asserts what a query scores in the segments that are searched.
@@ -33,13 +63,25 @@ fn assert_scores<Q: Query>(
 ) -> Result<(), Fail> {
     let on = EnableScoring::enabled_from_searcher(searcher);
     for reader in searcher.segment_readers() {
-        assert_eq!(rt; matches(rt.alloc(), query, on, reader)?.as_slice(), want);
-        assert_eq!(rt;
-            calls_of_run(rt.alloc(), query, on, reader)?.as_slice(),
-            want
+        assert!(rt;
+            has_scores(rt.alloc(), query, on, reader, want)?,
+            "{want:?}"
         );
     }
     Ok(())
+}
+
+/// Why a query has no scorer on a segment.
+fn scorer_refusal<Q: Query>(
+    alloc: Global,
+    query: &Q,
+    scoring: EnableScoring<'_, Searcher>,
+    reader: &SegmentReader,
+) -> Option<QueryError> {
+    let scorer: Result<AnyScorer<'_, EmptyScorer>, QueryError> = query_scorer(
+        query, alloc, scoring, reader, 1,
+    );
+    scorer.err()
 }
 
 /// Asserts that a query has a weight, but no scorer, since its scores may be too great.
@@ -51,14 +93,8 @@ fn assert_too_great<Q: Query>(
     let on = EnableScoring::enabled_from_searcher(searcher);
     query.weight(rt.alloc(), on)?;
     for reader in searcher.segment_readers() {
-        let scorer: Result<AnyScorer<'_, EmptyScorer>, QueryError> = query_scorer(
-            query,
-            rt.alloc(),
-            on,
-            reader,
-            1,
-        );
-        assert_eq!(rt; scorer.err(), Some(QueryError::ScoreBound));
+        let refusal = scorer_refusal(rt.alloc(), query, on, reader);
+        assert_eq!(rt; refusal, Some(QueryError::ScoreBound));
     }
     Ok(())
 }
@@ -77,29 +113,31 @@ fn frequencies_count_where_they_are_read(rt: HostRuntime) -> Result<(), Fail> {
     Ok(())
 }
 
+/// The best of 1 and 2, with half of the other, three times.
+fn boosted_best(alloc: Global) -> Result<BoostQuery, QueryError> {
+    let best = DisjunctionMaxQuery::with_tie_breaker(constants(alloc, 1, 2)?, 500)?;
+    let best = boxed(alloc, AnyQuery::DisjunctionMax(best))?;
+    Ok(BoostQuery::new(best, 3))
+}
+
 #[test]
 fn a_boost_of_the_best_of_two(rt: HostRuntime) -> Result<(), Fail> {
-    let alloc = rt.alloc();
-    let searcher = searcher_of(alloc, &["a"], 1000)?;
-    let constants = vec![in alloc; constant(&rt, alloc, 1)?, constant(&rt, alloc, 2)?]?;
-    let best = DisjunctionMaxQuery::with_tie_breaker(constants, 500)?;
-    let best = Box::new(alloc, AnyQuery::DisjunctionMax(best))?;
-    assert_scores(&rt, &searcher, &BoostQuery::new(best, 3), &[(0, 7)])
+    let searcher = searcher_of(rt.alloc(), &["a"], 1000)?;
+    assert_scores(&rt, &searcher, &boosted_best(rt.alloc())?, &[(0, 7)])
 }
 
 #[test]
 fn a_boost_past_the_greatest_score(rt: HostRuntime) -> Result<(), Fail> {
     let searcher = searcher_of(rt.alloc(), &["a"], 2)?;
-    let query = BoostQuery::new(word(rt.alloc(), "a")?, Score::MAX);
-    assert_too_great(&rt, &searcher, &query)
+    let query = boxed(rt.alloc(), word(rt.alloc(), "a")?)?;
+    assert_too_great(&rt, &searcher, &BoostQuery::new(query, Score::MAX))
 }
 
 #[test]
 fn constants_up_to_the_greatest_score(rt: HostRuntime) -> Result<(), Fail> {
-    let alloc = rt.alloc();
-    let searcher = searcher_of(alloc, &["a"], 1000)?;
-    let greatest = constant(&rt, alloc, Score::MAX)?;
+    let searcher = searcher_of(rt.alloc(), &["a"], 1000)?;
+    let greatest = constant(rt.alloc(), Score::MAX)?;
     assert_scores(&rt, &searcher, &greatest, &[(0, Score::MAX)])?;
-    let two = vec![in alloc; greatest, constant(&rt, alloc, Score::MAX)?]?;
-    assert_too_great(&rt, &searcher, &BooleanQuery::union(alloc, two)?)
+    let two = constants(rt.alloc(), Score::MAX, Score::MAX)?;
+    assert_too_great(&rt, &searcher, &BooleanQuery::union(rt.alloc(), two)?)
 }

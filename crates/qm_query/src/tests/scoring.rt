@@ -1,38 +1,28 @@
 //! What a weight is built under.
 
+use super::weights::searcher_of_fields;
 use crate::EnableScoring;
 use qm_postings::Searcher;
-use qm_schema::{IndexRecordOption, Schema};
 use std::test::Fail;
+
+// Whether scoring is on or off so, and the searcher known or not, where the field is known.
+fn is_so(enable: EnableScoring<'_, Searcher>, is_enabled: bool, is_searcher_known: bool) -> bool {
+    let again = enable;
+    enable.is_scoring_enabled() == is_enabled
+        && again.searcher().is_some() == is_searcher_known
+        && again.schema().get_field("body").is_some()
+}
 
 #[test]
 fn scoring_is_on_or_off_over_some_fields(rt: HostRuntime) -> Result<(), Fail> {
-    let alloc = rt.alloc();
-    let mut builder = Schema::builder(alloc);
-    builder.add_text_field("body", Some(IndexRecordOption::WithFreqs), false)?;
-    let schema = builder.build();
-    let copy = schema.clone(alloc)?;
-    let none = Vec::new(alloc);
-    let searcher = Searcher::new(alloc, copy, none, Vec::new(alloc), 1000, [1; 256])?;
-    let rows: [(EnableScoring<Searcher>, bool, bool); 4] = [
-        (EnableScoring::enabled_from_searcher(&searcher), true, true),
-        (
-            EnableScoring::enabled_from_statistics_provider(&searcher, &searcher),
-            true,
-            true,
-        ),
-        (
-            EnableScoring::disabled_from_searcher(&searcher),
-            false,
-            true,
-        ),
-        (EnableScoring::disabled_from_schema(&schema), false, false),
-    ];
-    for (enable, is_enabled, is_searcher_known) in rows {
-        let again = enable;
-        assert_eq!(rt; enable.is_scoring_enabled(), is_enabled);
-        assert_eq!(rt; again.searcher().is_some(), is_searcher_known);
-        assert!(rt; again.schema().get_field("body").is_some());
-    }
+    let searcher = searcher_of_fields(rt.alloc())?;
+    let on = EnableScoring::enabled_from_searcher(&searcher);
+    assert!(rt; is_so(on, true, true));
+    let on = EnableScoring::enabled_from_statistics_provider(&searcher, &searcher);
+    assert!(rt; is_so(on, true, true));
+    let off = EnableScoring::disabled_from_searcher(&searcher);
+    assert!(rt; is_so(off, false, true));
+    let off = EnableScoring::disabled_from_schema(searcher.schema());
+    assert!(rt; is_so(off, false, false));
     Ok(())
 }

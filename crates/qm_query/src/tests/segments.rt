@@ -1,53 +1,98 @@
-//! Segments of texts, and queries of their words.
+//! Segments of texts.
 
-use crate::tests::terms::term;
-use crate::{AnyQuery, BooleanQuery, TermQuery};
+ghost use Rattle.std.specs.Prelude.{◌≤ℤ◌, pos};
+
 use qm_docset::Score;
-use qm_postings::{PlainDoc, Searcher, SegmentBuilder};
-use qm_schema::{IndexRecordOption, QueryError, Schema};
+use qm_postings::{PlainDoc, Searcher, SegmentBuilder, SegmentReader};
+use qm_schema::{Field, IndexRecordOption, QueryError, Schema};
 use std::alloc::Global;
 use std::array;
 
-/// What is searched: one segment with a document for each text, in one field with positions and
-/// lengths. Each term weighs so much, and norms are the length ids.
+/// A document: its title, and its body where it has one; the last says whether it is deleted.
+pub(super) type Row = (&'static str, &'static str, bool);
+
+/// Two fields with positions and lengths.
+fn schema(alloc: Global) -> Result<Schema, QueryError> {
+    let positions = Some(IndexRecordOption::WithFreqsAndPositions);
+    let mut builder = Schema::builder(alloc);
+    builder.add_text_field("title", positions, true)?;
+    builder.add_text_field("body", positions, true)?;
+    Ok(builder.build())
+}
+
+fn builder(alloc: Global) -> Result<SegmentBuilder, QueryError> {
+    SegmentBuilder::new(alloc, &schema(alloc)?, 128)
+}
+
+fn document(alloc: Global, title: &str, body: &str) -> Result<PlainDoc, QueryError> {
+    let mut document = PlainDoc::new(alloc);
+    document.add_text(alloc, Field::from_field_id(0), title)?;
+    document.add_text(alloc, Field::from_field_id(1), body)?;
+    Ok(document)
+}
+
+fn add(alloc: Global, builder: &mut SegmentBuilder, row: Row) -> Result<(), QueryError> {
+    let doc = builder.add_document(document(alloc, row.0, row.1)?)?;
+    if row.2 {
+        builder.delete(doc)?;
+    }
+    Ok(())
+}
+
+fn segment(alloc: Global, rows: &[Row]) -> Result<SegmentReader, QueryError> {
+    let mut builder = builder(alloc)?;
+    for row in rows {
+        add(alloc, &mut builder, *row)?;
+    }
+    builder.build(alloc)
+}
+
+// A segment with a document for each title.
+fn segment_of(alloc: Global, titles: &[&'static str]) -> Result<SegmentReader, QueryError> {
+    let mut builder = builder(alloc)?;
+    for title in titles {
+        add(alloc, &mut builder, (*title, "", false))?;
+    }
+    builder.build(alloc)
+}
+
+// A searcher over segments, where each term weighs so much, and the length id i stands for i words.
+fn searcher_over(
+    alloc: Global,
+    segments: Vec<SegmentReader>,
+    weight: Score,
+) -> Result<Searcher, QueryError>
+    requires { pos 0 ≤ℤ weight }
+{
+    let norms = array::from_fn(|id| id as u32);
+    Searcher::new(
+        alloc,
+        schema(alloc)?,
+        segments,
+        Vec::new(alloc),
+        weight,
+        norms,
+    )
+}
+
+/// A searcher over one segment with a document for each title, where each term weighs so much, and
+/// the length id i stands for i words.
 pub(super) fn searcher_of(
     alloc: Global,
-    texts: &[&str],
+    titles: &[&'static str],
     weight: u32,
 ) -> Result<Searcher, QueryError> {
-    let option = IndexRecordOption::WithFreqsAndPositions;
-    let mut schema = Schema::builder(alloc);
-    let body = schema.add_text_field("body", Some(option), true)?;
-    let schema = schema.build();
-    let mut segment = SegmentBuilder::new(alloc, &schema, 128)?;
-    for text in texts {
-        let mut document = PlainDoc::new(alloc);
-        document.add_text(alloc, body, text)?;
-        segment.add_document(document)?;
+    let mut segments = Vec::new(alloc);
+    segments.push(segment_of(alloc, titles)?)?;
+    searcher_over(alloc, segments, Score::from(weight))
+}
+
+/// A searcher over segments of these documents, where each term weighs 1000 and the length id i stands
+/// for i words.
+pub(super) fn searcher(alloc: Global, segments: &[&[Row]]) -> Result<Searcher, QueryError> {
+    let mut readers = Vec::new(alloc);
+    for rows in segments {
+        readers.push(segment(alloc, rows)?)?;
     }
-    let segments = vec![in alloc; segment.build(alloc)?]?;
-    let weight = Score::from(weight);
-    let norms = array::from_fn(|id| id as u32);
-    Searcher::new(alloc, schema, segments, Vec::new(alloc), weight, norms)
-}
-
-/// The query for a word of the field, of which frequencies are read.
-pub(super) fn word(alloc: Global, text: &str) -> Result<Box<AnyQuery>, QueryError> {
-    let query = TermQuery::new(term(alloc, text)?, IndexRecordOption::WithFreqs);
-    Ok(Box::new(alloc, AnyQuery::Term(query))?)
-}
-
-/// The queries for these words, in order.
-pub(super) fn words(alloc: Global, texts: &[&str]) -> Result<Vec<Box<AnyQuery>>, QueryError> {
-    let mut queries = Vec::with_capacity(alloc, texts.len())?;
-    for text in texts {
-        queries.push(word(alloc, text)?)?;
-    }
-    Ok(queries)
-}
-
-/// The query for at least one of these words.
-pub(super) fn any_of(alloc: Global, texts: &[&str]) -> Result<Box<AnyQuery>, QueryError> {
-    let query = BooleanQuery::union(alloc, words(alloc, texts)?)?;
-    Ok(Box::new(alloc, AnyQuery::Boolean(query))?)
+    searcher_over(alloc, readers, 1000)
 }

@@ -10,7 +10,7 @@ pub(super) fn term(alloc: Global, text: &str) -> Result<Term, QueryError> {
 
 /// These terms of field 0, in order.
 pub(super) fn terms(alloc: Global, texts: &[&str]) -> Result<Vec<Term>, QueryError> {
-    let mut terms = Vec::with_capacity(alloc, texts.len())?;
+    let mut terms = Vec::new(alloc);
     for text in texts {
         terms.push(term(alloc, text)?)?;
     }
@@ -22,7 +22,7 @@ pub(super) fn placed(
     alloc: Global,
     rows: &[(usize, u32, &str)],
 ) -> Result<Vec<(usize, Term)>, QueryError> {
-    let mut terms = Vec::with_capacity(alloc, rows.len())?;
+    let mut terms = Vec::new(alloc);
     for (offset, field, text) in rows {
         let term = Term::from_field_text(alloc, Field::from_field_id(*field), text)?;
         terms.push((*offset, term))?;
@@ -34,9 +34,7 @@ pub(super) fn placed(
 pub(super) fn spelled(alloc: Global, terms: &[Term]) -> Result<Vec<u8>, QueryError> {
     let mut bytes = Vec::new(alloc);
     for term in terms {
-        for byte in term.serialized_value_bytes() {
-            bytes.push(*byte)?;
-        }
+        bytes.extend_from_slice(term.serialized_value_bytes())?;
         bytes.push(b' ')?;
     }
     Ok(bytes)

@@ -1,43 +1,41 @@
 -- A tree goes on by seeks of what stands below it.
-use Rattle.std.proofs.Common.{rules, drop, true≢false, ◌≡◌, ℕ, ◌+◌, ◌<◌, ◌≤◌, List, [], ◌∷◌, ◌++◌, All, get_or, length, map, set, take, true, arith, refl, sym, ap, subst, ◌∙◌, inl, inr}
+use Rattle.std.proofs.Common.{rules, drop, true≢false, ◌≡◌, ◌+◌, ◌<◌, ◌≤◌, [], ◌∷◌, ◌++◌, All, get_or, length, map, set, take, true, arith, refl, sym, ap, subst, ◌∙◌, inl, inr}
 use Rattle.std.proofs.lemmas.Bool.{cases_lt}
 use Rattle.std.proofs.lemmas.Grind.{take-set_at}
 use Rattle.std.proofs.lemmas.List.{get_or-set_same, length-map, length-set, take_all}
 use Rattle.std.proofs.lemmas.List.Elements.{All-push, All-set}
-use Rattle.qm_docset.specs.Cursor.{IsSeekAnswer, OnFound}
-use Rattle.qm_docset.specs.Entry.{AreEntries, Entry, Limits, from, head_document}
+use Rattle.qm_docset.specs.Cursor.{IsSeekAnswer}
+use Rattle.qm_docset.specs.Entry.{from, head_document}
 use Rattle.qm_docset.specs.EntryFacts.{from-from, from-next, from-reached, head_document-bounds}
 use Rattle.qm_docset.specs.Exclusion.{has_document}
 use Rattle.qm_docset.specs.Gather.{common_entries, scores_at}
 use Rattle.qm_docset.specs.RowFacts.{from-row}
-use Rattle.qm_docset.specs.declared.docset.DocSet.{Ghosts}
-use Rattle.qm_docset.specs.declared.docset.SeekDangerResult.{SeekDangerResult}
-use Rattle.qm_docset.specs.declared.docset.SeekDangerResult.TheVariants.{Found, SeekLowerBound}
 use Rattle.qm_docset.specs.declared.numbers.TheConstants.{TERMINATED}
-use Rattle.qm_docset.proofs.ExclusionLemmas.{has_document-before, has_document-from, has_document-head}
+use Rattle.qm_docset.proofs.ExclusionLemmas.{has_document-before, has_document-head}
 use Rattle.qm_docset.proofs.Gathering.{head_document-from}
 use Rattle.qm_combine.specs.HeldSum.{held_sum}
-use Rattle.qm_combine.specs.SharedSeek.{IsSharedAnswer, StandOn}
+use Rattle.qm_combine.specs.SharedSeek.{StandOn}
 use Rattle.qm_combine.specs.Union.{least_head}
 use Rattle.qm_combine.specs.Without.{without}
-use Rattle.qm_combine.specs.WithoutFacts.{IsKept, from-without, head_document-le, head_document-past, head_document-without, without-asked, without-stepped}
+use Rattle.qm_combine.specs.WithoutFacts.{IsKept, from-without, head_document-le, head_document-past, head_document-without, without-stepped}
 use Rattle.qm_combine.proofs.EachMember.{map-map-set_same, take-map-set_more}
 use Rattle.qm_combine.proofs.Leading.{IsSeekAnswer-shared, common_entries-caught_up, common_entries-cut, common_entries-passed, common_entries-sought, head_document-together, leader_bound-common_entries}
 use Rattle.qm_combine.proofs.Uniting.{least_head-push}
-use Rattle.qm_scorer.specs.Group.{AreStanding, IsGroupNode, group_entries, group_lists}
-use Rattle.qm_scorer.specs.Intersection.{AreTogether, AreTrees, common_list}
-use Rattle.qm_scorer.specs.Tree.{HasRoom, IsTree, IsTreePlaced, tree_entries, tree_limits, tree_top}
+use Rattle.qm_scorer.specs.Group.{IsGroupNode, group_entries, group_lists}
+use Rattle.qm_scorer.specs.Intersection.{AreTrees, common_list}
+use Rattle.qm_scorer.specs.Tree.{HasRoom, IsTree, IsTreePlaced, tree_entries, tree_limits}
 use Rattle.qm_scorer.specs.TreeFacts.{tree-ascends}
 use Rattle.qm_scorer.proofs.Groups.{HasRoom-from, group-ended, group-enough, group-moved, group-passed, group-reached, group-there, least_head-from}
 use Rattle.qm_scorer.proofs.Depth.{most-set, size-Disjunction, size-Intersection, size-Union, size-members, size-others}
 use Rattle.qm_scorer.proofs.Heads.{tree-head}
+use Rattle.qm_scorer.proofs.Moving.{asked, on_found, placed_where, same, still_found}
 use Rattle.qm_scorer.specs.Bare.{IsBounded}
 use Rattle.qm_scorer.specs.BareFacts.{IsBounded-sought}
 use Rattle.qm_scorer.proofs.Opened.{bounded-Intersection, closed-Disjunction, closed-Intersection, closed-Union, entries-Disjunction, entries-Intersection, entries-Union, opened-Disjunction, opened-Intersection, opened-Union, placed-Intersection}
 use Rattle.qm_scorer.specs.declared.any_scorer.AnyScorer as aq
 use Rattle.qm_scorer.specs.declared.group_node.GroupNode.{GroupNode, size-GroupNode}
 use Rattle.qm_scorer.specs.declared.any_scorer.AnyScorer.{AnyScorer, size-AnyScorer}
-use Rattle.qm_scorer.specs.declared.any_scorer.AnyScorer.TheVariants.{Disjunction, Intersection, Union, outs-Disjunction, outs-Intersection, outs-Union}
+use Rattle.qm_scorer.specs.declared.any_scorer.AnyScorer.TheVariants.{Disjunction, Union, outs-Disjunction, outs-Intersection, outs-Union}
 use Rattle.qm_scorer.specs.declared.exclude_node.ExcludeNode as q
 use Rattle.qm_scorer.specs.declared.group_node.GroupNode as gq
 use Rattle.qm_scorer.specs.declared.group_node.Shape.{Shape}
@@ -45,12 +43,6 @@ use Rattle.qm_scorer.specs.declared.intersection_node.IntersectionNode as iq
 use Rattle.qm_scorer.specs.declared.intersection_node.IntersectionNode.{IntersectionNode, size-IntersectionNode}
 use Rattle.qm_scorer.proofs.+moves.Goals as goal
 use Rattle.qm_scorer.proofs.+moves.Goals.{group_node::danger_group-else-doc-target-via-else-doc-target, group_node::danger_group-else-doc-target-via-then-doc-target+else-target-lt-TERMINATED, group_node::seek_group-else-node-target, group_node::seek_group-then-node-target}
-
-same : (d : ℕ) (es left : List Entry) → left ≡ from d es → has_document left d ≡ has_document es d
-same d es left is = ap (λ l. has_document l d) is ∙ has_document-from d d es (omega arith)
-
-asked : (d : ℕ) (limits : Limits) (es out left : List Entry) → AreEntries 0 limits es → d ≡ head_document es → left ≡ from d out → without (has_document left) es ≡ without (has_document out) es
-asked d limits es out left ascends here is = without-asked (has_document left) (has_document out) limits es ascends (λ e past. ap (λ l. has_document l e) is ∙ has_document-from d e out (omega arith))
 
 pub exclude_node::pass_excluded-returns-then-not-contains_document-clause-entries : goal.exclude_node::pass_excluded-returns-then-not-contains_document-clause-entries
 exclude_node::pass_excluded-returns-then-not-contains_document-clause-entries g t c =
@@ -168,11 +160,6 @@ pub any_scorer::reach_tree-returns-else-doc-target-clause-entries : goal.any_sco
 any_scorer::reach_tree-returns-else-doc-target-clause-entries g t c =
     let there : c.args.target ≤ head_document (tree_entries g.S.DocSet c.args.scorer.now) = omega (arith, c.doc_tree-doc.ensures, tree-head g.S.DocSet g.met.S.DocSet.ascending c.args.scorer.now c.requires.valid c.requires.placed) in
     sym (from-reached c.args.target 0 _ _ there (tree-ascends g.S.DocSet g.met.S.DocSet.ascending c.args.scorer.now c.requires.valid))
-
--- where all others were found on the leader's document, the node is placed
-placed_where : {S : Type 0} (D : Ghosts S) (d : ℕ) (n : IntersectionNode S) → d ≡ head_document (tree_entries D n.leader) → IsTreePlaced D n.leader → (answer : SeekDangerResult) → IsSharedAnswer (IsTreePlaced D) (tree_entries D) d n.others.items answer → OnFound answer (AreTogether D n)
-placed_where D d n here leader Found shared = record { leader = leader; others = λ below. subst (λ e. StandOn (IsTreePlaced D) (tree_entries D) e n.others.items) here shared }
-placed_where D d n here leader (SeekLowerBound bound) shared = tt
 
 -- ---- groups
 
@@ -509,16 +496,6 @@ intersection_node::seek_intersection-returns-clause-entries g t c =
 
 -- ---- the arms of the enum
 
--- what holds anyhow holds where the target was found
-on_found : {P : Type 0} (answer : SeekDangerResult) → (answer ≡ answer → P) → OnFound answer P
-on_found Found h = h refl
-on_found (SeekLowerBound bound) h = tt
-
--- and what follows from what holds there does
-still_found : {P Q : Type 0} (answer : SeekDangerResult) → (P → Q) → OnFound answer P → OnFound answer Q
-still_found Found f h = f h
-still_found (SeekLowerBound bound) f h = tt
-
 pub any_scorer::seek_other-seek_group-requires : goal.any_scorer::seek_other-seek_group-requires
 any_scorer::seek_other-seek_group-requires g t c κs within =
     let D = g.S.DocSet in
@@ -531,7 +508,6 @@ pub any_scorer::seek_other-returns-in-Union-clause-head : goal.any_scorer::seek_
 any_scorer::seek_other-returns-in-Union-clause-head g t c =
     let D = g.S.DocSet in
     let node = c.in-Union.node in
-    let value = rw (c.in-Union.is, outs-Union c.in-Union.node) at c.deref_mut-in-Union.ensures.value in
     let new = record node { value = c.seek_group.new.node } in
     rw (c.in-Union.is, outs-Union c.in-Union.node) (c.seek_group.ensures.head ∙ sym (ap head_document (entries-Union D new)))
 
@@ -548,7 +524,6 @@ pub any_scorer::seek_other-returns-in-Union-clause-valid : goal.any_scorer::seek
 any_scorer::seek_other-returns-in-Union-clause-valid g t c =
     let D = g.S.DocSet in
     let node = c.in-Union.node in
-    let value = rw (c.in-Union.is, outs-Union c.in-Union.node) at c.deref_mut-in-Union.ensures.value in
     let new = record node { value = c.seek_group.new.node } in
     rw (c.in-Union.is, outs-Union c.in-Union.node) (closed-Union D new c.seek_group.ensures.valid)
 
@@ -557,8 +532,6 @@ any_scorer::seek_other-returns-in-Union-clause-placed g t c = rw (c.in-Union.is,
 
 pub any_scorer::seek_other-returns-in-Union-clause-top : goal.any_scorer::seek_other-returns-in-Union-clause-top
 any_scorer::seek_other-returns-in-Union-clause-top g t c =
-    let D = g.S.DocSet in
-    let node = c.in-Union.node in
     let value = rw (c.in-Union.is, outs-Union c.in-Union.node) at c.deref_mut-in-Union.ensures.value in
     rw (c.in-Union.is, outs-Union c.in-Union.node) (ap (λ (s : Shape). s.top) c.seek_group.ensures.shape ∙ ap (λ (n : GroupNode g.row.S.Denot). n.shape.top) value)
 
@@ -574,7 +547,6 @@ pub any_scorer::seek_other-returns-in-Disjunction-clause-head : goal.any_scorer:
 any_scorer::seek_other-returns-in-Disjunction-clause-head g t c =
     let D = g.S.DocSet in
     let node = c.in-Disjunction.node in
-    let value = rw (c.in-Disjunction.is, outs-Disjunction c.in-Disjunction.node) at c.deref_mut-in-Disjunction.ensures.value in
     let new = record node { value = c.seek_group-in-Disjunction.new.node } in
     rw (c.in-Disjunction.is, outs-Disjunction c.in-Disjunction.node) (c.seek_group-in-Disjunction.ensures.head ∙ sym (ap head_document (entries-Disjunction D new)))
 
@@ -591,7 +563,6 @@ pub any_scorer::seek_other-returns-in-Disjunction-clause-valid : goal.any_scorer
 any_scorer::seek_other-returns-in-Disjunction-clause-valid g t c =
     let D = g.S.DocSet in
     let node = c.in-Disjunction.node in
-    let value = rw (c.in-Disjunction.is, outs-Disjunction c.in-Disjunction.node) at c.deref_mut-in-Disjunction.ensures.value in
     let new = record node { value = c.seek_group-in-Disjunction.new.node } in
     rw (c.in-Disjunction.is, outs-Disjunction c.in-Disjunction.node) (closed-Disjunction D new c.seek_group-in-Disjunction.ensures.valid)
 
@@ -600,8 +571,6 @@ any_scorer::seek_other-returns-in-Disjunction-clause-placed g t c = rw (c.in-Dis
 
 pub any_scorer::seek_other-returns-in-Disjunction-clause-top : goal.any_scorer::seek_other-returns-in-Disjunction-clause-top
 any_scorer::seek_other-returns-in-Disjunction-clause-top g t c =
-    let D = g.S.DocSet in
-    let node = c.in-Disjunction.node in
     let value = rw (c.in-Disjunction.is, outs-Disjunction c.in-Disjunction.node) at c.deref_mut-in-Disjunction.ensures.value in
     rw (c.in-Disjunction.is, outs-Disjunction c.in-Disjunction.node) (ap (λ (s : Shape). s.top) c.seek_group-in-Disjunction.ensures.shape ∙ ap (λ (n : GroupNode g.row.S.Denot). n.shape.top) value)
 
@@ -617,7 +586,6 @@ pub any_scorer::seek_other-returns-in-Intersection-clause-head : goal.any_scorer
 any_scorer::seek_other-returns-in-Intersection-clause-head g t c =
     let D = g.S.DocSet in
     let node = c.in-Intersection.node in
-    let value = rw (c.in-Intersection.is, outs-Intersection c.in-Intersection.node) at c.deref_mut-in-Intersection.ensures.value in
     let new = record node { value = c.seek_intersection.new.node } in
     rw (c.in-Intersection.is, outs-Intersection c.in-Intersection.node) (c.seek_intersection.ensures.head ∙ sym (ap head_document (entries-Intersection D new)))
 
@@ -645,14 +613,11 @@ pub any_scorer::seek_other-returns-in-Intersection-clause-placed : goal.any_scor
 any_scorer::seek_other-returns-in-Intersection-clause-placed g t c =
     let D = g.S.DocSet in
     let node = c.in-Intersection.node in
-    let value = rw (c.in-Intersection.is, outs-Intersection c.in-Intersection.node) at c.deref_mut-in-Intersection.ensures.value in
     let new = record node { value = c.seek_intersection.new.node } in
     rw (c.in-Intersection.is, outs-Intersection c.in-Intersection.node) (placed-Intersection D new c.seek_intersection.ensures.placed)
 
 pub any_scorer::seek_other-returns-in-Intersection-clause-top : goal.any_scorer::seek_other-returns-in-Intersection-clause-top
 any_scorer::seek_other-returns-in-Intersection-clause-top g t c =
-    let D = g.S.DocSet in
-    let node = c.in-Intersection.node in
     let value = rw (c.in-Intersection.is, outs-Intersection c.in-Intersection.node) at c.deref_mut-in-Intersection.ensures.value in
     rw (c.in-Intersection.is, outs-Intersection c.in-Intersection.node) (c.seek_intersection.ensures.top ∙ ap (λ (n : IntersectionNode g.row.S.Denot). n.top) value)
 
@@ -668,7 +633,6 @@ pub any_scorer::danger_other-returns-in-Union-clause-answer : goal.any_scorer::d
 any_scorer::danger_other-returns-in-Union-clause-answer g t c =
     let D = g.S.DocSet in
     let node = c.in-Union.node in
-    let value = rw (c.in-Union.is, outs-Union c.in-Union.node) at c.deref_mut-in-Union.ensures.value in
     let new = record node { value = c.danger_group.new.node } in
     rw (c.in-Union.is, outs-Union c.in-Union.node) (subst (λ es. IsSeekAnswer c.args.target es c.danger_group.result) (sym (entries-Union D new)) c.danger_group.ensures.answer)
 
@@ -685,7 +649,6 @@ pub any_scorer::danger_other-returns-in-Union-clause-valid : goal.any_scorer::da
 any_scorer::danger_other-returns-in-Union-clause-valid g t c =
     let D = g.S.DocSet in
     let node = c.in-Union.node in
-    let value = rw (c.in-Union.is, outs-Union c.in-Union.node) at c.deref_mut-in-Union.ensures.value in
     let new = record node { value = c.danger_group.new.node } in
     rw (c.in-Union.is, outs-Union c.in-Union.node) (closed-Union D new c.danger_group.ensures.valid)
 
@@ -694,8 +657,6 @@ any_scorer::danger_other-returns-in-Union-clause-placed g t c = rw (c.in-Union.i
 
 pub any_scorer::danger_other-returns-in-Union-clause-top : goal.any_scorer::danger_other-returns-in-Union-clause-top
 any_scorer::danger_other-returns-in-Union-clause-top g t c =
-    let D = g.S.DocSet in
-    let node = c.in-Union.node in
     let value = rw (c.in-Union.is, outs-Union c.in-Union.node) at c.deref_mut-in-Union.ensures.value in
     rw (c.in-Union.is, outs-Union c.in-Union.node) (ap (λ (s : Shape). s.top) c.danger_group.ensures.shape ∙ ap (λ (n : GroupNode g.row.S.Denot). n.shape.top) value)
 
@@ -711,7 +672,6 @@ pub any_scorer::danger_other-returns-in-Disjunction-clause-answer : goal.any_sco
 any_scorer::danger_other-returns-in-Disjunction-clause-answer g t c =
     let D = g.S.DocSet in
     let node = c.in-Disjunction.node in
-    let value = rw (c.in-Disjunction.is, outs-Disjunction c.in-Disjunction.node) at c.deref_mut-in-Disjunction.ensures.value in
     let new = record node { value = c.danger_group-in-Disjunction.new.node } in
     rw (c.in-Disjunction.is, outs-Disjunction c.in-Disjunction.node) (subst (λ es. IsSeekAnswer c.args.target es c.danger_group-in-Disjunction.result) (sym (entries-Disjunction D new)) c.danger_group-in-Disjunction.ensures.answer)
 
@@ -728,7 +688,6 @@ pub any_scorer::danger_other-returns-in-Disjunction-clause-valid : goal.any_scor
 any_scorer::danger_other-returns-in-Disjunction-clause-valid g t c =
     let D = g.S.DocSet in
     let node = c.in-Disjunction.node in
-    let value = rw (c.in-Disjunction.is, outs-Disjunction c.in-Disjunction.node) at c.deref_mut-in-Disjunction.ensures.value in
     let new = record node { value = c.danger_group-in-Disjunction.new.node } in
     rw (c.in-Disjunction.is, outs-Disjunction c.in-Disjunction.node) (closed-Disjunction D new c.danger_group-in-Disjunction.ensures.valid)
 
@@ -737,8 +696,6 @@ any_scorer::danger_other-returns-in-Disjunction-clause-placed g t c = rw (c.in-D
 
 pub any_scorer::danger_other-returns-in-Disjunction-clause-top : goal.any_scorer::danger_other-returns-in-Disjunction-clause-top
 any_scorer::danger_other-returns-in-Disjunction-clause-top g t c =
-    let D = g.S.DocSet in
-    let node = c.in-Disjunction.node in
     let value = rw (c.in-Disjunction.is, outs-Disjunction c.in-Disjunction.node) at c.deref_mut-in-Disjunction.ensures.value in
     rw (c.in-Disjunction.is, outs-Disjunction c.in-Disjunction.node) (ap (λ (s : Shape). s.top) c.danger_group-in-Disjunction.ensures.shape ∙ ap (λ (n : GroupNode g.row.S.Denot). n.shape.top) value)
 
@@ -754,7 +711,6 @@ pub any_scorer::danger_other-returns-in-Intersection-clause-answer : goal.any_sc
 any_scorer::danger_other-returns-in-Intersection-clause-answer g t c =
     let D = g.S.DocSet in
     let node = c.in-Intersection.node in
-    let value = rw (c.in-Intersection.is, outs-Intersection c.in-Intersection.node) at c.deref_mut-in-Intersection.ensures.value in
     let new = record node { value = c.danger_intersection.new.node } in
     rw (c.in-Intersection.is, outs-Intersection c.in-Intersection.node) (subst (λ es. IsSeekAnswer c.args.target es c.danger_intersection.result) (sym (entries-Intersection D new)) c.danger_intersection.ensures.answer)
 
@@ -785,8 +741,6 @@ any_scorer::danger_other-returns-in-Intersection-clause-placed g t c =
 
 pub any_scorer::danger_other-returns-in-Intersection-clause-top : goal.any_scorer::danger_other-returns-in-Intersection-clause-top
 any_scorer::danger_other-returns-in-Intersection-clause-top g t c =
-    let D = g.S.DocSet in
-    let node = c.in-Intersection.node in
     let value = rw (c.in-Intersection.is, outs-Intersection c.in-Intersection.node) at c.deref_mut-in-Intersection.ensures.value in
     rw (c.in-Intersection.is, outs-Intersection c.in-Intersection.node) (c.danger_intersection.ensures.top ∙ ap (λ (n : IntersectionNode g.row.S.Denot). n.top) value)
 

@@ -8,8 +8,18 @@ use std::process::Abort;
 use std::rt::Env;
 use std::test::Fail;
 
+// A script with every kind of line, whose last four are queries.
 const SCRIPT: &[u8] =
-    b"doc a b\ndoc b c\nsegment\ndoc a b c\nweight a 500\ndocs bool 0 2 + term b + term a\nscores term a\n";
+    b"doc a b\ndoc b c\nsegment\ndoc a b c\ndelete 1\nweight a 500\ndocs bool 0 2 + term b + term a\nscores term a\ncount term b\nprune 130 term a\n";
+
+// The number of each query's line, and its answer: 500 / 3 and 500 / 4; two of three documents, and the
+// score that is above 130.
+const ANSWERS: [(u32, &str); 4] = [
+    (7, "0 2\n"),
+    (8, "0:166 2:125\n"),
+    (9, "2\n"),
+    (10, "0:166\n"),
+];
 
 /// From now on the request of this number is refused, counted from 1; none is where it is 0.
 fn refuse(alloc: Global, number: u32) {
@@ -25,36 +35,72 @@ fn can_refuse(rt: &(impl Abort + AllocGlobal + Env)) -> bool {
     is_refused
 }
 
+// What is written where there is no memory for the query on this line; for all others there is.
+fn text_without(alloc: Global, refused: u32) -> Result<String, Fail> {
+    let mut text = String::new(alloc);
+    for (line, answer) in ANSWERS {
+        if line == refused {
+            write!(text, "line {line}: refused 13\n")?;
+        } else {
+            text.push_str(answer)?;
+        }
+    }
+    Ok(text)
+}
+
+// Notes the query whose line alone was refused, which is one of them.
+fn note_refused(
+    rt: &(impl Abort + AllocGlobal),
+    output: &[u8],
+    are_seen: &mut [bool; 4],
+) -> Result<(), Fail> {
+    let mut is_one = false;
+    for (is_seen, (line, _)) in are_seen.iter_mut().zip(ANSWERS) {
+        if output == text_without(rt.alloc(), line)?.as_bytes() {
+            *is_seen = true;
+            is_one = true;
+        }
+    }
+    assert!(rt; is_one);
+    Ok(())
+}
+
+// How a run of the script ends whose request of this number is refused, and what it writes.
+fn run_without(alloc: Global, number: u32) -> Result<(Result<u8, RunError>, Vec<u8>), Fail> {
+    let mut input = SCRIPT;
+    let mut output = Vec::with_capacity(alloc, 100)?;
+    refuse(alloc, number);
+    let ended = run(alloc, &mut input, &mut output);
+    refuse(alloc, 0);
+    Ok((ended, output))
+}
+
+// Whether the output has whole lines from the first on.
+fn has_first_lines(whole: &[u8], output: &[u8]) -> bool {
+    whole.starts_with(output) && (output.is_empty() || output.ends_with(b"\n"))
+}
+
 #[test]
 fn each_request_for_memory_is_refused_in_turn(rt: HostRuntime) -> Result<(), Fail> {
     if !can_refuse(&rt) {
         return Ok(());
     }
-    let mut refused_lines = 0u32;
+    let whole = text_without(rt.alloc(), 0)?;
+    let mut are_seen = [false; 4];
     for number in 1..1000 {
-        let mut input = SCRIPT;
-        let mut output = Vec::with_capacity(rt.alloc(), 100)?;
-        refuse(rt.alloc(), number);
-        let ended = run(rt.alloc(), &mut input, &mut output);
-        refuse(rt.alloc(), 0);
+        let (ended, output) = run_without(rt.alloc(), number)?;
         match ended {
             // refused where a query is answered
-            Ok(1) => {
-                let first: &[u8] = b"line 6: refused 13\n0:166 2:125\n";
-                let second: &[u8] = b"0 2\nline 7: refused 13\n";
-                assert!(rt; output.as_slice() == first || output.as_slice() == second);
-                refused_lines = refused_lines.saturating_add(1);
-            }
+            Ok(1) => note_refused(&rt, output.as_slice(), &mut are_seen)?,
             // refused where the program itself grows
-            Err(error) => {
-                assert_eq!(rt; error, RunError::Memory);
-                assert!(rt; output.is_empty() || output.as_slice() == b"0 2\n".as_slice());
+            Err(RunError::Memory) => {
+                assert!(rt; has_first_lines(whole.as_bytes(), output.as_slice()));
             }
             // no request was left to refuse
-            Ok(status) => {
-                assert_eq!(rt; status, 0);
-                assert_eq!(rt; output.as_slice(), b"0 2\n0:166 2:125\n".as_slice());
-                assert!(rt; number > 5 && refused_lines > 2);
+            ended => {
+                assert_eq!(rt; ended, Ok(0));
+                assert_eq!(rt; output.as_slice(), whole.as_bytes());
+                assert!(rt; number > 5 && are_seen == [true; 4]);
                 return Ok(());
             }
         }

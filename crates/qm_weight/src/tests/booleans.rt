@@ -1,12 +1,13 @@
 //! Weights with other weights inside, over a segment of three documents, which are "a a", "b" and "a b c".
 
+use crate::tests::callers::collect_matches;
 use crate::tests::weights::{assert_lists, segment, term};
 use crate::{AllWeight, AnyWeight, BooleanWeight, BoostWeight, ConstWeight, EmptyWeight, Weight};
 use qm_combine::{DisjunctionMaxCombiner, EmptyScorer, SumCombiner};
 use qm_docset::{DocId, Score};
 use qm_schema::{IndexRecordOption, Occur, QueryError};
 use qm_scorer::{AnyCombiner, AnyScorer};
-use std::alloc::Global;
+use std::alloc::{AllocError, Global};
 use std::process::Abort;
 use std::test::Fail;
 
@@ -170,33 +171,52 @@ fn a_boost_over_the_greatest_of_constants(rt: HostRuntime) -> Result<(), Fail> {
     assert_everywhere(&rt, &AnyWeight::Boost(weight), Some(7))
 }
 
-#[test]
-fn scores_past_the_greatest(rt: HostRuntime) -> Result<(), Fail> {
+// Asserts that a weight's scorer and its run are refused for the scores of their documents.
+fn assert_past_the_greatest<W: Weight>(
+    rt: &(impl Abort + AllocGlobal),
+    weight: &W,
+) -> Result<(), Fail> {
     let reader = segment(rt.alloc())?;
+    let scorer: Result<AnyScorer<'_, EmptyScorer>, QueryError> = weight.scorer(
+        rt.alloc(),
+        &reader,
+        1,
+    );
+    assert_eq!(rt; scorer.err(), Some(QueryError::ScoreBound));
+    let found = collect_matches(rt.alloc(), weight, &reader);
+    assert_eq!(rt; found.err(), Some(QueryError::ScoreBound));
+    Ok(())
+}
+
+#[test]
+fn a_boost_past_the_greatest(rt: HostRuntime) -> Result<(), Fail> {
     let heavy = AnyWeight::Term(term(rt.alloc(), "a", IndexRecordOption::Basic, 2)?);
     let boosted = BoostWeight::new(Box::new(rt.alloc(), heavy)?, Score::MAX);
-    let scorer: Result<AnyScorer<'_, EmptyScorer>, QueryError> = boosted.scorer(
-        rt.alloc(),
-        &reader,
-        1,
-    );
-    assert_eq!(&rt; scorer.err(), Some(QueryError::ScoreBound));
+    assert_past_the_greatest(&rt, &boosted)
+}
 
-    let all = Box::new(rt.alloc(), AnyWeight::All(AllWeight))?;
-    assert_everywhere(&rt, &ConstWeight::new(all, Score::MAX), Some(Score::MAX))?;
+// Every document, with the greatest score.
+fn greatest_constant(alloc: Global) -> Result<ConstWeight, AllocError> {
+    let all = Box::new(alloc, AnyWeight::All(AllWeight))?;
+    Ok(ConstWeight::new(all, Score::MAX))
+}
 
-    let mut clauses = Vec::new(rt.alloc());
+#[test]
+fn the_greatest_constant(rt: HostRuntime) -> Result<(), Fail> {
+    assert_everywhere(&rt, &greatest_constant(rt.alloc())?, Some(Score::MAX))
+}
+
+// The sum of the greatest score with itself.
+fn greatest_twice(alloc: Global) -> Result<BooleanWeight, QueryError> {
+    let mut clauses = Vec::new(alloc);
     for _ in 0..2 {
-        let all = Box::new(rt.alloc(), AnyWeight::All(AllWeight))?;
-        let constant = AnyWeight::Const(ConstWeight::new(all, Score::MAX));
-        clauses.push((Occur::Should, Box::new(rt.alloc(), constant)?))?;
+        let constant = AnyWeight::Const(greatest_constant(alloc)?);
+        clauses.push((Occur::Should, Box::new(alloc, constant)?))?;
     }
-    let both = BooleanWeight::new(clauses, true, sum());
-    let scorer: Result<AnyScorer<'_, EmptyScorer>, QueryError> = both.scorer(
-        rt.alloc(),
-        &reader,
-        1,
-    );
-    assert_eq!(&rt; scorer.err(), Some(QueryError::ScoreBound));
-    Ok(())
+    Ok(BooleanWeight::new(clauses, true, sum()))
+}
+
+#[test]
+fn a_sum_past_the_greatest(rt: HostRuntime) -> Result<(), Fail> {
+    assert_past_the_greatest(&rt, &greatest_twice(rt.alloc())?)
 }

@@ -1,4 +1,4 @@
-use Rattle.std.proofs.Common.{rules, refl}
+use Rattle.std.proofs.Common.{rules}
 use Rattle.qm_query.specs.declared.any_query.AnyQuery as q
 use Rattle.qm_query.specs.Query.{disjunction_max_of, disjuncts_of}
 use Rattle.qm_query.proofs.Rows.{row_disjuncts-items}

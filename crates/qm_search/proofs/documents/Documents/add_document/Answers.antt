@@ -30,6 +30,7 @@ invariant_of-self-2 c =
     ∙ ap (segment_of taken.schema) (sym (ap (drop taken.built) pushed ∙ drop-append-le taken.built texts (text ∷ []) built)) in
     let good : IsGood taken.schema (text_draft (string_bytes text)) = subst (λ t. IsGood taken.schema (text_draft t)) c.as_str.ensures.value (subst (λ s. IsGood s.schema (text_draft c.as_str.result.now)) builder c.in_ok-added.ensures.good) in
     record {
+      fields = taken.fields;
       within = taken.within;
       some_built = omega (arith, taken.some_built, longer);
       few = omega (arith, longer, same, c.in_ok-reserve.ensures.len);

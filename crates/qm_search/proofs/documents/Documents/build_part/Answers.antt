@@ -3,7 +3,8 @@ use Rattle.std.proofs.lemmas.List.{drop-append-le, take-append-le}
 use Rattle.qm_docset.specs.declared.numbers.TheConstants.{TERMINATED}
 use Rattle.qm_search.specs.Parts.{AreParts, document_count}
 use Rattle.qm_search.specs.TextSegments.{segment_of}
-use Rattle.qm_search.proofs.PartLemmas.{AreParts-push, joined-of, parts-from, schemas-of, segments_of}
+use Rattle.qm_search.specs.Found.{segments_of}
+use Rattle.qm_search.proofs.PartLemmas.{AreParts-push, joined-of, parts-from, schemas-of}
 use Rattle.qm_search.proofs.documents.Documents.build_part.Goals as goal
 
 pub invariant_of-self-2 : goal.invariant_of-self-2
@@ -27,6 +28,7 @@ invariant_of-self-2 c =
     let are = subst (λ rs. AreParts (segment_of taken.schema (take len texts)) (segments_of rs)) (sym behind) more in
     let front : take taken.ended c.push.new.self.items ≡ take taken.ended readers = ap (take taken.ended) pushed ∙ take-append-le taken.ended readers (part ∷ []) ended in
     record {
+      fields = taken.fields;
       within = omega (arith, taken.within, longer);
       some_built = omega (arith, c.len-self.ensures);
       few = taken.few;

@@ -1,11 +1,12 @@
-use Rattle.std.proofs.Common.{◌≡◌, List, [], ◌+◌, ◌≤◌, ◌∷◌, ◌++◌, ap, sym, ◌∙◌, arith, drop, take, length, map, vec_len, string_bytes}
+use Rattle.std.proofs.Common.{◌≡◌, ℕ, List, [], ◌+◌, ◌≤◌, ◌∷◌, ◌++◌, ap, sym, ◌∙◌, arith, drop, take, length, map, vec_len, string_bytes}
 use Rattle.std.proofs.lemmas.List.{drop_all, length-drop, length-map, length-take-le, map-append, take_all}
 use Rattle.qm_docset.specs.declared.numbers.TheConstants.{TERMINATED}
 use Rattle.qm_postings.specs.Segment.{Segment}
 use Rattle.qm_search.specs.ScriptSegments.{Script, with_segment_ended}
 use Rattle.qm_search.specs.Parts.{document_count, joined}
 use Rattle.qm_search.specs.TextSegments.{segment_of, text_document}
-use Rattle.qm_search.proofs.PartLemmas.{count-push, segments_of}
+use Rattle.qm_search.specs.Found.{segments_of}
+use Rattle.qm_search.proofs.PartLemmas.{count-push}
 use Rattle.qm_search.proofs.documents.Documents.end_segment.Goals as goal
 
 pub invariant_of-self-2 : goal.invariant_of-self-2
@@ -26,6 +27,7 @@ invariant_of-self-2 c =
     take_all (taken.ended + 1) c.push.new.self.items all ∙ pushed ∙ ap (λ rs. rs ++ segment ∷ []) (sym (take_all taken.ended readers (omega (arith, none, taken.segments.ok.0)))) in
     let count = ap (λ rs. document_count (segments_of rs)) front ∙ count-push (take taken.ended readers) segment in
     record {
+      fields = taken.fields;
       within = omega (arith, taken.within, longer);
       some_built = omega arith;
       few = omega (arith, c.clear.ensures.len);
@@ -57,5 +59,9 @@ returns-clause-ended c =
     ap segments_of front ∙ map-append (λ r. r.segment) (take before.ended before.segments.items) (segment ∷ []) ∙ ap (λ s. segments_of (take before.ended before.segments.items) ++ s ∷ []) whole in
     let current : segment_of taken.schema c.clear.new.self.items ≡ segment_of before.schema [] =
     ap (λ s. segment_of s c.clear.new.self.items) c.take_builder.ensures.schema ∙ ap (segment_of before.schema) c.clear.ensures.items in
-    let made : List Segment → Segment → Script = λ es s. record { ended = es; current = s } in
-    ap (λ es. made es (segment_of taken.schema c.clear.new.self.items)) ended ∙ ap (made (segments_of (take before.ended before.segments.items) ++ segment_of before.schema before.texts.items ∷ [])) current ∙ ap with_segment_ended c.take_parts_back.ensures.script
+    let made : List Segment → Segment → List ℕ → Script = λ es s ds. record { ended = es; current = s; deleted = ds } in
+    let whole_ended = segments_of (take before.ended before.segments.items) ++ segment_of before.schema before.texts.items ∷ [] in
+    ap (λ es. made es (segment_of taken.schema c.clear.new.self.items) taken.deleted.keys) ended
+    ∙ ap (λ s. made whole_ended s taken.deleted.keys) current
+    ∙ ap (λ d. made whole_ended (segment_of before.schema []) d.keys) c.take_builder.ensures.deleted
+    ∙ ap with_segment_ended c.take_parts_back.ensures.script

@@ -2,7 +2,8 @@ use Rattle.std.proofs.Common.{◌≡◌, ap, sym, ◌∙◌, arith, drop, take, 
 use Rattle.std.proofs.lemmas.List.{length-drop, length-map, map-append, take-append-drop, take_all}
 use Rattle.qm_search.specs.Parts.{AreParts}
 use Rattle.qm_search.specs.TextSegments.{segment_of, text_document}
-use Rattle.qm_search.proofs.PartLemmas.{few-segments, parts-from, segments_of}
+use Rattle.qm_search.specs.Found.{segments_of}
+use Rattle.qm_search.proofs.PartLemmas.{few-segments, parts-from}
 use Rattle.qm_search.proofs.documents.Documents.segments.Goals as goal
 
 pub returns-clause-segments : goal.returns-clause-segments

@@ -3,7 +3,8 @@ use Rattle.std.proofs.lemmas.List.{take-take}
 use Rattle.qm_docset.specs.declared.numbers.TheConstants.{TERMINATED}
 use Rattle.qm_search.specs.Parts.{AreParts, document_count}
 use Rattle.qm_search.specs.TextSegments.{segment_of}
-use Rattle.qm_search.proofs.PartLemmas.{AreParts-back, built-back, joined-of, parts-from, row-back, schemas-of, segments_of}
+use Rattle.qm_search.specs.Found.{segments_of}
+use Rattle.qm_search.proofs.PartLemmas.{AreParts-back, built-back, joined-of, parts-from, row-back, schemas-of}
 use Rattle.qm_search.proofs.documents.Documents.take_last_part_back.Goals as goal
 
 pub overflow_sub-self : goal.overflow_sub-self
@@ -34,6 +35,7 @@ invariant_of-self c =
     let left = subst (λ rs. AreParts (segment_of self.schema (take (self.built - len) self.texts.items)) (segments_of (drop self.ended rs))) (sym c.truncate.ensures.items) back in
     let front : take self.ended c.truncate.new.self.items ≡ take self.ended readers = ap (take self.ended) c.truncate.ensures.items ∙ take-take self.ended last readers below in
     record {
+      fields = self.fields;
       within = omega (arith, c.truncate.ensures.len, c.len-last.ensures, c.requires);
       some_built = omega (arith, self.some_built);
       few = self.few;

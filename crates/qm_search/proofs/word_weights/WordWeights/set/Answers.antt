@@ -1,8 +1,8 @@
-use Rattle.std.proofs.Common.{◌≡◌, ℕ, cond, Some, nat_abs, sym, ap, ◌∙◌}
+use Rattle.std.proofs.Common.{cond, Some, nat_abs, sym, ap, ◌∙◌}
 use Rattle.std.specs.BTreeMap as tree
-use Rattle.std.specs.FinMap.{get, get-insert, insert, same_map}
+use Rattle.std.specs.FinMap.{get-insert, insert, same_map}
 use Rattle.std.specs.Option.{option_map}
-use Rattle.qm_schema.specs.Term.{TermKey, term_cmp, term_cmp_total, term_cmp_antisymmetric, term_eq_laws}
+use Rattle.qm_schema.specs.Term.{term_cmp, term_cmp_total, term_cmp_antisymmetric, term_eq_laws}
 use Rattle.qm_search.specs.Weights.{given}
 use Rattle.qm_search.proofs.GivenWeights.{get-given, map-either, whole_score}
 use Rattle.qm_search.proofs.word_weights.WordWeights.set.Goals as goal
