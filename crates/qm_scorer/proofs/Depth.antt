@@ -1,5 +1,5 @@
 -- A node whose members are replaced by others that are no deeper is no deeper.
-use Rattle.std.proofs.Common.{rules, ◌≡◌, ℕ, zero, suc, ◌+◌, ◌<◌, ◌≤◌, List, [], ◌∷◌, get_or, length, max, set, ap, arith}
+use Rattle.std.proofs.Common.{rules, ◌≡◌, ℕ, zero, suc, ◌<◌, ◌≤◌, List, [], ◌∷◌, get_or, length, set, ap, arith}
 use Rattle.std.specs.declared.boxed.Box.{Box}
 use denote.Param.Weighed.{most}
 use Rattle.qm_scorer.specs.declared.any_scorer.AnyScorer as q

@@ -1,9 +1,9 @@
 -- The document that a placed tree stands on is the first that it lists.
-use Rattle.std.specs.Prelude.{◌≡◌, ℕ, ◌*◌, ◌<◌, ◌≤◌, List, [], ◌∷◌, ◌++◌, map, length, All}
-use Rattle.std.proofs.Common.{suc, arith, refl, sym, ap, ◌∙◌, subst}
+use Rattle.std.specs.Prelude.{◌≡◌, ℕ, ◌*◌, ◌<◌, ◌≤◌, List, [], ◌∷◌, map, All}
+use Rattle.std.proofs.Common.{arith, refl, sym, ap, ◌∙◌, subst}
 use Rattle.std.proofs.lemmas.List.Elements.{All-cons, All-head, All-nil, All-tail}
-use Rattle.qm_docset.specs.Entry.{AreEntries, Entry, Limits, greatest_score, head_document, head_score}
-use Rattle.qm_docset.specs.Gather.{AreMembers, common_entries}
+use Rattle.qm_docset.specs.Entry.{AreEntries, greatest_score, head_document, head_score}
+use Rattle.qm_docset.specs.Gather.{common_entries}
 use Rattle.qm_docset.specs.declared.docset.DocSet.{Ghosts}
 use Rattle.qm_docset.specs.declared.numbers.TheConstants.{TERMINATED}
 use Rattle.qm_combine.proofs.Leading.{head_document-together}

@@ -1,14 +1,13 @@
 -- A node that holds a row of trees, as a tree and as the node itself.
-use Rattle.std.proofs.Common.{rules, ◌≡◌, ◌<◌, List, ◌∷◌, All, map, refl, sym, ap, subst, ◌∙◌}
+use Rattle.std.proofs.Common.{rules, ◌≡◌, ◌∷◌, All, map, sym, ap, subst, ◌∙◌}
 use Rattle.std.specs.declared.boxed.Box.{Box}
 use Rattle.std.proofs.lemmas.List.Elements.{All-map}
-use Rattle.qm_docset.specs.Entry.{Entry, head_document}
+use Rattle.qm_docset.specs.Entry.{head_document}
 use Rattle.qm_docset.specs.Gather.{common_entries}
-use Rattle.qm_docset.specs.declared.numbers.TheConstants.{TERMINATED}
 use Rattle.qm_combine.specs.HeldSum.{held_sum}
 use Rattle.qm_scorer.specs.Bare.{IsBounded}
 use Rattle.qm_docset.specs.declared.docset.DocSet.{Ghosts}
-use Rattle.qm_scorer.specs.Group.{IsGroupNode, group_entries, group_lists}
+use Rattle.qm_scorer.specs.Group.{IsGroupNode, group_entries}
 use Rattle.qm_scorer.specs.Intersection.{AreTogether, AreTrees, common_list}
 use Rattle.qm_scorer.specs.Tree.{IsGroup, IsTree, IsTreePlaced, tree_entries}
 use Rattle.qm_scorer.specs.declared.any_scorer.AnyScorer as q

@@ -1,8 +1,8 @@
 -- Runs look at documents and scores alone, and slices at documents.
 use Rattle.std.specs.Prelude.{◌≡◌, ℕ, ℤ, List, [], ◌∷◌}
 use Rattle.std.specs.List.{concat}
-use Rattle.std.proofs.Common.{refl, sym, subst, ◌∙◌}
-use Rattle.qm_docset.specs.Entry.{Entry, documents}
+use Rattle.std.proofs.Common.{refl, sym, subst}
+use Rattle.qm_docset.specs.Entry.{Entry}
 use Rattle.qm_postings.specs.Segment.{Segment}
 use Rattle.qm_scorer.specs.Bare.{bare}
 use Rattle.qm_term.specs.Runs.{MayPrune, Plain, slices}

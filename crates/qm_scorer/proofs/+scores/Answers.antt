@@ -1,7 +1,7 @@
 -- Scores of the document that a tree stands on.
-use Rattle.std.proofs.Common.{rules, ◌≡◌, ℕ, ◌+◌, ◌<◌, ◌≤◌, List, [], ◌∷◌, All, fold, get_or, length, map, min, take, arith, refl, sym, ap, subst, ◌∙◌}
+use Rattle.std.proofs.Common.{rules, ◌≡◌, ℕ, ◌+◌, ◌<◌, ◌≤◌, List, [], ◌∷◌, fold, get_or, length, map, min, take, arith, refl, sym, ap, subst, ◌∙◌}
 use Rattle.std.specs.List.{sum}
-use Rattle.std.proofs.lemmas.List.{get_or-map, get_or_read_under, length-map, take_all}
+use Rattle.std.proofs.lemmas.List.{get_or_read_under, length-map, take_all}
 use Rattle.std.proofs.lemmas.List.Elements.{All-get_or, All-set}
 use Rattle.std.proofs.lemmas.List.Sums.{fold-append, sum_by-cons, sum_by_more}
 use Rattle.qm_docset.specs.Entry.{Entry, from, greatest_score, head_document, head_score}
@@ -21,9 +21,9 @@ use Rattle.qm_combine.proofs.Uniting.{least_head-le, scores_at-more, scores_at-m
 use Rattle.qm_scorer.specs.AnyCombiner.{AnyHasRoom, any_cleared, any_step}
 use Rattle.qm_scorer.specs.AnyCombinerFacts.{any-room}
 use Rattle.qm_scorer.specs.Bare.{IsBounded}
-use Rattle.qm_scorer.specs.Group.{IsGroupNode, group_entries, group_lists}
+use Rattle.qm_scorer.specs.Group.{IsGroupNode, group_entries}
 use Rattle.qm_scorer.specs.Intersection.{AreTogether, AreTrees, common_list}
-use Rattle.qm_scorer.specs.Tree.{HasRoom, IsTree, IsTreePlaced, gathered_list, tree_entries, tree_head, tree_limits, tree_top}
+use Rattle.qm_scorer.specs.Tree.{HasRoom, IsTree, IsTreePlaced, gathered_list, tree_entries, tree_head, tree_limits}
 use Rattle.qm_scorer.specs.TreeFacts.{tree-ascends}
 use Rattle.qm_scorer.specs.declared.any_scorer.AnyScorer as aq
 use Rattle.qm_scorer.specs.declared.any_scorer.AnyScorer.{AnyScorer, size-AnyScorer}

@@ -1,8 +1,8 @@
 use Rattle.std.proofs.Common.{◌≡◌, ◌+◌, ◌≤◌, All, fold, map, min, sum, take}
-use Rattle.qm_docset.specs.Entry.{greatest_score, head_document, head_score}
+use Rattle.qm_docset.specs.Entry.{greatest_score, head_score}
 use Rattle.qm_docset.specs.Gather.{scores_at}
 use Rattle.qm_scorer.specs.AnyCombiner.{any_cleared, any_step}
-use Rattle.qm_scorer.specs.Group.{AreStanding, group_lists}
+use Rattle.qm_scorer.specs.Group.{group_lists}
 use Rattle.qm_scorer.specs.Intersection.{other_lists}
 use Rattle.qm_scorer.specs.Tree.{IsTree, IsTreePlaced, tree_entries, tree_head}
 use Rattle.qm_scorer.specs.declared.group_node.GroupNode.{size-GroupNode}

@@ -10,7 +10,7 @@ use Rattle.qm_scorer.specs.PassingFacts.{IsBounded-left}
 use Rattle.qm_scorer.specs.Tree.{IsTree, IsTreePlaced, tree_entries, tree_limits}
 use Rattle.qm_scorer.specs.TreeFacts.{tree-ascends}
 use Rattle.qm_scorer.specs.declared.any_scorer.AnyScorer as aq
-use Rattle.qm_scorer.specs.declared.any_scorer.AnyScorer.TheVariants.{Intersection, outs-Intersection}
+use Rattle.qm_scorer.specs.declared.any_scorer.AnyScorer.TheVariants.{outs-Intersection}
 use Rattle.qm_scorer.specs.declared.intersection_node.IntersectionNode.{IntersectionNode}
 use Rattle.qm_scorer.proofs.Opened.{bounded-Intersection, closed-Intersection, entries-Intersection, opened-Intersection, placed-Intersection, standing-Intersection}
 use Rattle.qm_scorer.proofs.+steps.Goals as goal

@@ -1,5 +1,5 @@
 -- A node in a box lists what it did.
-use Rattle.std.proofs.Common.{◌≡◌, max, sym, ap, subst, ◌∙◌}
+use Rattle.std.proofs.Common.{max, sym, ap, subst, ◌∙◌}
 use Rattle.qm_scorer.specs.Bare.{scores_to}
 use Rattle.qm_scorer.specs.Group.{IsGroupNode, group_entries}
 use Rattle.qm_scorer.specs.declared.group_node.GroupNode.{GroupNode}
