@@ -1,9 +1,9 @@
 -- A node whose members are replaced by others that are no deeper is no deeper.
-use Rattle.std.proofs.Common.{rules, ◌≡◌, ℕ, zero, suc, ◌<◌, ◌≤◌, List, [], ◌∷◌, get_or, length, set, ap, arith}
+use Rattle.std.proofs.Common.{rules, ℕ, zero, suc, ◌<◌, ◌≤◌, List, [], ◌∷◌, get_or, length, set, arith}
 use Rattle.std.specs.declared.boxed.Box.{Box}
 use denote.Param.Weighed.{most}
 use Rattle.qm_scorer.specs.declared.any_scorer.AnyScorer as q
-use Rattle.qm_scorer.specs.declared.any_scorer.AnyScorer.{AnyScorer, size-AnyScorer}
+use Rattle.qm_scorer.specs.declared.any_scorer.AnyScorer.{size-AnyScorer}
 use Rattle.qm_scorer.specs.declared.any_scorer.AnyScorer.TheVariants.{Disjunction, Intersection, Union}
 use Rattle.qm_scorer.specs.declared.group_node.GroupNode.{GroupNode, size-GroupNode, size_is-GroupNode}
 use Rattle.qm_scorer.specs.declared.intersection_node.IntersectionNode.{IntersectionNode, size-IntersectionNode, size_is-IntersectionNode}
@@ -19,8 +19,8 @@ pub size-members : {S : Type 0} (old new : GroupNode S) (t : ℕ) → most (size
 size-members {S = S} old new t less h = omega (arith, size_is-GroupNode S old, size_is-GroupNode S new, less, h)
 
 -- .. and of an intersection's
-pub size-others : {S : Type 0} (old new : IntersectionNode S) (t : ℕ) → new.leader ≡ old.leader → most (size-AnyScorer S) new.others.items ≤ most (size-AnyScorer S) old.others.items → size-IntersectionNode S old ≤ t → size-IntersectionNode S new ≤ t
-size-others {S = S} old new t leader less h = omega (arith, size_is-IntersectionNode S old, size_is-IntersectionNode S new, ap (size-AnyScorer S) leader, less, h)
+pub size-others : {S : Type 0} (old new : IntersectionNode S) → size-AnyScorer S new.leader ≤ size-AnyScorer S old.leader → most (size-AnyScorer S) new.others.items ≤ most (size-AnyScorer S) old.others.items → size-IntersectionNode S new ≤ size-IntersectionNode S old
+size-others {S = S} old new leader less = omega (arith, size_is-IntersectionNode S old, size_is-IntersectionNode S new, leader, less)
 
 -- a tree is no deeper where its node is no deeper
 pub size-Union : {S : Type 0} (old new : Box (GroupNode S) _) → size-GroupNode S new.value ≤ size-GroupNode S old.value → size-AnyScorer S (Union new) ≤ size-AnyScorer S (Union old)

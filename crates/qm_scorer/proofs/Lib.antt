@@ -3,6 +3,7 @@ pub mod Depth
 pub mod GroupScores
 pub mod Groups
 pub mod Heads
+pub mod IntersectionArms
 pub mod Intersections
 pub mod Moving
 pub mod Opened

@@ -12,7 +12,8 @@ use crate::const_node::{ConstNode, danger_const, score_const, seek_const};
 use crate::exclude_node::{ExcludeNode, danger_exclude, score_exclude, seek_exclude};
 use crate::group_node::{GroupNode, cost_group, danger_group, hint_group, score_group, seek_group};
 use crate::intersection_node::{
-    IntersectionNode, danger_intersection, score_intersection, seek_intersection,
+    IntersectionNode, advance_intersection, danger_intersection, score_intersection,
+    seek_intersection,
 };
 use crate::optional_node::{OptionalNode, danger_optional, score_optional, seek_optional};
 use crate::passing::{advance_tree, count_tree, fill_tree, total_tree};
@@ -367,8 +368,13 @@ impl<'a, S: Scorer> DocSet for AnyScorer<'a, S> {
         doc_tree(self)
     }
 
+    // The root of most trees is an intersection: here it is reached without the choice among all
+    // variants. A member is asked by `advance_tree`, whose one test is for a term.
     fn advance(&mut self) -> DocId {
-        advance_tree(self)
+        match self {
+            AnyScorer::Intersection(node) => advance_intersection(node),
+            _ => advance_tree(self),
+        }
     }
 
     fn seek(&mut self, target: DocId) -> DocId {
@@ -403,8 +409,12 @@ impl<'a, S: Scorer> DocSet for AnyScorer<'a, S> {
 }
 
 impl<'a, S: Scorer> Scorer for AnyScorer<'a, S> {
+    // As in `advance`.
     fn score(&mut self) -> Score {
-        score_tree(self) as Score
+        match self {
+            AnyScorer::Intersection(node) => score_intersection(node) as Score,
+            _ => score_tree(self) as Score,
+        }
     }
 
     fn max_score(&self) -> Score {

@@ -45,8 +45,9 @@ pub(crate) fn danger_others<'a, S: Scorer>(
     ensures top { node.new.top ≡ node.old.top }
     ensures depth { size-IntersectionNode _ node.new ≤ size-IntersectionNode _ node.old }
 {
-    for i in 0..node.others.len() {
-        if let SeekDangerResult::SeekLowerBound(bound) = danger_tree(&mut node.others[i], target) {
+    let others = node.others.as_mut_slice();
+    for i in 0..others.len() {
+        if let SeekDangerResult::SeekLowerBound(bound) = danger_tree(&mut others[i], target) {
             return SeekDangerResult::SeekLowerBound(bound);
         }
     }
@@ -156,8 +157,9 @@ pub(crate) fn score_intersection<'a, S: Scorer>(node: &mut IntersectionNode<'a, 
     ensures depth { size-IntersectionNode _ node.new ≤ size-IntersectionNode _ node.old }
 {
     let mut sum = score_tree(&mut node.leader);
-    for i in 0..node.others.len() {
-        sum = (sum + score_tree(&mut node.others[i])).min(GREATEST_SCORE);
+    let others = node.others.as_mut_slice();
+    for i in 0..others.len() {
+        sum = (sum + score_tree(&mut others[i])).min(GREATEST_SCORE);
     }
     sum
 }

@@ -1,8 +1,9 @@
 -- A tree goes on by seeks of what stands below it.
 use Rattle.std.proofs.Common.{rules, drop, true≢false, ◌≡◌, ◌+◌, ◌<◌, ◌≤◌, [], ◌∷◌, ◌++◌, All, get_or, length, map, set, take, true, arith, refl, sym, ap, subst, ◌∙◌, inl, inr}
+use denote.Param.Weighed.{at_most, most}
 use Rattle.std.proofs.lemmas.Bool.{cases_lt}
 use Rattle.std.proofs.lemmas.Grind.{take-set_at}
-use Rattle.std.proofs.lemmas.List.{get_or-set_same, length-map, length-set, take_all}
+use Rattle.std.proofs.lemmas.List.{get_or-set_same, length-map, length-set, take_all, with_items_is}
 use Rattle.std.proofs.lemmas.List.Elements.{All-push, All-set}
 use Rattle.qm_docset.specs.Cursor.{IsSeekAnswer}
 use Rattle.qm_docset.specs.Entry.{from, head_document}
@@ -22,16 +23,14 @@ use Rattle.qm_combine.proofs.EachMember.{map-map-set_same, take-map-set_more}
 use Rattle.qm_combine.proofs.Leading.{IsSeekAnswer-shared, common_entries-caught_up, common_entries-cut, common_entries-passed, common_entries-sought, head_document-together, leader_bound-common_entries}
 use Rattle.qm_combine.proofs.Uniting.{least_head-push}
 use Rattle.qm_scorer.specs.Group.{IsGroupNode, group_entries, group_lists}
-use Rattle.qm_scorer.specs.Intersection.{AreTrees, common_list}
 use Rattle.qm_scorer.specs.Tree.{HasRoom, IsTree, IsTreePlaced, tree_entries, tree_limits}
 use Rattle.qm_scorer.specs.TreeFacts.{tree-ascends}
 use Rattle.qm_scorer.proofs.Groups.{HasRoom-from, group-ended, group-enough, group-moved, group-passed, group-reached, group-there, least_head-from}
-use Rattle.qm_scorer.proofs.Depth.{most-set, size-Disjunction, size-Intersection, size-Union, size-members, size-others}
+use Rattle.qm_scorer.proofs.Depth.{most-set, size-Disjunction, size-Union, size-members, size-others}
 use Rattle.qm_scorer.proofs.Heads.{tree-head}
 use Rattle.qm_scorer.proofs.Moving.{asked, on_found, placed_where, same, still_found}
-use Rattle.qm_scorer.specs.Bare.{IsBounded}
 use Rattle.qm_scorer.specs.BareFacts.{IsBounded-sought}
-use Rattle.qm_scorer.proofs.Opened.{bounded-Intersection, closed-Disjunction, closed-Intersection, closed-Union, entries-Disjunction, entries-Intersection, entries-Union, opened-Disjunction, opened-Intersection, opened-Union, placed-Intersection}
+use Rattle.qm_scorer.proofs.Opened.{closed-Disjunction, closed-Union, entries-Disjunction, entries-Intersection, entries-Union, opened-Disjunction, opened-Union, placed-Intersection}
 use Rattle.qm_scorer.specs.declared.any_scorer.AnyScorer as aq
 use Rattle.qm_scorer.specs.declared.group_node.GroupNode.{GroupNode, size-GroupNode}
 use Rattle.qm_scorer.specs.declared.any_scorer.AnyScorer.{AnyScorer, size-AnyScorer}
@@ -40,7 +39,8 @@ use Rattle.qm_scorer.specs.declared.exclude_node.ExcludeNode as q
 use Rattle.qm_scorer.specs.declared.group_node.GroupNode as gq
 use Rattle.qm_scorer.specs.declared.group_node.Shape.{Shape}
 use Rattle.qm_scorer.specs.declared.intersection_node.IntersectionNode as iq
-use Rattle.qm_scorer.specs.declared.intersection_node.IntersectionNode.{IntersectionNode, size-IntersectionNode}
+use Rattle.qm_scorer.specs.declared.intersection_node.IntersectionNode.{IntersectionNode, size-IntersectionNode, size_is-IntersectionNode}
+use Rattle.qm_scorer.proofs.IntersectionArms.{left-depth, left-document, left-entries, left-top, left-valid, lent-trees}
 use Rattle.qm_scorer.proofs.+moves.Goals as goal
 use Rattle.qm_scorer.proofs.+moves.Goals.{group_node::danger_group-else-doc-target-via-else-doc-target, group_node::danger_group-else-doc-target-via-then-doc-target+else-target-lt-TERMINATED, group_node::seek_group-else-node-target, group_node::seek_group-then-node-target}
 
@@ -311,62 +311,99 @@ pub intersection_node::danger_others-loop-i-preserved : goal.intersection_node::
 intersection_node::danger_others-loop-i-preserved g t c =
     let D = g.S.DocSet in
     let i = c.loop-i.i in
-    let xs = c.loop-i.node.others.items in
+    let xs = c.loop-i.others in
     let x = c.danger_tree.new.scorer in
     let d = c.args.target in
-    let here : i < length xs = omega (arith, c.loop-i.invariant.unvisited.0, c.loop-i-test.true, c.len-i-end.ensures, c.args.node.now.others.ok.0) in
-    let read : tree_entries D c.index_mut.result.now ≡ tree_entries D (get_or xs i c.index_mut.result.now) = ap (tree_entries D) c.index_mut.ensures.value in
-    let cut : from d (tree_entries D x) ≡ from d (tree_entries D (get_or xs i c.index_mut.result.now)) = ap (from d) (c.danger_tree.ensures.entries ∙ ap (from d) read) ∙ from-from d d _ (omega arith) in
+    let here : i < length xs = omega (arith, c.loop-i.auto.others, c.loop-i-test.true) in
+    let cut = ap (from d) c.danger_tree.ensures.entries ∙ from-from d d _ (omega arith) in
     let Stands : AnyScorer g.row.S.Denot → Type 0 = λ m. IsTreePlaced D m × (head_document (tree_entries D m) ≡ d) in
     let grown : take (i + 1) (set xs i x) ≡ take i xs ++ x ∷ [] = take-set_at xs i (i + 1) x (omega arith) here in
-    let smaller = subst (λ (y : AnyScorer g.row.S.Denot). size-AnyScorer g.row.S.Denot x ≤ size-AnyScorer g.row.S.Denot y) c.index_mut.ensures.value c.danger_tree.ensures.depth in
     record {
-      unvisited = search (rules, iq.the_lemmas);
-      others = All-set (IsTree D) xs i x c.danger_tree.ensures.valid c.loop-i.invariant.others;
-      lists = map-map-set_same (from d) (tree_entries D) xs i x c.index_mut.result.now here cut ∙ c.loop-i.invariant.lists;
+      valid = All-set (IsTree D) xs i x c.danger_tree.ensures.valid c.loop-i.invariant.valid;
+      lists = map-map-set_same (from d) (tree_entries D) xs i x c.index-others-i.result here cut ∙ c.loop-i.invariant.lists;
       found = rw grown (All-push Stands (take i xs) x c.loop-i.invariant.found (c.in_default.ensures.placed, c.in_default.ensures.answer.here));
-      leader = c.loop-i.invariant.leader;
-      top = c.loop-i.invariant.top;
-      depth = size-others c.loop-i.node _ _ refl (most-set (size-AnyScorer g.row.S.Denot) xs i x c.index_mut.result.now here smaller) c.loop-i.invariant.depth;
+      depth = omega (arith, most-set (size-AnyScorer g.row.S.Denot) xs i x c.index-others-i.result here c.danger_tree.ensures.depth, c.loop-i.invariant.depth);
     }
 
-pub intersection_node::danger_others-returns-clause-answer : goal.intersection_node::danger_others-returns-clause-answer
-intersection_node::danger_others-returns-clause-answer g t c =
-    let xs = c.loop-i.node.others.items in
-    let whole : take c.loop-i.i xs ≡ xs = take_all c.loop-i.i xs (omega (arith, c.loop-i.invariant.unvisited.0, c.loop-i-test.false, c.len-i-end.ensures, c.args.node.now.others.ok.0)) in
-    subst (All (λ m. IsTreePlaced g.S.DocSet m × (head_document (tree_entries g.S.DocSet m) ≡ c.args.target))) whole c.loop-i.invariant.found
+pub intersection_node::danger_others-danger_tree-requires : goal.intersection_node::danger_others-danger_tree-requires
+intersection_node::danger_others-danger_tree-requires g t c κs within =
+    let i = c.loop-i.i in
+    let xs = c.loop-i.others in
+    let here : i < length xs = omega (arith, c.loop-i.auto.others, c.loop-i-test.true) in
+    let smaller = at_most (size-AnyScorer g.row.S.Denot) xs i c.index-others-i.result here in
+    (omega (arith, c.decreases, smaller, size_is-IntersectionNode g.row.S.Denot c.args.node.now, c.loop-i.invariant.depth), (search rules, (c.loop-i.invariant.valid i _ here, omega (arith, c.requires.target))))
 
 pub intersection_node::danger_others-returns-in-SeekLowerBound-clause-answer : goal.intersection_node::danger_others-returns-in-SeekLowerBound-clause-answer
 intersection_node::danger_others-returns-in-SeekLowerBound-clause-answer g t c =
     let D = g.S.DocSet in
     let i = c.loop-i.i in
-    let xs = c.loop-i.node.others.items in
+    let xs = c.loop-i.others in
     let x = c.danger_tree.new.scorer in
-    let here : i < length xs = omega (arith, c.loop-i.invariant.unvisited.0, c.loop-i-test.true, c.len-i-end.ensures, c.args.node.now.others.ok.0) in
+    let here : i < length xs = omega (arith, c.loop-i.auto.others, c.loop-i-test.true) in
+    let whole = with_items_is c.args.node.now.others (set xs i x) (omega (arith, length-set xs i x, c.loop-i.auto.others, ap length c.as_mut_slice-others.ensures.value, c.args.node.now.others.ok.0)) in
     let answer = c.in-SeekLowerBound.ensures.answer in
     let bounds = head_document-bounds 0 _ _ (omega arith) (tree-ascends D g.met.S.DocSet.ascending x c.danger_tree.ensures.valid) in
-    (answer.past c.requires.target, omega (arith, answer.before_all, bounds.1), (i, x, omega (arith, length-set xs i x, here), get_or-set_same xs i x x here, answer.before_all))
+    let there : i < length (set xs i x) = omega (arith, length-set xs i x, here) in
+    let held = subst (λ ys. i < length ys) (sym whole) there in
+    let read = ap (λ ys. get_or ys i x) whole ∙ get_or-set_same xs i x x here in
+    (answer.past c.requires.target, omega (arith, answer.before_all, bounds.1), (i, x, held, read, answer.before_all))
 
 pub intersection_node::danger_others-returns-in-SeekLowerBound-clause-lists : goal.intersection_node::danger_others-returns-in-SeekLowerBound-clause-lists
 intersection_node::danger_others-returns-in-SeekLowerBound-clause-lists g t c =
     let D = g.S.DocSet in
     let i = c.loop-i.i in
-    let xs = c.loop-i.node.others.items in
+    let xs = c.loop-i.others in
     let x = c.danger_tree.new.scorer in
     let d = c.args.target in
-    let here : i < length xs = omega (arith, c.loop-i.invariant.unvisited.0, c.loop-i-test.true, c.len-i-end.ensures, c.args.node.now.others.ok.0) in
-    let read : tree_entries D c.index_mut.result.now ≡ tree_entries D (get_or xs i c.index_mut.result.now) = ap (tree_entries D) c.index_mut.ensures.value in
-    let cut : from d (tree_entries D x) ≡ from d (tree_entries D (get_or xs i c.index_mut.result.now)) = ap (from d) (c.danger_tree.ensures.entries ∙ ap (from d) read) ∙ from-from d d _ (omega arith) in
-    map-map-set_same (from d) (tree_entries D) xs i x c.index_mut.result.now here cut ∙ c.loop-i.invariant.lists
+    let here : i < length xs = omega (arith, c.loop-i.auto.others, c.loop-i-test.true) in
+    let whole = with_items_is c.args.node.now.others (set xs i x) (omega (arith, length-set xs i x, c.loop-i.auto.others, ap length c.as_mut_slice-others.ensures.value, c.args.node.now.others.ok.0)) in
+    let cut = ap (from d) c.danger_tree.ensures.entries ∙ from-from d d _ (omega arith) in
+    ap (λ ys. map (from d) (map (tree_entries D) ys)) whole ∙ map-map-set_same (from d) (tree_entries D) xs i x c.index-others-i.result here cut ∙ c.loop-i.invariant.lists
+
+pub intersection_node::danger_others-returns-in-SeekLowerBound-clause-others : goal.intersection_node::danger_others-returns-in-SeekLowerBound-clause-others
+intersection_node::danger_others-returns-in-SeekLowerBound-clause-others g t c =
+    let i = c.loop-i.i in
+    let xs = c.loop-i.others in
+    let x = c.danger_tree.new.scorer in
+    let whole = with_items_is c.args.node.now.others (set xs i x) (omega (arith, length-set xs i x, c.loop-i.auto.others, ap length c.as_mut_slice-others.ensures.value, c.args.node.now.others.ok.0)) in
+    subst (All (IsTree g.S.DocSet)) (sym whole) (All-set (IsTree g.S.DocSet) xs i x c.danger_tree.ensures.valid c.loop-i.invariant.valid)
 
 pub intersection_node::danger_others-returns-in-SeekLowerBound-clause-depth : goal.intersection_node::danger_others-returns-in-SeekLowerBound-clause-depth
 intersection_node::danger_others-returns-in-SeekLowerBound-clause-depth g t c =
     let i = c.loop-i.i in
-    let xs = c.loop-i.node.others.items in
+    let xs = c.loop-i.others in
     let x = c.danger_tree.new.scorer in
-    let here : i < length xs = omega (arith, c.loop-i.invariant.unvisited.0, c.loop-i-test.true, c.len-i-end.ensures, c.args.node.now.others.ok.0) in
-    let smaller = subst (λ (y : AnyScorer g.row.S.Denot). size-AnyScorer g.row.S.Denot x ≤ size-AnyScorer g.row.S.Denot y) c.index_mut.ensures.value c.danger_tree.ensures.depth in
-    size-others c.loop-i.node _ _ refl (most-set (size-AnyScorer g.row.S.Denot) xs i x c.index_mut.result.now here smaller) c.loop-i.invariant.depth
+    let here : i < length xs = omega (arith, c.loop-i.auto.others, c.loop-i-test.true) in
+    let whole = with_items_is c.args.node.now.others (set xs i x) (omega (arith, length-set xs i x, c.loop-i.auto.others, ap length c.as_mut_slice-others.ensures.value, c.args.node.now.others.ok.0)) in
+    let size = size-AnyScorer g.row.S.Denot in
+    let smaller = most-set size xs i x c.index-others-i.result here c.danger_tree.ensures.depth in
+    size-others c.args.node.now _ (omega arith) (omega (arith, ap (most size) whole, smaller, c.loop-i.invariant.depth))
+
+pub intersection_node::danger_others-returns-clause-answer : goal.intersection_node::danger_others-returns-clause-answer
+intersection_node::danger_others-returns-clause-answer g t c =
+    let xs = c.loop-i.others in
+    let whole = with_items_is c.args.node.now.others xs (omega (arith, c.loop-i.auto.others, ap length c.as_mut_slice-others.ensures.value, c.args.node.now.others.ok.0)) in
+    let all : take c.loop-i.i xs ≡ xs = take_all c.loop-i.i xs (omega (arith, c.loop-i.auto.others, c.loop-i-test.false)) in
+    let Stands : AnyScorer g.row.S.Denot → Type 0 = λ m. IsTreePlaced g.S.DocSet m × (head_document (tree_entries g.S.DocSet m) ≡ c.args.target) in
+    subst (All Stands) (all ∙ sym whole) c.loop-i.invariant.found
+
+pub intersection_node::danger_others-returns-clause-lists : goal.intersection_node::danger_others-returns-clause-lists
+intersection_node::danger_others-returns-clause-lists g t c =
+    let xs = c.loop-i.others in
+    let whole = with_items_is c.args.node.now.others xs (omega (arith, c.loop-i.auto.others, ap length c.as_mut_slice-others.ensures.value, c.args.node.now.others.ok.0)) in
+    ap (λ ys. map (from c.args.target) (map (tree_entries g.S.DocSet) ys)) whole ∙ c.loop-i.invariant.lists
+
+pub intersection_node::danger_others-returns-clause-others : goal.intersection_node::danger_others-returns-clause-others
+intersection_node::danger_others-returns-clause-others g t c =
+    let xs = c.loop-i.others in
+    let whole = with_items_is c.args.node.now.others xs (omega (arith, c.loop-i.auto.others, ap length c.as_mut_slice-others.ensures.value, c.args.node.now.others.ok.0)) in
+    subst (All (IsTree g.S.DocSet)) (sym whole) c.loop-i.invariant.valid
+
+pub intersection_node::danger_others-returns-clause-depth : goal.intersection_node::danger_others-returns-clause-depth
+intersection_node::danger_others-returns-clause-depth g t c =
+    let xs = c.loop-i.others in
+    let whole = with_items_is c.args.node.now.others xs (omega (arith, c.loop-i.auto.others, ap length c.as_mut_slice-others.ensures.value, c.args.node.now.others.ok.0)) in
+    size-others c.args.node.now _ (omega arith) (omega (arith, ap (most (size-AnyScorer g.row.S.Denot)) whole, c.loop-i.invariant.depth))
 
 pub intersection_node::align-loop-candidate-preserved : goal.intersection_node::align-loop-candidate-preserved
 intersection_node::align-loop-candidate-preserved g t c =
@@ -522,10 +559,8 @@ any_scorer::seek_other-returns-in-Union-clause-entries g t c =
 
 pub any_scorer::seek_other-returns-in-Union-clause-valid : goal.any_scorer::seek_other-returns-in-Union-clause-valid
 any_scorer::seek_other-returns-in-Union-clause-valid g t c =
-    let D = g.S.DocSet in
-    let node = c.in-Union.node in
-    let new = record node { value = c.seek_group.new.node } in
-    rw (c.in-Union.is, outs-Union c.in-Union.node) (closed-Union D new c.seek_group.ensures.valid)
+    let new = record c.in-Union.node { value = c.seek_group.new.node } in
+    rw (c.in-Union.is, outs-Union c.in-Union.node) (closed-Union g.S.DocSet new c.seek_group.ensures.valid)
 
 pub any_scorer::seek_other-returns-in-Union-clause-placed : goal.any_scorer::seek_other-returns-in-Union-clause-placed
 any_scorer::seek_other-returns-in-Union-clause-placed g t c = rw (c.in-Union.is, outs-Union c.in-Union.node) tt
@@ -561,10 +596,8 @@ any_scorer::seek_other-returns-in-Disjunction-clause-entries g t c =
 
 pub any_scorer::seek_other-returns-in-Disjunction-clause-valid : goal.any_scorer::seek_other-returns-in-Disjunction-clause-valid
 any_scorer::seek_other-returns-in-Disjunction-clause-valid g t c =
-    let D = g.S.DocSet in
-    let node = c.in-Disjunction.node in
-    let new = record node { value = c.seek_group-in-Disjunction.new.node } in
-    rw (c.in-Disjunction.is, outs-Disjunction c.in-Disjunction.node) (closed-Disjunction D new c.seek_group-in-Disjunction.ensures.valid)
+    let new = record c.in-Disjunction.node { value = c.seek_group-in-Disjunction.new.node } in
+    rw (c.in-Disjunction.is, outs-Disjunction c.in-Disjunction.node) (closed-Disjunction g.S.DocSet new c.seek_group-in-Disjunction.ensures.valid)
 
 pub any_scorer::seek_other-returns-in-Disjunction-clause-placed : goal.any_scorer::seek_other-returns-in-Disjunction-clause-placed
 any_scorer::seek_other-returns-in-Disjunction-clause-placed g t c = rw (c.in-Disjunction.is, outs-Disjunction c.in-Disjunction.node) tt
@@ -576,50 +609,37 @@ any_scorer::seek_other-returns-in-Disjunction-clause-top g t c =
 
 pub any_scorer::seek_other-seek_intersection-requires : goal.any_scorer::seek_other-seek_intersection-requires
 any_scorer::seek_other-seek_intersection-requires g t c κs within =
-    let D = g.S.DocSet in
     let node = c.in-Intersection.node in
-    let value = rw (c.in-Intersection.is, outs-Intersection c.in-Intersection.node) at c.deref_mut-in-Intersection.ensures.value in
-    let opened = subst (AreTrees D) (sym value) (opened-Intersection D node (subst (IsTree D) c.in-Intersection.is c.requires.valid)) in
-    (search (rules, aq.the_lemmas), (search rules, (opened, c.requires.target)))
+    let lent = rw (c.in-Intersection.is, outs-Intersection node) at c.deref_mut-in-Intersection.ensures.value in
+    (search (rules, aq.the_lemmas), (search rules, (lent-trees g.S.DocSet node c.in-Intersection.is lent c.requires.valid, c.requires.target)))
 
 pub any_scorer::seek_other-returns-in-Intersection-clause-head : goal.any_scorer::seek_other-returns-in-Intersection-clause-head
 any_scorer::seek_other-returns-in-Intersection-clause-head g t c =
-    let D = g.S.DocSet in
     let node = c.in-Intersection.node in
-    let new = record node { value = c.seek_intersection.new.node } in
-    rw (c.in-Intersection.is, outs-Intersection c.in-Intersection.node) (c.seek_intersection.ensures.head ∙ sym (ap head_document (entries-Intersection D new)))
+    rw (c.in-Intersection.is, outs-Intersection node) (left-document g.S.DocSet node c.seek_intersection.new.node c.seek_intersection.ensures.head)
 
 pub any_scorer::seek_other-returns-in-Intersection-clause-entries : goal.any_scorer::seek_other-returns-in-Intersection-clause-entries
 any_scorer::seek_other-returns-in-Intersection-clause-entries g t c =
-    let D = g.S.DocSet in
     let node = c.in-Intersection.node in
-    let value = rw (c.in-Intersection.is, outs-Intersection c.in-Intersection.node) at c.deref_mut-in-Intersection.ensures.value in
-    let new = record node { value = c.seek_intersection.new.node } in
-    let left : common_list D new.value ≡ from c.args.target (common_list D node.value) = c.seek_intersection.ensures.entries ∙ ap (λ n. from c.args.target (common_list D n)) value in
-    rw (c.in-Intersection.is, outs-Intersection c.in-Intersection.node) (entries-Intersection D new ∙ left ∙ ap (from c.args.target) (sym (entries-Intersection D node)))
+    let lent = rw (c.in-Intersection.is, outs-Intersection node) at c.deref_mut-in-Intersection.ensures.value in
+    rw (c.in-Intersection.is, outs-Intersection node) (left-entries g.S.DocSet (from c.args.target) node c.seek_intersection.new.node lent c.seek_intersection.ensures.entries)
 
 pub any_scorer::seek_other-returns-in-Intersection-clause-valid : goal.any_scorer::seek_other-returns-in-Intersection-clause-valid
 any_scorer::seek_other-returns-in-Intersection-clause-valid g t c =
-    let D = g.S.DocSet in
     let node = c.in-Intersection.node in
-    let value = rw (c.in-Intersection.is, outs-Intersection c.in-Intersection.node) at c.deref_mut-in-Intersection.ensures.value in
-    let new = record node { value = c.seek_intersection.new.node } in
-    let left : common_list D new.value ≡ from c.args.target (common_list D node.value) = c.seek_intersection.ensures.entries ∙ ap (λ n. from c.args.target (common_list D n)) value in
-    let same : new.value.top ≡ node.value.top = c.seek_intersection.ensures.top ∙ ap (λ (n : IntersectionNode g.row.S.Denot). n.top) value in
-    let bounded = IsBounded-sought node.value.top c.args.target _ (common_list D new.value) left (bounded-Intersection D node (subst (IsTree D) c.in-Intersection.is c.requires.valid)) in
-    rw (c.in-Intersection.is, outs-Intersection c.in-Intersection.node) (closed-Intersection D new c.seek_intersection.ensures.trees (subst (λ n. IsBounded n (common_list D new.value)) (sym same) bounded))
+    let lent = rw (c.in-Intersection.is, outs-Intersection node) at c.deref_mut-in-Intersection.ensures.value in
+    rw (c.in-Intersection.is, outs-Intersection node) (left-valid g.S.DocSet (from c.args.target) (λ top es left. IsBounded-sought top c.args.target es left) node c.seek_intersection.new.node c.in-Intersection.is lent c.requires.valid c.seek_intersection.ensures.entries c.seek_intersection.ensures.top c.seek_intersection.ensures.trees)
 
 pub any_scorer::seek_other-returns-in-Intersection-clause-placed : goal.any_scorer::seek_other-returns-in-Intersection-clause-placed
 any_scorer::seek_other-returns-in-Intersection-clause-placed g t c =
-    let D = g.S.DocSet in
     let node = c.in-Intersection.node in
-    let new = record node { value = c.seek_intersection.new.node } in
-    rw (c.in-Intersection.is, outs-Intersection c.in-Intersection.node) (placed-Intersection D new c.seek_intersection.ensures.placed)
+    rw (c.in-Intersection.is, outs-Intersection node) (placed-Intersection g.S.DocSet (record node { value = c.seek_intersection.new.node }) c.seek_intersection.ensures.placed)
 
 pub any_scorer::seek_other-returns-in-Intersection-clause-top : goal.any_scorer::seek_other-returns-in-Intersection-clause-top
 any_scorer::seek_other-returns-in-Intersection-clause-top g t c =
-    let value = rw (c.in-Intersection.is, outs-Intersection c.in-Intersection.node) at c.deref_mut-in-Intersection.ensures.value in
-    rw (c.in-Intersection.is, outs-Intersection c.in-Intersection.node) (c.seek_intersection.ensures.top ∙ ap (λ (n : IntersectionNode g.row.S.Denot). n.top) value)
+    let node = c.in-Intersection.node in
+    let lent = rw (c.in-Intersection.is, outs-Intersection node) at c.deref_mut-in-Intersection.ensures.value in
+    rw (c.in-Intersection.is, outs-Intersection node) (left-top g.S.DocSet node c.seek_intersection.new.node lent c.seek_intersection.ensures.top)
 
 pub any_scorer::danger_other-danger_group-requires : goal.any_scorer::danger_other-danger_group-requires
 any_scorer::danger_other-danger_group-requires g t c κs within =
@@ -647,10 +667,8 @@ any_scorer::danger_other-returns-in-Union-clause-entries g t c =
 
 pub any_scorer::danger_other-returns-in-Union-clause-valid : goal.any_scorer::danger_other-returns-in-Union-clause-valid
 any_scorer::danger_other-returns-in-Union-clause-valid g t c =
-    let D = g.S.DocSet in
-    let node = c.in-Union.node in
-    let new = record node { value = c.danger_group.new.node } in
-    rw (c.in-Union.is, outs-Union c.in-Union.node) (closed-Union D new c.danger_group.ensures.valid)
+    let new = record c.in-Union.node { value = c.danger_group.new.node } in
+    rw (c.in-Union.is, outs-Union c.in-Union.node) (closed-Union g.S.DocSet new c.danger_group.ensures.valid)
 
 pub any_scorer::danger_other-returns-in-Union-clause-placed : goal.any_scorer::danger_other-returns-in-Union-clause-placed
 any_scorer::danger_other-returns-in-Union-clause-placed g t c = rw (c.in-Union.is, outs-Union c.in-Union.node) (on_found c.danger_group.result (λ _. tt))
@@ -686,10 +704,8 @@ any_scorer::danger_other-returns-in-Disjunction-clause-entries g t c =
 
 pub any_scorer::danger_other-returns-in-Disjunction-clause-valid : goal.any_scorer::danger_other-returns-in-Disjunction-clause-valid
 any_scorer::danger_other-returns-in-Disjunction-clause-valid g t c =
-    let D = g.S.DocSet in
-    let node = c.in-Disjunction.node in
-    let new = record node { value = c.danger_group-in-Disjunction.new.node } in
-    rw (c.in-Disjunction.is, outs-Disjunction c.in-Disjunction.node) (closed-Disjunction D new c.danger_group-in-Disjunction.ensures.valid)
+    let new = record c.in-Disjunction.node { value = c.danger_group-in-Disjunction.new.node } in
+    rw (c.in-Disjunction.is, outs-Disjunction c.in-Disjunction.node) (closed-Disjunction g.S.DocSet new c.danger_group-in-Disjunction.ensures.valid)
 
 pub any_scorer::danger_other-returns-in-Disjunction-clause-placed : goal.any_scorer::danger_other-returns-in-Disjunction-clause-placed
 any_scorer::danger_other-returns-in-Disjunction-clause-placed g t c = rw (c.in-Disjunction.is, outs-Disjunction c.in-Disjunction.node) (on_found c.danger_group-in-Disjunction.result (λ _. tt))
@@ -701,11 +717,9 @@ any_scorer::danger_other-returns-in-Disjunction-clause-top g t c =
 
 pub any_scorer::danger_other-danger_intersection-requires : goal.any_scorer::danger_other-danger_intersection-requires
 any_scorer::danger_other-danger_intersection-requires g t c κs within =
-    let D = g.S.DocSet in
     let node = c.in-Intersection.node in
-    let value = rw (c.in-Intersection.is, outs-Intersection c.in-Intersection.node) at c.deref_mut-in-Intersection.ensures.value in
-    let opened = subst (AreTrees D) (sym value) (opened-Intersection D node (subst (IsTree D) c.in-Intersection.is c.requires.valid)) in
-    (search (rules, aq.the_lemmas), (search rules, (opened, c.requires.target)))
+    let lent = rw (c.in-Intersection.is, outs-Intersection node) at c.deref_mut-in-Intersection.ensures.value in
+    (search (rules, aq.the_lemmas), (search rules, (lent-trees g.S.DocSet node c.in-Intersection.is lent c.requires.valid, c.requires.target)))
 
 pub any_scorer::danger_other-returns-in-Intersection-clause-answer : goal.any_scorer::danger_other-returns-in-Intersection-clause-answer
 any_scorer::danger_other-returns-in-Intersection-clause-answer g t c =
@@ -716,23 +730,15 @@ any_scorer::danger_other-returns-in-Intersection-clause-answer g t c =
 
 pub any_scorer::danger_other-returns-in-Intersection-clause-entries : goal.any_scorer::danger_other-returns-in-Intersection-clause-entries
 any_scorer::danger_other-returns-in-Intersection-clause-entries g t c =
-    let D = g.S.DocSet in
     let node = c.in-Intersection.node in
-    let value = rw (c.in-Intersection.is, outs-Intersection c.in-Intersection.node) at c.deref_mut-in-Intersection.ensures.value in
-    let new = record node { value = c.danger_intersection.new.node } in
-    let left : common_list D new.value ≡ from c.args.target (common_list D node.value) = c.danger_intersection.ensures.entries ∙ ap (λ n. from c.args.target (common_list D n)) value in
-    rw (c.in-Intersection.is, outs-Intersection c.in-Intersection.node) (entries-Intersection D new ∙ left ∙ ap (from c.args.target) (sym (entries-Intersection D node)))
+    let lent = rw (c.in-Intersection.is, outs-Intersection node) at c.deref_mut-in-Intersection.ensures.value in
+    rw (c.in-Intersection.is, outs-Intersection node) (left-entries g.S.DocSet (from c.args.target) node c.danger_intersection.new.node lent c.danger_intersection.ensures.entries)
 
 pub any_scorer::danger_other-returns-in-Intersection-clause-valid : goal.any_scorer::danger_other-returns-in-Intersection-clause-valid
 any_scorer::danger_other-returns-in-Intersection-clause-valid g t c =
-    let D = g.S.DocSet in
     let node = c.in-Intersection.node in
-    let value = rw (c.in-Intersection.is, outs-Intersection c.in-Intersection.node) at c.deref_mut-in-Intersection.ensures.value in
-    let new = record node { value = c.danger_intersection.new.node } in
-    let left : common_list D new.value ≡ from c.args.target (common_list D node.value) = c.danger_intersection.ensures.entries ∙ ap (λ n. from c.args.target (common_list D n)) value in
-    let same : new.value.top ≡ node.value.top = c.danger_intersection.ensures.top ∙ ap (λ (n : IntersectionNode g.row.S.Denot). n.top) value in
-    let bounded = IsBounded-sought node.value.top c.args.target _ (common_list D new.value) left (bounded-Intersection D node (subst (IsTree D) c.in-Intersection.is c.requires.valid)) in
-    rw (c.in-Intersection.is, outs-Intersection c.in-Intersection.node) (closed-Intersection D new c.danger_intersection.ensures.trees (subst (λ n. IsBounded n (common_list D new.value)) (sym same) bounded))
+    let lent = rw (c.in-Intersection.is, outs-Intersection node) at c.deref_mut-in-Intersection.ensures.value in
+    rw (c.in-Intersection.is, outs-Intersection node) (left-valid g.S.DocSet (from c.args.target) (λ top es left. IsBounded-sought top c.args.target es left) node c.danger_intersection.new.node c.in-Intersection.is lent c.requires.valid c.danger_intersection.ensures.entries c.danger_intersection.ensures.top c.danger_intersection.ensures.trees)
 
 pub any_scorer::danger_other-returns-in-Intersection-clause-placed : goal.any_scorer::danger_other-returns-in-Intersection-clause-placed
 any_scorer::danger_other-returns-in-Intersection-clause-placed g t c =
@@ -741,8 +747,9 @@ any_scorer::danger_other-returns-in-Intersection-clause-placed g t c =
 
 pub any_scorer::danger_other-returns-in-Intersection-clause-top : goal.any_scorer::danger_other-returns-in-Intersection-clause-top
 any_scorer::danger_other-returns-in-Intersection-clause-top g t c =
-    let value = rw (c.in-Intersection.is, outs-Intersection c.in-Intersection.node) at c.deref_mut-in-Intersection.ensures.value in
-    rw (c.in-Intersection.is, outs-Intersection c.in-Intersection.node) (c.danger_intersection.ensures.top ∙ ap (λ (n : IntersectionNode g.row.S.Denot). n.top) value)
+    let node = c.in-Intersection.node in
+    let lent = rw (c.in-Intersection.is, outs-Intersection node) at c.deref_mut-in-Intersection.ensures.value in
+    rw (c.in-Intersection.is, outs-Intersection node) (left-top g.S.DocSet node c.danger_intersection.new.node lent c.danger_intersection.ensures.top)
 
 pub any_scorer::seek_other-returns-in-Union-clause-depth : goal.any_scorer::seek_other-returns-in-Union-clause-depth
 any_scorer::seek_other-returns-in-Union-clause-depth g t c =
@@ -763,10 +770,8 @@ any_scorer::seek_other-returns-in-Disjunction-clause-depth g t c =
 pub any_scorer::seek_other-returns-in-Intersection-clause-depth : goal.any_scorer::seek_other-returns-in-Intersection-clause-depth
 any_scorer::seek_other-returns-in-Intersection-clause-depth g t c =
     let node = c.in-Intersection.node in
-    let value = rw (c.in-Intersection.is, outs-Intersection c.in-Intersection.node) at c.deref_mut-in-Intersection.ensures.value in
-    let new = record node { value = c.seek_intersection.new.node } in
-    let smaller = subst (λ (n : IntersectionNode g.row.S.Denot). size-IntersectionNode g.row.S.Denot c.seek_intersection.new.node ≤ size-IntersectionNode g.row.S.Denot n) value c.seek_intersection.ensures.depth in
-    rw (c.in-Intersection.is, outs-Intersection c.in-Intersection.node) (size-Intersection node new smaller)
+    let lent = rw (c.in-Intersection.is, outs-Intersection node) at c.deref_mut-in-Intersection.ensures.value in
+    rw (c.in-Intersection.is, outs-Intersection node) (left-depth node c.seek_intersection.new.node lent c.seek_intersection.ensures.depth)
 
 pub any_scorer::danger_other-returns-in-Union-clause-depth : goal.any_scorer::danger_other-returns-in-Union-clause-depth
 any_scorer::danger_other-returns-in-Union-clause-depth g t c =
@@ -787,7 +792,5 @@ any_scorer::danger_other-returns-in-Disjunction-clause-depth g t c =
 pub any_scorer::danger_other-returns-in-Intersection-clause-depth : goal.any_scorer::danger_other-returns-in-Intersection-clause-depth
 any_scorer::danger_other-returns-in-Intersection-clause-depth g t c =
     let node = c.in-Intersection.node in
-    let value = rw (c.in-Intersection.is, outs-Intersection c.in-Intersection.node) at c.deref_mut-in-Intersection.ensures.value in
-    let new = record node { value = c.danger_intersection.new.node } in
-    let smaller = subst (λ (n : IntersectionNode g.row.S.Denot). size-IntersectionNode g.row.S.Denot c.danger_intersection.new.node ≤ size-IntersectionNode g.row.S.Denot n) value c.danger_intersection.ensures.depth in
-    rw (c.in-Intersection.is, outs-Intersection c.in-Intersection.node) (size-Intersection node new smaller)
+    let lent = rw (c.in-Intersection.is, outs-Intersection node) at c.deref_mut-in-Intersection.ensures.value in
+    rw (c.in-Intersection.is, outs-Intersection node) (left-depth node c.danger_intersection.new.node lent c.danger_intersection.ensures.depth)

@@ -1,9 +1,11 @@
 use Rattle.std.proofs.Common.{◌≡◌, ◌-◌, ◌≤◌, All, map, take}
+use denote.Param.Weighed.{most}
 use Rattle.qm_docset.specs.Entry.{from, head_document}
 use Rattle.qm_combine.specs.Union.{least_head}
 use Rattle.qm_scorer.specs.Group.{AreStanding, group_entries, group_lists}
 use Rattle.qm_scorer.specs.Intersection.{common_list, other_lists}
 use Rattle.qm_scorer.specs.Tree.{HasRoom, IsTree, IsTreePlaced, kept_entries, tree_entries}
+use Rattle.qm_scorer.specs.declared.any_scorer.AnyScorer.{size-AnyScorer}
 use Rattle.qm_scorer.specs.declared.exclude_node.ExcludeNode.{size-ExcludeNode}
 use Rattle.qm_scorer.specs.declared.group_node.GroupNode.{size-GroupNode}
 use Rattle.qm_scorer.specs.declared.intersection_node.IntersectionNode.{size-IntersectionNode}
@@ -51,13 +53,10 @@ decreases-group_node::next_match-loop-doc g l = 2147483647 - l.doc
 
 abbrev pub invariant-intersection_node::danger_others-loop-i : goal.invariant-intersection_node::danger_others-loop-i
 invariant-intersection_node::danger_others-loop-i g l = record {
-  unvisited : goal.unvisited-intersection_node::danger_others-loop-i g l;
-  others : All (IsTree g.S.DocSet) l.node.others.items;
-  lists : map (from l.target) (other_lists g.S.DocSet l.node) ≡ map (from l.target) (other_lists g.S.DocSet l.fn.node);
-  found : All (λ x. IsTreePlaced g.S.DocSet x × (head_document (tree_entries g.S.DocSet x) ≡ l.target)) (take l.i l.node.others.items);
-  leader : l.node.leader ≡ l.fn.node.leader;
-  top : l.node.top ≡ l.fn.node.top;
-  depth : size-IntersectionNode _ l.node ≤ size-IntersectionNode _ l.fn.node;
+  valid : All (IsTree g.S.DocSet) l.others;
+  lists : map (from l.target) (map (tree_entries g.S.DocSet) l.others) ≡ map (from l.target) (other_lists g.S.DocSet l.fn.node);
+  found : All (λ x. IsTreePlaced g.S.DocSet x × (head_document (tree_entries g.S.DocSet x) ≡ l.target)) (take l.i l.others);
+  depth : most (size-AnyScorer _) l.others ≤ most (size-AnyScorer _) l.fn.node.others.items;
 }
 
 abbrev pub invariant-intersection_node::align-loop-candidate : goal.invariant-intersection_node::align-loop-candidate

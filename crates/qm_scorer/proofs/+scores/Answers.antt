@@ -1,7 +1,8 @@
 -- Scores of the document that a tree stands on.
-use Rattle.std.proofs.Common.{rules, ◌≡◌, ℕ, ◌+◌, ◌<◌, ◌≤◌, List, [], ◌∷◌, fold, get_or, length, map, min, take, arith, refl, sym, ap, subst, ◌∙◌}
+use Rattle.std.proofs.Common.{rules, ◌≡◌, ℕ, ◌+◌, ◌<◌, ◌≤◌, List, [], ◌∷◌, fold, get_or, length, map, min, take, All, arith, refl, sym, ap, subst, ◌∙◌}
+use denote.Param.Weighed.{at_most, most}
 use Rattle.std.specs.List.{sum}
-use Rattle.std.proofs.lemmas.List.{get_or_read_under, length-map, take_all}
+use Rattle.std.proofs.lemmas.List.{get_or_read_under, length-map, take_all, with_items_is}
 use Rattle.std.proofs.lemmas.List.Elements.{All-get_or, All-set}
 use Rattle.std.proofs.lemmas.List.Sums.{fold-append, sum_by-cons, sum_by_more}
 use Rattle.qm_docset.specs.Entry.{Entry, from, greatest_score, head_document, head_score}
@@ -11,6 +12,7 @@ use Rattle.qm_docset.specs.Gather.{common_entries, scores_at}
 use Rattle.qm_docset.specs.GatherFacts.{scores_at-nil}
 use Rattle.qm_combine.specs.HeldSum.{held_sum}
 use Rattle.qm_combine.specs.Rescored.{with_optional}
+use Rattle.qm_combine.specs.SharedSeek.{StandOn}
 use Rattle.qm_combine.specs.Union.{least_head}
 use Rattle.qm_combine.specs.WithoutFacts.{head_score-without}
 use Rattle.qm_combine.specs.RescoredFacts.{head_score-rescored}
@@ -20,22 +22,20 @@ use Rattle.qm_combine.proofs.OptionalScores.{scores_at-passed, scores_at-reached
 use Rattle.qm_combine.proofs.Uniting.{least_head-le, scores_at-more, scores_at-more_ahead}
 use Rattle.qm_scorer.specs.AnyCombiner.{AnyHasRoom, any_cleared, any_step}
 use Rattle.qm_scorer.specs.AnyCombinerFacts.{any-room}
-use Rattle.qm_scorer.specs.Bare.{IsBounded}
 use Rattle.qm_scorer.specs.Group.{IsGroupNode, group_entries}
-use Rattle.qm_scorer.specs.Intersection.{AreTogether, AreTrees, common_list}
 use Rattle.qm_scorer.specs.Tree.{HasRoom, IsTree, IsTreePlaced, gathered_list, tree_entries, tree_head, tree_limits}
 use Rattle.qm_scorer.specs.TreeFacts.{tree-ascends}
 use Rattle.qm_scorer.specs.declared.any_scorer.AnyScorer as aq
 use Rattle.qm_scorer.specs.declared.any_scorer.AnyScorer.{AnyScorer, size-AnyScorer}
-use Rattle.qm_scorer.specs.declared.any_scorer.AnyScorer.TheVariants.{Disjunction, Intersection, Union, outs-Disjunction, outs-Intersection, outs-Union}
+use Rattle.qm_scorer.specs.declared.any_scorer.AnyScorer.TheVariants.{Disjunction, Union, outs-Disjunction, outs-Intersection, outs-Union}
 use Rattle.qm_scorer.specs.declared.group_node.GroupNode.{GroupNode, size-GroupNode}
 use Rattle.qm_scorer.specs.declared.group_node.Shape.{Shape}
-use Rattle.qm_scorer.specs.declared.intersection_node.IntersectionNode.{IntersectionNode, size-IntersectionNode}
 use Rattle.qm_scorer.specs.declared.group_node.GroupNode as gq
-use Rattle.qm_scorer.specs.declared.intersection_node.IntersectionNode as iq
-use Rattle.qm_scorer.proofs.Depth.{most-set, size-Disjunction, size-Intersection, size-Union, size-members, size-others}
+use Rattle.qm_scorer.specs.declared.intersection_node.IntersectionNode.{size_is-IntersectionNode}
+use Rattle.qm_scorer.proofs.Depth.{most-set, size-Disjunction, size-Union, size-members, size-others}
 use Rattle.qm_scorer.proofs.GroupScores.{group-kept, group-score, room-next}
-use Rattle.qm_scorer.proofs.Opened.{bounded-Intersection, closed-Disjunction, closed-Intersection, closed-Union, entries-Disjunction, entries-Intersection, entries-Union, opened-Disjunction, opened-Intersection, opened-Union, placed-Intersection, standing-Intersection}
+use Rattle.qm_scorer.proofs.IntersectionArms.{left-depth, left-entries, left-head, left-top, left-valid, lent-entries, lent-here, lent-together, lent-trees}
+use Rattle.qm_scorer.proofs.Opened.{closed-Disjunction, closed-Union, entries-Disjunction, entries-Union, opened-Disjunction, opened-Union, placed-Intersection}
 use Rattle.qm_scorer.proofs.Heads.{boost-fits, tree-head, tree-here}
 use Rattle.qm_scorer.proofs.+scores.Goals as goal
 use Rattle.qm_scorer.proofs.+scores.Goals.{group_node::score_group-else-doc_tree-doc, group_node::score_group-then-doc_tree-doc}
@@ -217,19 +217,14 @@ pub intersection_node::score_intersection-loop-i-init : goal.intersection_node::
 intersection_node::score_intersection-loop-i-init g t c =
     let D = g.S.DocSet in
     let node = c.args.node.now in
+    let is = c.as_mut_slice-others.ensures.value in
     let below : head_document (tree_entries D node.leader) < TERMINATED = tree-here D g.met.S.DocSet.ascending node.leader c.requires.trees.leader c.requires.placed.leader c.requires.here in
     record {
-      unvisited = search (rules, iq.the_lemmas);
-      valid = c.requires.trees.others;
-      placed = λ k d less. (c.requires.placed.others below k d less).0;
-      lists = refl;
+      valid = subst (All (IsTree D)) (sym is) c.requires.trees.others;
+      placed = subst (All (IsTreePlaced D)) (sym is) (λ k d less. (c.requires.placed.others below k d less).0);
+      lists = ap (map (tree_entries D)) is;
       summed = omega (arith, c.score_tree-sum.ensures.score, c.score_tree-sum.ensures.fits);
-      leader = c.score_tree-sum.ensures.valid;
-      stands = c.score_tree-sum.ensures.placed;
-      entries = c.score_tree-sum.ensures.entries;
-      head = c.score_tree-sum.ensures.head;
-      top = refl;
-      depth = search (rules, iq.the_lemmas);
+      depth = omega (arith, ap (most (size-AnyScorer g.row.S.Denot)) is);
     }
 
 pub intersection_node::score_intersection-loop-i-preserved : goal.intersection_node::score_intersection-loop-i-preserved
@@ -238,31 +233,23 @@ intersection_node::score_intersection-loop-i-preserved g t c =
     let e = tree_entries D in
     let h = c.loop-i.invariant in
     let i = c.loop-i.i in
-    let xs = c.loop-i.node.others.items in
+    let xs = c.loop-i.others in
     let x = c.score_tree.new.scorer in
-    let old = c.index_mut.result.now in
-    let here : i < length xs = omega (arith, h.unvisited.0, c.loop-i-test.true, c.len-i-end.ensures, c.args.node.now.others.ok.0) in
-    let same : e x ≡ e (get_or xs i old) = c.score_tree.ensures.entries ∙ ap e c.index_mut.ensures.value in
-    let still = map-set_same e xs i x old here same in
+    let old = c.index-others-i.result in
+    let here : i < length xs = omega (arith, c.loop-i.auto.others, c.loop-i-test.true) in
+    let still = map-set_same e xs i x old here c.score_tree.ensures.entries in
     let scores = map head_score (map e xs) in
     let first = head_score (e c.args.node.now.leader) in
     let one = get_or-map-map head_score e xs i old 0 here in
     let more = sum_by_more (λ n. n) scores i 0 (omega (arith, here, length-map (map e xs) head_score, length-map xs e)) in
-    let read = ap (λ m. head_score (e m)) c.index_mut.ensures.value in
-    let added : c.min-sum.result ≡ min greatest_score (first + sum (take (i + 1) scores)) = omega (arith, one, more, read, c.score_tree.ensures.score, c.min-sum.ensures, h.summed) in
-    let smaller = subst (λ (y : AnyScorer g.row.S.Denot). size-AnyScorer g.row.S.Denot x ≤ size-AnyScorer g.row.S.Denot y) c.index_mut.ensures.value c.score_tree.ensures.depth in
+    let added : c.min-sum.result ≡ min greatest_score (first + sum (take (i + 1) scores)) = omega (arith, one, more, c.score_tree.ensures.score, c.min-sum.ensures, h.summed) in
+    let smaller = most-set (size-AnyScorer g.row.S.Denot) xs i x old here c.score_tree.ensures.depth in
     record {
-      unvisited = search (rules, iq.the_lemmas);
       valid = All-set (IsTree D) xs i x c.score_tree.ensures.valid h.valid;
       placed = All-set (IsTreePlaced D) xs i x c.score_tree.ensures.placed h.placed;
       lists = still ∙ h.lists;
       summed = added ∙ ap (λ r. min greatest_score (first + sum (take (i + 1) (map head_score r)))) (sym still);
-      leader = h.leader;
-      stands = h.stands;
-      entries = h.entries;
-      head = h.head;
-      top = h.top;
-      depth = size-others c.loop-i.node _ _ refl (most-set (size-AnyScorer g.row.S.Denot) xs i x old here smaller) h.depth;
+      depth = omega (arith, smaller, h.depth);
     }
 
 pub intersection_node::score_intersection-score_tree-requires : goal.intersection_node::score_intersection-score_tree-requires
@@ -271,16 +258,19 @@ intersection_node::score_intersection-score_tree-requires g t c κs within =
     let e = tree_entries D in
     let h = c.loop-i.invariant in
     let node = c.args.node.now in
-    let xs = c.loop-i.node.others.items in
-    let x = c.index_mut.result.now in
-    let here : c.loop-i.i < length xs = omega (arith, h.unvisited.0, c.loop-i-test.true, c.len-i-end.ensures, node.others.ok.0) in
-    let below : head_document (e node.leader) < TERMINATED = tree-here D g.met.S.DocSet.ascending node.leader c.requires.trees.leader c.requires.placed.leader c.requires.here in
+    let xs = c.loop-i.others in
+    let i = c.loop-i.i in
+    let x = get_or xs i c.index-others-i.result in
+    let here : i < length xs = omega (arith, c.loop-i.auto.others, c.loop-i-test.true) in
+    let below : head_document (tree_entries D node.leader) < TERMINATED = tree-here D g.met.S.DocSet.ascending node.leader c.requires.trees.leader c.requires.placed.leader c.requires.here in
     let all = All-same_lists e (λ es. head_document es ≡ head_document (e node.leader)) node.others.items xs h.lists (λ k d less. (c.requires.placed.others below k d less).1) in
-    let stands : head_document (e x) ≡ head_document (e node.leader) = ap (λ m. head_document (e m)) c.index_mut.ensures.value ∙ all c.loop-i.i x here in
-    let valid : IsTree D x = subst (IsTree D) (sym c.index_mut.ensures.value) (All-get_or (IsTree D) xs c.loop-i.i x here h.valid) in
-    let placed : IsTreePlaced D x = subst (IsTreePlaced D) (sym c.index_mut.ensures.value) (All-get_or (IsTreePlaced D) xs c.loop-i.i x here h.placed) in
+    let stands : head_document (e x) ≡ head_document (e node.leader) = all i _ here in
+    let valid : IsTree D x = h.valid i _ here in
+    let placed : IsTreePlaced D x = h.placed i _ here in
     let on : tree_head D x < TERMINATED = omega (arith, tree-head D g.met.S.DocSet.ascending x valid placed, stands, below) in
-    (search (rules, iq.the_lemmas), (search rules, (valid, (placed, on))))
+    let smaller = at_most (size-AnyScorer g.row.S.Denot) xs i c.index-others-i.result here in
+    let under = size_is-IntersectionNode g.row.S.Denot node in
+    (omega (arith, c.decreases, smaller, under, h.depth), (search rules, (valid, (placed, on))))
 
 pub intersection_node::score_intersection-returns-clause-score : goal.intersection_node::score_intersection-returns-clause-score
 intersection_node::score_intersection-returns-clause-score g t c =
@@ -289,10 +279,11 @@ intersection_node::score_intersection-returns-clause-score g t c =
     let law = tree-ascends D g.met.S.DocSet.ascending in
     let h = c.loop-i.invariant in
     let node = c.args.node.now in
-    let below : head_document (e node.leader) < TERMINATED = tree-here D g.met.S.DocSet.ascending node.leader c.requires.trees.leader c.requires.placed.leader c.requires.here in
+    let xs = c.loop-i.others in
+    let below : head_document (tree_entries D node.leader) < TERMINATED = tree-here D g.met.S.DocSet.ascending node.leader c.requires.trees.leader c.requires.placed.leader c.requires.here in
     let score = head_score-together (IsTree D) (tree_limits D) e law held_sum (IsTreePlaced D) _ (e node.leader) node.others.items (law node.leader c.requires.trees.leader) c.requires.trees.others below (c.requires.placed.others below) in
-    let scores = map head_score (map e c.loop-i.node.others.items) in
-    let long : length scores ≤ c.loop-i.i = omega (arith, length-map (map e c.loop-i.node.others.items) head_score, length-map c.loop-i.node.others.items e, h.unvisited.0, c.loop-i-test.false, c.len-i-end.ensures, node.others.ok.0) in
+    let scores = map head_score (map e xs) in
+    let long : length scores ≤ c.loop-i.i = omega (arith, length-map (map e xs) head_score, length-map xs e, c.loop-i.auto.others, c.loop-i-test.false) in
     let whole = ap sum (take_all c.loop-i.i scores long ∙ ap (map head_score) h.lists) in
     let cons = sum_by-cons (λ n. n) (head_score (e node.leader)) (map head_score (map e node.others.items)) in
     let total : c.loop-i.sum ≡ held_sum (head_score (e node.leader) ∷ map head_score (map e node.others.items)) = omega (arith, h.summed, whole, cons) in
@@ -300,7 +291,22 @@ intersection_node::score_intersection-returns-clause-score g t c =
 
 pub intersection_node::score_intersection-returns-clause-entries : goal.intersection_node::score_intersection-returns-clause-entries
 intersection_node::score_intersection-returns-clause-entries g t c =
-    (λ i. common_entries held_sum (c.loop-i.invariant.entries i ∷ c.loop-i.invariant.lists i))
+    let D = g.S.DocSet in
+    let node = c.args.node.now in
+    let xs = c.loop-i.others in
+    let whole = with_items_is node.others xs (omega (arith, c.loop-i.auto.others, ap length c.as_mut_slice-others.ensures.value, node.others.ok.0)) in
+    let lists = ap (map (tree_entries D)) whole ∙ c.loop-i.invariant.lists in
+    (λ i. common_entries held_sum (c.score_tree-sum.ensures.entries i ∷ lists i))
+
+pub intersection_node::score_intersection-returns-clause-trees : goal.intersection_node::score_intersection-returns-clause-trees
+intersection_node::score_intersection-returns-clause-trees g t c =
+    let node = c.args.node.now in
+    let xs = c.loop-i.others in
+    let whole = with_items_is node.others xs (omega (arith, c.loop-i.auto.others, ap length c.as_mut_slice-others.ensures.value, node.others.ok.0)) in
+    record {
+      leader = c.score_tree-sum.ensures.valid;
+      others = subst (All (IsTree g.S.DocSet)) (sym whole) c.loop-i.invariant.valid;
+    }
 
 pub intersection_node::score_intersection-returns-clause-placed : goal.intersection_node::score_intersection-returns-clause-placed
 intersection_node::score_intersection-returns-clause-placed g t c =
@@ -308,12 +314,23 @@ intersection_node::score_intersection-returns-clause-placed g t c =
     let e = tree_entries D in
     let h = c.loop-i.invariant in
     let node = c.args.node.now in
-    let below : head_document (e node.leader) < TERMINATED = tree-here D g.met.S.DocSet.ascending node.leader c.requires.trees.leader c.requires.placed.leader c.requires.here in
-    let all = All-same_lists e (λ es. head_document es ≡ head_document (e node.leader)) node.others.items c.loop-i.node.others.items h.lists (λ k d less. (c.requires.placed.others below k d less).1) in
+    let xs = c.loop-i.others in
+    let whole = with_items_is node.others xs (omega (arith, c.loop-i.auto.others, ap length c.as_mut_slice-others.ensures.value, node.others.ok.0)) in
+    let below : head_document (tree_entries D node.leader) < TERMINATED = tree-here D g.met.S.DocSet.ascending node.leader c.requires.trees.leader c.requires.placed.leader c.requires.here in
+    let all = All-same_lists e (λ es. head_document es ≡ head_document (e node.leader)) node.others.items xs h.lists (λ k d less. (c.requires.placed.others below k d less).1) in
+    let leader = c.score_tree-sum.ensures.entries in
     record {
-      leader = h.stands;
-      others = λ _ k d less. (h.placed k d less, all k d less ∙ ap head_document (sym h.entries));
+      leader = c.score_tree-sum.ensures.placed;
+      others = λ _. subst (StandOn (IsTreePlaced D) e _) (sym whole) (λ k d less. (h.placed k d less, all k d less ∙ ap head_document (sym leader)));
     }
+
+pub intersection_node::score_intersection-returns-clause-depth : goal.intersection_node::score_intersection-returns-clause-depth
+intersection_node::score_intersection-returns-clause-depth g t c =
+    let node = c.args.node.now in
+    let xs = c.loop-i.others in
+    let size = size-AnyScorer g.row.S.Denot in
+    let whole = with_items_is node.others xs (omega (arith, c.loop-i.auto.others, ap length c.as_mut_slice-others.ensures.value, node.others.ok.0)) in
+    size-others node _ c.score_tree-sum.ensures.depth (omega (arith, ap (most size) whole, c.loop-i.invariant.depth))
 
 -- ---- the arms of the enum
 
@@ -332,14 +349,6 @@ any_scorer::score_other-returns-in-Disjunction-clause-depth g t c =
     let new = record node { value = c.score_group-in-Disjunction.new.node } in
     let smaller = subst (λ (n : GroupNode g.row.S.Denot). size-GroupNode g.row.S.Denot c.score_group-in-Disjunction.new.node ≤ size-GroupNode g.row.S.Denot n) value c.score_group-in-Disjunction.ensures.depth in
     rw (c.in-Disjunction.is, outs-Disjunction c.in-Disjunction.node) (size-Disjunction node new smaller)
-
-pub any_scorer::score_other-returns-in-Intersection-clause-depth : goal.any_scorer::score_other-returns-in-Intersection-clause-depth
-any_scorer::score_other-returns-in-Intersection-clause-depth g t c =
-    let node = c.in-Intersection.node in
-    let value = rw (c.in-Intersection.is, outs-Intersection c.in-Intersection.node) at c.deref_mut-in-Intersection.ensures.value in
-    let new = record node { value = c.score_intersection.new.node } in
-    let smaller = subst (λ (n : IntersectionNode g.row.S.Denot). size-IntersectionNode g.row.S.Denot c.score_intersection.new.node ≤ size-IntersectionNode g.row.S.Denot n) value c.score_intersection.ensures.depth in
-    rw (c.in-Intersection.is, outs-Intersection c.in-Intersection.node) (size-Intersection node new smaller)
 
 pub any_scorer::score_other-score_group-requires : goal.any_scorer::score_other-score_group-requires
 any_scorer::score_other-score_group-requires g t c κs within =
@@ -435,58 +444,53 @@ any_scorer::score_other-returns-in-Disjunction-clause-head g t c =
     let value = rw (c.in-Disjunction.is, outs-Disjunction c.in-Disjunction.node) at c.deref_mut-in-Disjunction.ensures.value in
     rw (c.in-Disjunction.is, outs-Disjunction c.in-Disjunction.node) (c.score_group-in-Disjunction.ensures.current ∙ ap (λ (n : GroupNode g.row.S.Denot). n.current) value)
 
+-- ---- the arm of an intersection
+
 pub any_scorer::score_other-score_intersection-requires : goal.any_scorer::score_other-score_intersection-requires
 any_scorer::score_other-score_intersection-requires g t c κs within =
-    let D = g.S.DocSet in
     let node = c.in-Intersection.node in
-    let value = rw (c.in-Intersection.is, outs-Intersection c.in-Intersection.node) at c.deref_mut-in-Intersection.ensures.value in
-    let trees = subst (AreTrees D) (sym value) (opened-Intersection D node (subst (IsTree D) c.in-Intersection.is c.requires.valid)) in
-    let placed = subst (AreTogether D) (sym value) (standing-Intersection D node (subst (IsTreePlaced D) c.in-Intersection.is c.requires.placed)) in
-    let here : tree_head D c.deref_mut-in-Intersection.result.now.leader < TERMINATED = omega (arith, c.requires.here, ap (tree_head D) c.in-Intersection.is, ap (λ (n : IntersectionNode g.row.S.Denot). tree_head D n.leader) value) in
-    (search (rules, aq.the_lemmas), (search rules, (trees, (placed, here))))
+    let lent = rw (c.in-Intersection.is, outs-Intersection node) at c.deref_mut-in-Intersection.ensures.value in
+    let is = c.in-Intersection.is in
+    let D = g.S.DocSet in
+    (search (rules, aq.the_lemmas), (search rules, (lent-trees D node is lent c.requires.valid, (lent-together D node is lent c.requires.placed, lent-here D node is lent c.requires.here))))
 
 pub any_scorer::score_other-returns-in-Intersection-clause-score : goal.any_scorer::score_other-returns-in-Intersection-clause-score
 any_scorer::score_other-returns-in-Intersection-clause-score g t c =
-    let D = g.S.DocSet in
     let node = c.in-Intersection.node in
-    let value = rw (c.in-Intersection.is, outs-Intersection c.in-Intersection.node) at c.deref_mut-in-Intersection.ensures.value in
-    let before : tree_entries D (Intersection node) ≡ common_list D c.deref_mut-in-Intersection.result.now = entries-Intersection D node ∙ ap (common_list D) (sym value) in
-    rw c.in-Intersection.is (c.score_intersection.ensures.score ∙ sym (ap head_score before))
+    let lent = rw (c.in-Intersection.is, outs-Intersection node) at c.deref_mut-in-Intersection.ensures.value in
+    c.score_intersection.ensures.score ∙ ap head_score (lent-entries g.S.DocSet node c.in-Intersection.is lent)
 
 pub any_scorer::score_other-returns-in-Intersection-clause-entries : goal.any_scorer::score_other-returns-in-Intersection-clause-entries
 any_scorer::score_other-returns-in-Intersection-clause-entries g t c =
-    let D = g.S.DocSet in
     let node = c.in-Intersection.node in
-    let value = rw (c.in-Intersection.is, outs-Intersection c.in-Intersection.node) at c.deref_mut-in-Intersection.ensures.value in
-    let new = record node { value = c.score_intersection.new.node } in
-    let before : tree_entries D (Intersection node) ≡ common_list D c.deref_mut-in-Intersection.result.now = entries-Intersection D node ∙ ap (common_list D) (sym value) in
-    rw (c.in-Intersection.is, outs-Intersection c.in-Intersection.node) (entries-Intersection D new ∙ c.score_intersection.ensures.entries ∙ sym before)
+    let lent = rw (c.in-Intersection.is, outs-Intersection node) at c.deref_mut-in-Intersection.ensures.value in
+    rw (c.in-Intersection.is, outs-Intersection node) (left-entries g.S.DocSet (λ es. es) node c.score_intersection.new.node lent c.score_intersection.ensures.entries)
 
 pub any_scorer::score_other-returns-in-Intersection-clause-top : goal.any_scorer::score_other-returns-in-Intersection-clause-top
 any_scorer::score_other-returns-in-Intersection-clause-top g t c =
-    let D = g.S.DocSet in
-    let value = rw (c.in-Intersection.is, outs-Intersection c.in-Intersection.node) at c.deref_mut-in-Intersection.ensures.value in
-    rw (c.in-Intersection.is, outs-Intersection c.in-Intersection.node) (c.score_intersection.ensures.top ∙ ap (λ (n : IntersectionNode g.row.S.Denot). n.top) value)
+    let node = c.in-Intersection.node in
+    let lent = rw (c.in-Intersection.is, outs-Intersection node) at c.deref_mut-in-Intersection.ensures.value in
+    rw (c.in-Intersection.is, outs-Intersection node) (left-top g.S.DocSet node c.score_intersection.new.node lent c.score_intersection.ensures.top)
 
 pub any_scorer::score_other-returns-in-Intersection-clause-valid : goal.any_scorer::score_other-returns-in-Intersection-clause-valid
 any_scorer::score_other-returns-in-Intersection-clause-valid g t c =
-    let D = g.S.DocSet in
     let node = c.in-Intersection.node in
-    let value = rw (c.in-Intersection.is, outs-Intersection c.in-Intersection.node) at c.deref_mut-in-Intersection.ensures.value in
-    let new = record node { value = c.score_intersection.new.node } in
-    let left : common_list D new.value ≡ common_list D node.value = c.score_intersection.ensures.entries ∙ ap (common_list D) value in
-    let same : new.value.top ≡ node.value.top = c.score_intersection.ensures.top ∙ ap (λ (n : IntersectionNode g.row.S.Denot). n.top) value in
-    let bounded = IsBounded-same node.value.top (common_list D node.value) (common_list D new.value) left (bounded-Intersection D node (subst (IsTree D) c.in-Intersection.is c.requires.valid)) in
-    rw (c.in-Intersection.is, outs-Intersection c.in-Intersection.node) (closed-Intersection D new c.score_intersection.ensures.trees (subst (λ n. IsBounded n (common_list D new.value)) (sym same) bounded))
+    let lent = rw (c.in-Intersection.is, outs-Intersection node) at c.deref_mut-in-Intersection.ensures.value in
+    rw (c.in-Intersection.is, outs-Intersection node) (left-valid g.S.DocSet (λ es. es) IsBounded-same node c.score_intersection.new.node c.in-Intersection.is lent c.requires.valid c.score_intersection.ensures.entries c.score_intersection.ensures.top c.score_intersection.ensures.trees)
 
 pub any_scorer::score_other-returns-in-Intersection-clause-placed : goal.any_scorer::score_other-returns-in-Intersection-clause-placed
 any_scorer::score_other-returns-in-Intersection-clause-placed g t c =
     let node = c.in-Intersection.node in
-    let new = record node { value = c.score_intersection.new.node } in
-    rw (c.in-Intersection.is, outs-Intersection c.in-Intersection.node) (placed-Intersection g.S.DocSet new c.score_intersection.ensures.placed)
+    rw (c.in-Intersection.is, outs-Intersection node) (placed-Intersection g.S.DocSet (record node { value = c.score_intersection.new.node }) c.score_intersection.ensures.placed)
 
 pub any_scorer::score_other-returns-in-Intersection-clause-head : goal.any_scorer::score_other-returns-in-Intersection-clause-head
 any_scorer::score_other-returns-in-Intersection-clause-head g t c =
-    let D = g.S.DocSet in
-    let value = rw (c.in-Intersection.is, outs-Intersection c.in-Intersection.node) at c.deref_mut-in-Intersection.ensures.value in
-    rw (c.in-Intersection.is, outs-Intersection c.in-Intersection.node) (c.score_intersection.ensures.head ∙ ap (λ (n : IntersectionNode g.row.S.Denot). tree_head D n.leader) value)
+    let node = c.in-Intersection.node in
+    let lent = rw (c.in-Intersection.is, outs-Intersection node) at c.deref_mut-in-Intersection.ensures.value in
+    rw (c.in-Intersection.is, outs-Intersection node) (left-head g.S.DocSet node c.score_intersection.new.node lent c.score_intersection.ensures.head)
+
+pub any_scorer::score_other-returns-in-Intersection-clause-depth : goal.any_scorer::score_other-returns-in-Intersection-clause-depth
+any_scorer::score_other-returns-in-Intersection-clause-depth g t c =
+    let node = c.in-Intersection.node in
+    let lent = rw (c.in-Intersection.is, outs-Intersection node) at c.deref_mut-in-Intersection.ensures.value in
+    rw (c.in-Intersection.is, outs-Intersection node) (left-depth node c.score_intersection.new.node lent c.score_intersection.ensures.depth)
