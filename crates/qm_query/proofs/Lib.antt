@@ -1,6 +1,5 @@
 pub mod BuilderLemmas
 pub mod ClauseWeights
-pub mod NoWeight
 pub mod Rows
 pub mod VisitSteps
 pub mod SearchFacts

@@ -2,6 +2,7 @@
 
 ghost use Rattle.std.specs.Prelude.{IsOkUnless};
 
+use crate::boxed::boxed;
 use crate::enable_scoring::EnableScoring;
 use crate::query::Query;
 use crate::searches::{count_alive, segment_at};
@@ -34,7 +35,7 @@ impl Query for AllQuery {
         alloc: Global,
         _enable_scoring: EnableScoring<'_, P>,
     ) -> Result<Box<AnyWeight>, QueryError> {
-        Ok(Box::new(alloc, AnyWeight::All(AllWeight))?)
+        boxed(alloc, AnyWeight::All(AllWeight))
     }
 
     fn count(&self, alloc: Global, searcher: &Searcher) -> Result<usize, QueryError> {

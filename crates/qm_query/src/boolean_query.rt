@@ -12,6 +12,7 @@ ghost use Rattle.std.specs.List.{list_all};
 ghost use Rattle.qm_query.specs.Occurs.{is_should};
 
 use crate::any_query::AnyQuery;
+use crate::boxed::boxed;
 use crate::enable_scoring::EnableScoring;
 use crate::query::Query;
 use crate::searches::{count_alive, segment_at};
@@ -202,7 +203,7 @@ impl BooleanQuery {
             enable_scoring.is_scoring_enabled(),
             AnyCombiner::from(SumCombiner::default()),
         );
-        Ok(Box::new(alloc, AnyWeight::Boolean(weight))?)
+        boxed(alloc, AnyWeight::Boolean(weight))
     }
 
     // A call with each term that the query names; see [`Query::query_terms`].

@@ -9,6 +9,7 @@ ghost use Rattle.qm_query.specs.QueryTree.{query_tree};
 ghost use Rattle.qm_query.specs.WeightRefusals.{IsWeightRefusal};
 
 use crate::any_query::AnyQuery;
+use crate::boxed::boxed;
 use crate::enable_scoring::EnableScoring;
 use crate::factor::Factor;
 use crate::query::Query;
@@ -73,7 +74,7 @@ impl BoostQuery {
             return Ok(inside);
         }
         let weight = BoostWeight::new(inside, self.boost.score());
-        Ok(Box::new(alloc, AnyWeight::Boost(weight))?)
+        boxed(alloc, AnyWeight::Boost(weight))
     }
 
     // A call with each term that the query names; see [`Query::query_terms`].

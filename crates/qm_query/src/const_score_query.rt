@@ -9,6 +9,7 @@ ghost use Rattle.qm_query.specs.QueryTree.{query_tree};
 ghost use Rattle.qm_query.specs.WeightRefusals.{IsWeightRefusal};
 
 use crate::any_query::AnyQuery;
+use crate::boxed::boxed;
 use crate::enable_scoring::EnableScoring;
 use crate::factor::Factor;
 use crate::query::Query;
@@ -73,7 +74,7 @@ impl ConstScoreQuery {
             return Ok(inside);
         }
         let weight = ConstWeight::new(inside, self.score.score());
-        Ok(Box::new(alloc, AnyWeight::Const(weight))?)
+        boxed(alloc, AnyWeight::Const(weight))
     }
 
     // A call with each term that the query names; see [`Query::query_terms`].

@@ -9,6 +9,7 @@ ghost use Rattle.qm_query.specs.QueryTree.{query_tree};
 ghost use Rattle.qm_query.specs.WeightRefusals.{IsWeightRefusal};
 
 use crate::any_query::AnyQuery;
+use crate::boxed::boxed;
 use crate::enable_scoring::EnableScoring;
 use crate::query::Query;
 use crate::searches::{count_alive, segment_at};
@@ -95,7 +96,7 @@ impl DisjunctionMaxQuery {
         }
         let scoring = enable_scoring.is_scoring_enabled();
         let weight = BooleanWeight::new(weights, scoring, AnyCombiner::from(self.combiner));
-        Ok(Box::new(alloc, AnyWeight::Boolean(weight))?)
+        boxed(alloc, AnyWeight::Boolean(weight))
     }
 
     // A call with each term that the query names; see [`Query::query_terms`].

@@ -9,6 +9,7 @@ ghost use Rattle.qm_query.specs.WeightRefusals.{IsByProvider};
 
 use crate::enable_scoring::EnableScoring;
 use crate::offsets::{clone_without_offsets, put_at_offsets};
+use qm_docset::Score;
 use qm_postings::Bm25StatisticsProvider;
 use qm_schema::{QueryError, Term};
 use qm_term::Bm25Weight;
@@ -48,7 +49,33 @@ pub(crate) fn weighed_terms<P: Bm25StatisticsProvider>(
     Ok((copies, weight))
 }
 
+// The norms of a term that isn't to score.
+const NO_NORMS: [u32; 256] = [0; 256];
+
+// What terms weigh that aren't to score. Its norms need no look at each, as those of a caller would.
+struct Unscored;
+
+impl Bm25StatisticsProvider for Unscored {
+    ghost use Rattle.std.proofs.Common.{replicate};
+
+    ghost weight_of = { λ unscored terms. 0 };
+
+    ghost norms_of = { λ unscored. replicate 256 0 };
+
+    ghost may_refuse = { λ unscored terms error. ⊥ };
+
+    fn weight(&self, _terms: &[Term]) -> Result<Score, QueryError> {
+        Ok(0)
+    }
+
+    fn norms(&self) -> &[u32; 256] {
+        &NO_NORMS
+    }
+
+    ghost refusals = { λ unscored terms error refused. absurd refused };
+}
+
 // The weight of a term that isn't to score.
 pub(crate) fn no_weight() -> Bm25Weight {
-    Bm25Weight::new(0, [0; 256]).unwrap()
+    Bm25Weight::for_terms(&Unscored, &[]).unwrap()
 }

@@ -8,6 +8,7 @@ mod all_query;
 mod any_query;
 mod boolean_query;
 mod boost_query;
+mod boxed;
 mod const_score_query;
 mod disjunction_max_query;
 mod empty_query;

@@ -11,6 +11,7 @@ ghost use Rattle.qm_query.specs.WeightRefusals.{IsLeafRefusal, IsPhraseRefusal};
 ghost use Rattle.qm_schema.specs.declared.error.QueryError.TheVariants.{Memory};
 ghost use Rattle.qm_weight.specs.Weights.{prefix_alone, tree_of};
 
+use crate::boxed::boxed;
 use crate::enable_scoring::EnableScoring;
 use crate::fields::{phrase_field_refusal, term_field_refusal};
 use crate::leaf_weight::weighed_terms;
@@ -128,7 +129,7 @@ impl PhrasePrefixQuery {
         }
         let prefix = self.prefix.1.clone(alloc)?;
         let weight = PrefixWeight::new(prefix, self.max_expansions);
-        Ok(Box::new(alloc, AnyWeight::Prefix(weight))?)
+        boxed(alloc, AnyWeight::Prefix(weight))
     }
 
     // The weight where there is a full term. Of what these weigh the prefix is no part.
@@ -148,7 +149,7 @@ impl PhrasePrefixQuery {
         let (terms, weight) = weighed_terms(alloc, enable_scoring, &self.phrase_terms)?;
         let prefix = (self.prefix.0, self.prefix.1.clone(alloc)?);
         let weight = PhrasePrefixWeight::new(terms, prefix, weight, self.max_expansions);
-        Ok(Box::new(alloc, AnyWeight::PhrasePrefix(weight))?)
+        boxed(alloc, AnyWeight::PhrasePrefix(weight))
     }
 
     /// Expands the prefix to so many terms at most. Takes no memory.

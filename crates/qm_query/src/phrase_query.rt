@@ -5,6 +5,7 @@ ghost use Rattle.std.specs.List.{enumerate_from};
 ghost use Rattle.qm_query.specs.Offsets.{IsByOffset, first_field, row_refusal, terms_of, terms_refusal, with_two};
 ghost use Rattle.qm_query.specs.Refusals.{IsRefusedFor};
 
+use crate::boxed::boxed;
 use crate::enable_scoring::EnableScoring;
 use crate::fields::phrase_field_refusal;
 use crate::leaf_weight::weighed_terms;
@@ -162,7 +163,7 @@ impl Query for PhraseQuery {
         let (terms, weight) = weighed_terms(alloc, enable_scoring, &self.phrase_terms)?;
         let mut weight = PhraseWeight::new(terms, weight);
         weight.slop(self.slop);
-        Ok(Box::new(alloc, AnyWeight::Phrase(weight))?)
+        boxed(alloc, AnyWeight::Phrase(weight))
     }
 
     fn count(&self, alloc: Global, searcher: &Searcher) -> Result<usize, QueryError> {

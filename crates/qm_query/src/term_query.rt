@@ -1,12 +1,14 @@
 //! The query for a term.
 
 ghost use Rattle.std.specs.Prelude.{◌≡◌, IfErr, IfOk, IsOkUnless, IsTrue};
-ghost use Rattle.qm_weight.specs.Weights.{term_tree};
+ghost use Rattle.qm_weight.specs.Tree.{term as leaf_of};
+ghost use Rattle.qm_weight.specs.Weights.{term_tree, tree_of, weighing_if};
 ghost use Rattle.qm_query.specs.EnableScoring.{schema_of};
 ghost use Rattle.qm_query.specs.Fields.{is_served};
 ghost use Rattle.qm_query.specs.QueryTree.{query_tree};
 ghost use Rattle.qm_query.specs.WeightRefusals.{IsWeightRefusal};
 
+use crate::boxed::boxed;
 use crate::enable_scoring::EnableScoring;
 use crate::fields::term_field_refusal;
 use crate::leaf_weight::{leaf_weight, no_weight};
@@ -15,7 +17,7 @@ use crate::searches::{count_alive, segment_at};
 use crate::visits::visit_term;
 use qm_postings::{Bm25StatisticsProvider, DocAddress, Searcher};
 use qm_schema::{IndexRecordOption, QueryError, Term};
-use qm_term::Explanation;
+use qm_term::{Bm25Weight, Explanation};
 use qm_weight::{AnyWeight, TermWeight, Weight};
 use std::alloc::Global;
 use std::marker::Model;
@@ -85,6 +87,23 @@ impl TermQuery {
         }
     }
 
+    // The weight of the term, made where it is kept: it is more than a kilobyte, and each result that it
+    // is handed on in would cost a copy.
+    fn boxed_weight(
+        &self,
+        alloc: Global,
+        option: IndexRecordOption,
+        similarity: &Bm25Weight,
+        is_scored: bool,
+    ) -> Result<Box<AnyWeight>, QueryError>
+        ensures tree { IfOk result (λ weight. tree_of weight.value ≡ leaf_of self.now.term option (weighing_if is_scored similarity.now)) }
+        ensures refused { IsOkUnless result QueryError.Memory }
+    {
+        let term = self.term.clone(alloc)?;
+        let weight = TermWeight::new(term, option, *similarity, is_scored);
+        boxed(alloc, AnyWeight::Term(weight))
+    }
+
     /// The same query, in memory of its own; costs a copy of the term.
     ///
     /// Refused with [`QueryError::Memory`] alone.
@@ -109,8 +128,21 @@ impl Query for TermQuery {
         alloc: Global,
         enable_scoring: EnableScoring<'_, P>,
     ) -> Result<Box<AnyWeight>, QueryError> {
-        let weight = self.specialized_weight(alloc, enable_scoring)?;
-        Ok(Box::new(alloc, AnyWeight::Term(weight))?)
+        if let Some(refusal) = term_field_refusal(enable_scoring.schema(), self.term.field()) {
+            return Err(refusal);
+        }
+        match enable_scoring {
+            EnableScoring::Enabled {
+                statistics_provider,
+                ..
+            } => match Bm25Weight::for_terms(statistics_provider, slice::from_ref(&self.term)) {
+                Ok(weight) => self.boxed_weight(alloc, self.index_record_option, &weight, true),
+                Err(error) => Err(error),
+            },
+            EnableScoring::Disabled { .. } => {
+                self.boxed_weight(alloc, IndexRecordOption::Basic, &no_weight(), false)
+            }
+        }
     }
 
     fn count(&self, alloc: Global, searcher: &Searcher) -> Result<usize, QueryError> {

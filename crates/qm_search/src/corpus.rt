@@ -188,6 +188,8 @@ impl Corpus {
         self.documents.schema()
     }
 
+    // Kept out of its caller, which else would make room for a kilobyte of norms for every query.
+    #[inline(never)]
     fn weigh(&self, alloc: Global) -> Result<Searcher, QueryError>
         ensures fields { IfOk result (λ searcher. searcher.schema ≡ self.now.documents.schema) }
         ensures weights { IfOk result (IsWeighedBy (given self.now.weights)) }

@@ -11,6 +11,8 @@ use Rattle.qm_query.specs.QueryTree.{query_tree}
 use Rattle.qm_query.specs.WeightRefusals.{IsWeightRefusal}
 use Rattle.qm_query.proofs.ClauseWeights.{are_clauses_served-step, are_clauses_served-whole, are_disjuncts_served-whole, clause_trees-step, clause_trees-whole, clause_weight_refused, disjunct_trees-whole, disjunct_weight_refused}
 use Rattle.qm_query.proofs.Rows.{row_clauses-items, row_disjuncts-items, row_subqueries-items}
+use Rattle.std.proofs.lemmas.Result.{IfOk-weaker}
+use Rattle.qm_weight.specs.declared.any_weight.AnyWeight.TheVariants.{Boolean}
 use Rattle.qm_query.proofs.+weights.Goals as goal
 
 pub any_query::AnyQuery::build_weight-returns-in-Boolean-clause-tree :
@@ -65,14 +67,17 @@ boolean_query::BooleanQuery::build_weight-loop-occur-preserved g t c = record {
 pub boolean_query::BooleanQuery::build_weight-returns-clause-tree :
     goal.boolean_query::BooleanQuery::build_weight-returns-clause-tree
 boolean_query::BooleanQuery::build_weight-returns-clause-tree g t c =
-    let made : tree_of c.in_ok-new.field-0.value ≡ boolean_tree c.with_minimum_number_should_match-weight.result = search (rules, w.the_lemmas, row_clauses-items) in
+    let weight = c.with_minimum_number_should_match-weight.result in
+    let made : tree_of (Boolean weight) ≡ boolean_tree weight = search (rules, w.the_lemmas, row_clauses-items) in
     let clauses = clause_trees-whole g.P.Bm25StatisticsProvider c.args.enable_scoring c.loop-occur.weights.items c.args.self.now.subqueries.items c.loop-occur.occur-index (subst (λ xs. length xs ≤ c.loop-occur.occur-index) c.deref-occur-items.ensures.value c.loop-occur-test.false) c.loop-occur.invariant.trees in
-    made ∙ c.with_minimum_number_should_match-weight.ensures ∙ (λ i. boolean_node (c.is_scoring_enabled.ensures i) c.args.self.now.minimum_number_should_match (combiner_of (c.from.ensures i)) (clauses i))
+    let tree = made ∙ c.with_minimum_number_should_match-weight.ensures ∙ (λ i. boolean_node (c.is_scoring_enabled.ensures i) c.args.self.now.minimum_number_should_match (combiner_of (c.from.ensures i)) (clauses i)) in
+    IfOk-weaker c.boxed.result (λ b. b.value ≡ Boolean weight) _ (λ b is. ap tree_of is ∙ tree) c.boxed.ensures.value
 
 pub boolean_query::BooleanQuery::build_weight-returns-clause-served :
     goal.boolean_query::BooleanQuery::build_weight-returns-clause-served
 boolean_query::BooleanQuery::build_weight-returns-clause-served g t c =
-    are_clauses_served-whole (schema_of c.args.enable_scoring) c.args.self.now.subqueries.items c.loop-occur.occur-index (subst (λ xs. length xs ≤ c.loop-occur.occur-index) c.deref-occur-items.ensures.value c.loop-occur-test.false) c.loop-occur.invariant.served
+    let served = are_clauses_served-whole (schema_of c.args.enable_scoring) c.args.self.now.subqueries.items c.loop-occur.occur-index (subst (λ xs. length xs ≤ c.loop-occur.occur-index) c.deref-occur-items.ensures.value c.loop-occur-test.false) c.loop-occur.invariant.served in
+    IfOk-weaker c.boxed.result (λ b. b.value ≡ Boolean c.with_minimum_number_should_match-weight.result) _ (λ _ _. served) c.boxed.ensures.value
 
 pub disjunction_max_query::DisjunctionMaxQuery::build_weight-returns-in_err-weight-clause-refused :
     goal.disjunction_max_query::DisjunctionMaxQuery::build_weight-returns-in_err-weight-clause-refused
@@ -83,11 +88,14 @@ disjunction_max_query::DisjunctionMaxQuery::build_weight-returns-in_err-weight-c
 pub disjunction_max_query::DisjunctionMaxQuery::build_weight-returns-clause-tree :
     goal.disjunction_max_query::DisjunctionMaxQuery::build_weight-returns-clause-tree
 disjunction_max_query::DisjunctionMaxQuery::build_weight-returns-clause-tree g t c =
-    let made : tree_of c.in_ok-new.field-0.value ≡ boolean_tree c.new-weight.result = search (rules, w.the_lemmas, row_clauses-items) in
+    let weight = c.new-weight.result in
+    let made : tree_of (Boolean weight) ≡ boolean_tree weight = search (rules, w.the_lemmas, row_clauses-items) in
     let clauses = disjunct_trees-whole g.P.Bm25StatisticsProvider c.args.enable_scoring c.loop-query.weights.items c.args.self.now.disjuncts.items c.loop-query.query-index (subst (λ xs. length xs ≤ c.loop-query.query-index) c.deref-query-items.ensures.value c.loop-query-test.false) c.loop-query.invariant.trees in
-    made ∙ c.new-weight.ensures ∙ (λ i. boolean_node (c.is_scoring_enabled-scoring.ensures i) 1 (combiner_of (c.from.ensures i)) (clauses i))
+    let tree = made ∙ c.new-weight.ensures ∙ (λ i. boolean_node (c.is_scoring_enabled-scoring.ensures i) 1 (combiner_of (c.from.ensures i)) (clauses i)) in
+    IfOk-weaker c.boxed.result (λ b. b.value ≡ Boolean weight) _ (λ b is. ap tree_of is ∙ tree) c.boxed.ensures.value
 
 pub disjunction_max_query::DisjunctionMaxQuery::build_weight-returns-clause-served :
     goal.disjunction_max_query::DisjunctionMaxQuery::build_weight-returns-clause-served
 disjunction_max_query::DisjunctionMaxQuery::build_weight-returns-clause-served g t c =
-    are_disjuncts_served-whole (schema_of c.args.enable_scoring) c.args.self.now.disjuncts.items c.loop-query.query-index (subst (λ xs. length xs ≤ c.loop-query.query-index) c.deref-query-items.ensures.value c.loop-query-test.false) c.loop-query.invariant.served
+    let served = are_disjuncts_served-whole (schema_of c.args.enable_scoring) c.args.self.now.disjuncts.items c.loop-query.query-index (subst (λ xs. length xs ≤ c.loop-query.query-index) c.deref-query-items.ensures.value c.loop-query-test.false) c.loop-query.invariant.served in
+    IfOk-weaker c.boxed.result (λ b. b.value ≡ Boolean c.new-weight.result) _ (λ _ _. served) c.boxed.ensures.value
