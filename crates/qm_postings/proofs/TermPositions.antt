@@ -111,8 +111,7 @@ module _ (schema : List FieldFacts) (rs : List PostingsRange) (ds fs ps : List �
       go true false e = ap (λ n. take n (drop r.positions_start ps)) (sym e)
 
 pub blocks_from : (block_len : ℕ) (rs : List PostingsRange) (fs starts : List ℕ) (infos : List BlockInfo) (i : ℕ) (r : PostingsRange) → HaveBlocks block_len rs fs starts infos → i < length rs → r ≡ get_or rs i r → 0 < r.positions_count →
-    AreBlocks block_len (take (length infos - get_or starts i 0) (drop (get_or starts i 0) infos)) (in_range r fs)
+    AreBlocks block_len (drop (get_or starts i 0) infos) (in_range r fs)
 blocks_from block_len rs fs starts infos i r h l here some =
     let Blocks : PostingsRange → Type 0 = λ y. 0 < y.positions_count → AreBlocks block_len (drop (get_or starts i 0) infos) (in_range y fs) in
-    let all = subst Blocks (sym here) (h.blocks i r l) some in
-    subst (λ xs. AreBlocks block_len xs (in_range r fs)) (sym (take_all (length infos - get_or starts i 0) (drop (get_or starts i 0) infos) (omega (arith, length-drop (get_or starts i 0) infos)))) all
+    subst Blocks (sym here) (h.blocks i r l) some

@@ -1,9 +1,9 @@
 //! The terms of a field, and their postings.
 
-ghost use Rattle.std.specs.Prelude.{◌≡◌, ◌≤◌, ◌+◌, [], if◌then◌else◌, length, IsSome, IfSome, ◌↔◌};
+ghost use Rattle.std.specs.Prelude.{◌≡◌, ◌≤◌, ◌+◌, [], if◌then◌else◌, drop, length, IsSome, IfSome, ◌↔◌};
 ghost use Rattle.qm_schema.specs.Term.{TermKey, term_cmp};
 ghost use Rattle.qm_postings.specs.FieldIndex.{AreCounted, IsHeld, IsInfoOf, ListsInfo, ListsPostings, reading, shown};
-ghost use Rattle.qm_postings.specs.Index.{positions_in};
+ghost use Rattle.qm_postings.specs.Index.{in_range, positions_in};
 ghost use Rattle.std.specs.Option.{option_copied};
 ghost use Rattle.qm_postings.specs.TermRange.{AreTermsBetween, terms_left};
 ghost use Rattle.qm_postings.specs.SegmentPostings.{postings_left, reads};
@@ -15,7 +15,7 @@ mod term_range;
 use crate::freq_reading_option::FreqReadingOption;
 use crate::segment_postings::SegmentPostings;
 use crate::segment_reader::{SegmentReader, TermEntry};
-use crate::term_arrays::TermArrays;
+use crate::term_arrays::{BlockInfo, TermArrays};
 use qm_docset::DocSet;
 use qm_schema::{Field, IndexRecordOption, Term};
 use sought_term::SoughtTerm;
@@ -104,12 +104,11 @@ impl<'a> InvertedIndex<'a> {
     {
         let reader = self.reader;
         let entry = &reader.terms[info.ordinal];
-        let end = entry.start + entry.doc_freq as usize;
         let arrays = TermArrays {
-            documents: &reader.documents[entry.start..end],
-            frequencies: &reader.frequencies[entry.start..end],
+            documents: postings_part(&reader.documents, entry),
+            frequencies: postings_part(&reader.frequencies, entry),
             positions: positions_asked(&reader.positions, entry, option.has_positions()),
-            blocks: &reader.blocks[reader.block_starts[info.ordinal]..],
+            blocks: blocks_from(&reader.blocks, reader.block_starts[info.ordinal]),
             block_len: reader.block_len as usize,
             max_term_freq: entry.max_term_freq,
         };
@@ -150,6 +149,22 @@ impl<'a> InvertedIndex<'a> {
             (true, true) => FreqReadingOption::ReadFreq,
         }
     }
+}
+
+// What an array of all postings has of a term.
+fn postings_part<'a>(array: &'a [u32], entry: &TermEntry) -> &'a [u32]
+    requires { entry.now.start + entry.now.count ≤ length array.now }
+    ensures { result.now ≡ in_range entry.now array.now }
+{
+    let end = entry.start + entry.doc_freq as usize;
+    &array[entry.start..end]
+}
+
+fn blocks_from(blocks: &[BlockInfo], start: usize) -> &[BlockInfo]
+    requires { start ≤ length blocks.now }
+    ensures { result.now ≡ drop start blocks.now }
+{
+    &blocks[start..]
 }
 
 // The positions of a term, where they are asked for.
