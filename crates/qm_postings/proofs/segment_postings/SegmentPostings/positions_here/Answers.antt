@@ -1,5 +1,5 @@
 -- As many positions as the frequency says, from where those of the posting begin.
-use Rattle.std.proofs.Common.{◌≡◌, ◌<◌, ◌+◌, ◌-◌, length, get_or, take, drop, ap, sym, arith, ◌∙◌, rules}
+use Rattle.std.proofs.Common.{◌≡◌, ◌<◌, ◌≤◌, ◌+◌, ◌-◌, ℕ, length, sum, get_or, take, drop, ap, refl, sym, arith, ◌∙◌, rules}
 use Rattle.qm_docset.specs.Entry.{head_document}
 use Rattle.qm_docset.specs.declared.numbers.TheConstants.{TERMINATED}
 use Rattle.qm_postings.specs.SegmentPostings.{IsPostings, postings_left}
@@ -7,11 +7,19 @@ use Rattle.qm_postings.specs.StoredFacts.{no_positions, positions_at}
 use Rattle.qm_postings.specs.TermArrays.{stored}
 use Rattle.qm_postings.specs.declared.segment_postings.SegmentPostings.{SegmentPostings}
 use Rattle.qm_docset.proofs.PlacesLeft.{within}
+use Rattle.qm_postings.proofs.PositionSums.{sum-past}
 use Rattle.qm_postings.proofs.PostingsLeft.{named}
 use Rattle.qm_postings.proofs.segment_postings.SegmentPostings.positions_here.Goals as goal
 
 inside : (s : SegmentPostings) → IsPostings s → head_document (postings_left s) < TERMINATED → s.cursor < length s.arrays.documents.now
 inside s valid here = within s.cursor (stored s.reading s.arrays) s.arrays.documents.now (named s) valid.place here
+
+-- the positions of the posting that the cursor stands on are there
+end_inside : (s : SegmentPostings) (start : ℕ) → IsPostings s → head_document (postings_left s) < TERMINATED → 0 < length s.arrays.positions.now → start ≡ sum (take s.cursor s.arrays.frequencies.now) →
+    start + get_or s.arrays.frequencies.now s.cursor 0 ≤ length s.arrays.positions.now
+end_inside s start valid here some is =
+    let places = valid.arrays.places some in
+    omega (arith, is, places.enough, sum-past s.cursor s.arrays.frequencies.now (omega (arith, inside s valid here, places.frequencies)))
 
 pub returns-then-is_empty-clause-positions : goal.returns-then-is_empty-clause-positions
 returns-then-is_empty-clause-positions c =
@@ -20,17 +28,41 @@ returns-then-is_empty-clause-positions c =
     let none : length a.positions.now ≡ 0 = search rules in
     no_positions s.reading s.cursor a.documents.now a.frequencies.now a.positions.now none (inside s c.requires.valid c.requires.here)
 
-pub positions_start-start-requires-clause-within : goal.positions_start-start-requires-clause-within
-positions_start-start-requires-clause-within c =
+pub returns-then-is_empty-clause-valid : goal.returns-then-is_empty-clause-valid
+returns-then-is_empty-clause-valid c = c.requires.valid
+
+pub returns-then-is_empty-clause-entries : goal.returns-then-is_empty-clause-entries
+returns-then-is_empty-clause-entries c = refl
+
+pub returns-then-is_empty-clause-limits : goal.returns-then-is_empty-clause-limits
+returns-then-is_empty-clause-limits c = refl
+
+pub positions_start-start-requires : goal.positions_start-start-requires
+positions_start-start-requires c =
     let s = c.args.self.now in
     let some : 0 < length s.arrays.positions.now = search rules in
-    omega (arith, inside s c.requires.valid c.requires.here, (c.requires.valid.arrays.places some).frequencies)
+    let places = c.requires.valid.arrays.places some in
+    record {
+      places = places;
+      within = omega (arith, inside s c.requires.valid c.requires.here, places.frequencies);
+      mark = c.requires.valid.mark;
+      start = c.requires.valid.mark_start some;
+    }
 
 pub bounds-arrays-self : goal.bounds-arrays-self
 bounds-arrays-self c =
     let s = c.args.self.now in
     let some : 0 < length s.arrays.positions.now = search rules in
     omega (arith, inside s c.requires.valid c.requires.here, (c.requires.valid.arrays.places some).frequencies)
+
+pub overflow_add-end : goal.overflow_add-end
+overflow_add-end c = omega (arith, end_inside c.args.self.now c.positions_start-start.result c.requires.valid c.requires.here (search rules) c.positions_start-start.ensures, c.fits-self)
+
+pub slice_bounds-result-count : goal.slice_bounds-result-count
+slice_bounds-result-count c = omega arith
+
+pub slice_bounds-result-end : goal.slice_bounds-result-end
+slice_bounds-result-end c = end_inside c.args.self.now c.positions_start-start.result c.requires.valid c.requires.here (search rules) c.positions_start-start.ensures
 
 pub returns-clause-positions : goal.returns-clause-positions
 returns-clause-positions c =
@@ -42,3 +74,14 @@ returns-clause-positions c =
     ap (λ n. take n (drop start.result a.positions.now)) width
     ∙ ap (λ n. take f (drop n a.positions.now)) start.ensures
     ∙ sym (positions_at s.reading s.cursor a.documents.now a.frequencies.now a.positions.now (inside s c.requires.valid c.requires.here))
+
+pub returns-clause-entries : goal.returns-clause-entries
+returns-clause-entries c = refl
+
+pub returns-clause-limits : goal.returns-clause-limits
+returns-clause-limits c = refl
+
+pub returns-clause-valid : goal.returns-clause-valid
+returns-clause-valid c =
+    let valid = c.requires.valid in
+    record { arrays = valid.arrays; place = valid.place; mark = omega arith; mark_start = λ _. c.positions_start-start.ensures }
