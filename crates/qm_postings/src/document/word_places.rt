@@ -1,6 +1,6 @@
 //! The words of a text, each once, with all its places.
 
-ghost use Rattle.std.specs.Prelude.{◌≡◌, ◌<◌, ℕ, [], ◌∷◌, length, map, vec_len, slice_set, slice_index_or, IfOk, OnOk, IsOkUnless, Some, unwrap_or};
+ghost use Rattle.std.specs.Prelude.{◌≡◌, ◌<◌, ◌≤◌, ◌++◌, ℕ, [], ◌∷◌, length, map, vec_len, slice_set, slice_index_or, IfOk, OnOk, IsOkUnless, Some, unwrap_or};
 ghost use Rattle.std.specs.BTreeMap.{Updates, get};
 ghost use Rattle.std.specs.Cmp.Lexicographic.{slice_cmp};
 ghost use Rattle.std.specs.Ordering.{nat_cmp};
@@ -38,11 +38,7 @@ impl WordPlaces {
             let place = count.min(4294967295) as u32;
             let known = terms.len();
             let number = number_of(&mut numbers, word, known)?;
-            if number < known {
-                add_place(&mut terms, number, place)?;
-            } else {
-                terms.push(first_place(alloc, field, word, place)?)?;
-            }
+            enter_place(alloc, field, &mut terms, number, word, place)?;
             count += 1;
         }
         Ok(WordPlaces { terms, count })
@@ -60,6 +56,26 @@ fn number_of<'t>(
     ensures refused { IsOkUnless result QueryError.Memory }
 {
     Ok(*numbers.entry(HeadedWord::new(word))?.or_insert(next))
+}
+
+/// Enters one more place of a word. It has that number, or, where it first stands, gets it.
+fn enter_place(
+    alloc: Global,
+    field: Field,
+    terms: &mut Vec<GivenTerm>,
+    number: usize,
+    word: &str,
+    place: u32,
+) -> Result<(), QueryError>
+    ensures again { OnOk result (number < vec_len terms.old → (d : Given) → terms.new.items ≡ slice_set terms.old.items number (with_place (slice_index_or terms.old.items number d) place)) }
+    ensures first { OnOk result (vec_len terms.old ≤ number → terms.new.items ≡ terms.old.items ++ record { term = record { field = field; bytes = word.now }; positions = place ∷ [] } ∷ []) }
+    ensures refused { IsOkUnless result QueryError.Memory }
+{
+    if number < terms.len() {
+        return add_place(terms, number, place);
+    }
+    terms.push(first_place(alloc, field, word, place)?)?;
+    Ok(())
 }
 
 /// A word with the place where it first stands.
