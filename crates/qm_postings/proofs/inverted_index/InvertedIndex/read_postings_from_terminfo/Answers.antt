@@ -1,7 +1,7 @@
 -- The range of the info's term is a range of the arrays of all postings.
-use Rattle.std.proofs.Common.{ℕ, [], List, ◌<◌, ◌≤◌, cond, sum, length, length-drop, ◌≡◌, ◌+◌, ◌-◌, Some, get_or, map, true, take, drop, sym, subst, ap, ◌∙◌, arith}
+use Rattle.std.proofs.Common.{ℕ, [], List, ◌<◌, ◌≤◌, cond, sum, length, ◌≡◌, ◌+◌, Some, get_or, map, true, drop, sym, subst, ap, ◌∙◌, arith}
 use Rattle.std.specs.Prelude.{All}
-use Rattle.std.proofs.lemmas.List.{get_or_read, length-take}
+use Rattle.std.proofs.lemmas.List.{get_or_read}
 use Rattle.std.specs.List.{slice_get}
 use Rattle.qm_docset.specs.Documents.{AreDocuments}
 use Rattle.qm_docset.specs.Entry.{Limits}
@@ -14,7 +14,6 @@ use Rattle.qm_postings.specs.Segment.{postings_of, reads_positions}
 use Rattle.qm_postings.specs.Positions.{ArePositions}
 use Rattle.qm_postings.specs.Stored.{stored_entries}
 use Rattle.qm_postings.specs.TermArrays.{AreBlocks}
-use Rattle.qm_postings.specs.declared.term_arrays.BlockInfo.{BlockInfo}
 use Rattle.qm_postings.proofs.TermPlaces.{greatest_frequency-place, placed_term, placed_within, postings_of-place}
 use Rattle.qm_postings.proofs.TermPositions.{asked_ascend, asked_enough, asked_read, blocks_from, read_counted, room-greatest}
 use Rattle.qm_postings.proofs.HeldTerms.{in_range-length}
