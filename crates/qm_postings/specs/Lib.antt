@@ -21,3 +21,4 @@ pub mod PositionsFacts
 pub mod TermRange
 pub mod Address
 pub mod TermHead
+pub mod WordPlaces
