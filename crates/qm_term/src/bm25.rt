@@ -1,8 +1,9 @@
 //! What a term scores in a document.
 
-ghost use Rattle.std.specs.Prelude.{◌≡◌, ℕ, ◌*◌, ◌≤◌, ◌<◌, ◌↔◌, ◌⊎◌, pos, nat_abs, ◌≤ℤ◌, IfOk, IfErr, IsErrOf, IsOkUnless, length};
+ghost use Rattle.std.specs.Prelude.{◌≡◌, ℕ, ◌*◌, ◌≤◌, ◌<◌, ◌↔◌, ◌⊎◌, pos, nat_abs, ◌≤ℤ◌, IfOk, IfErr, IsErrOf, IsOkUnless, length, List, [], ◌++◌};
 ghost use Rattle.std.specs.List.Sorted.{IsNonDecreasing};
 ghost use Rattle.qm_term.specs.Bm25.{share};
+ghost use Rattle.qm_term.specs.Explained.{Line, deeper, outline};
 
 use crate::explanation::Explanation;
 use qm_docset::Score;
@@ -140,13 +141,41 @@ impl Bm25Weight {
             "score, the boost times weight * freq / (freq + norm)",
             self.score(fieldnorm_id, term_freq),
         )?;
-        explanation.add_detail(Explanation::new(alloc, "boost", self.boost as i64)?)?;
-        explanation.add_detail(Explanation::new(alloc, "weight", self.weight as i64)?)?;
-        explanation.add_detail(Explanation::new(alloc, "freq", i64::from(term_freq))?)?;
-        let norm = i64::from(self.norms[fieldnorm_id as usize]);
-        explanation.add_detail(Explanation::new(alloc, "norm", norm)?)?;
+        self.explain_parts(alloc, fieldnorm_id, term_freq, &mut explanation)?;
         Ok(explanation)
     }
+
+    // Adds the parts of a score to its explanation.
+    fn explain_parts(
+        &self,
+        alloc: Global,
+        fieldnorm_id: u8,
+        term_freq: u32,
+        explanation: &mut Explanation,
+    ) -> Result<(), QueryError>
+        ensures added { IfOk result (λ _. (parts : List Line) × (explanation.new ≡ explanation.old ++ parts)) }
+        ensures refused { IsOkUnless result QueryError.Memory }
+    {
+        add_number(explanation, alloc, "boost", self.boost as i64)?;
+        add_number(explanation, alloc, "weight", self.weight as i64)?;
+        add_number(explanation, alloc, "freq", i64::from(term_freq))?;
+        let norm = i64::from(self.norms[fieldnorm_id as usize]);
+        add_number(explanation, alloc, "norm", norm)
+    }
+}
+
+// Adds a number and what it is as the last detail of an explanation.
+fn add_number(
+    explanation: &mut Explanation,
+    alloc: Global,
+    description: &str,
+    number: Score,
+) -> Result<(), QueryError>
+    ensures added { IfOk result (λ _. explanation.new ≡ explanation.old ++ deeper (outline number description.now [] [])) }
+    ensures refused { IsOkUnless result QueryError.Memory }
+{
+    let detail = Explanation::new(alloc, description, number)?;
+    explanation.add_detail(detail)
 }
 
 // The share of a weight that a frequency has. With a weight of 32 bits the product has at most 64,
