@@ -6,6 +6,7 @@ use Rattle.qm_phrase.specs.Places.{Ascends, shift_of}
 use Rattle.qm_phrase.proofs.FullTerms.{IsCommonBuffer-kept, first-fits}
 use Rattle.qm_phrase.proofs.TermMoves.{paired}
 use Rattle.qm_phrase.proofs.TermSteps.{All-head_positions, All-shifted_each}
+use Rattle.std.proofs.lemmas.Grind.{common_steps}
 use Rattle.qm_phrase.proofs.full_terms.common_here.Goals as goal
 
 pub collect_common-requires-clause-rows : goal.collect_common-requires-clause-rows
@@ -24,3 +25,27 @@ collect_common-requires-clause-room g c =
 pub returns-clause-buffer : goal.returns-clause-buffer
 returns-clause-buffer g c =
     IsCommonBuffer-kept g.P.DocSet c.args.members.now c.read_places.new.members c.args.places.now c.collect_common.new.rows c.args.common.now c.collect_common.new.common c.requires.common c.read_places.ensures.limits (c.collect_common.ensures.shifts ∙ c.read_places.ensures.shifts) c.collect_common.ensures.shift c.collect_common.ensures.room
+
+pub collect_common-requires-clause-some : goal.collect_common-requires-clause-some
+collect_common-requires-clause-some g c = grind (arith, common_steps)
+
+pub collect_common-requires-clause-shift : goal.collect_common-requires-clause-shift
+collect_common-requires-clause-shift g c = grind (arith, common_steps)
+
+pub returns-clause-common : goal.returns-clause-common
+returns-clause-common g c = grind (arith, common_steps)
+
+pub returns-clause-count : goal.returns-clause-count
+returns-clause-count g c = grind (arith, common_steps)
+
+pub returns-clause-valid : goal.returns-clause-valid
+returns-clause-valid g c = grind (arith, common_steps)
+
+pub returns-clause-shifts : goal.returns-clause-shifts
+returns-clause-shifts g c = grind (arith, common_steps)
+
+pub returns-clause-entries : goal.returns-clause-entries
+returns-clause-entries g c = grind (arith, common_steps)
+
+pub read_places-requires-clause-roomy : goal.read_places-requires-clause-roomy
+read_places-requires-clause-roomy g c = grind (arith, common_steps)

@@ -3,6 +3,7 @@ use Rattle.std.proofs.Common.{◌≡◌, ℕ, ◌-◌, ◌++◌, [], ◌∷◌, 
 use Rattle.std.proofs.lemmas.List.{map-append}
 use Rattle.qm_phrase.specs.Places.{room_of, shift_of}
 use Rattle.qm_phrase.proofs.TermSteps.{AreRoomy-push}
+use Rattle.std.proofs.lemmas.Grind.{common_steps}
 use Rattle.qm_phrase.proofs.offsets.split_terms.Goals as goal
 
 pub loop-offset-preserved : goal.loop-offset-preserved
@@ -22,3 +23,12 @@ loop-offset-preserved g c =
       shifts = ap (map shift_of) c.in_ok-push.ensures.items ∙ map-append shift_of places (row ∷ []) ∙ ap (λ r. r ++ shift_of row ∷ []) c.loop-offset.invariant.shifts ∙ ap (λ n. map shift yielded ++ n ∷ []) own ∙ sym (map-append shift yielded (term ∷ []));
       roomy = rw (limits, rooms) (AreRoomy-push (map g.P.DocSet.limits members) (map room_of places) (g.P.DocSet.limits c.in-Some.postings) (room_of row) c.loop-offset.invariant.roomy (omega (arith, c.in_ok-row.ensures.room, c.max_term_freq.ensures)));
     }
+
+pub returns-clause-roomy : goal.returns-clause-roomy
+returns-clause-roomy g c = grind (arith, common_steps)
+
+pub loop-offset-init : goal.loop-offset-init
+loop-offset-init g c = grind (arith, common_steps)
+
+pub overflow_cast-saturating_sub : goal.overflow_cast-saturating_sub
+overflow_cast-saturating_sub g c = grind (arith, common_steps)

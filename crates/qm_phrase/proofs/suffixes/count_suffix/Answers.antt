@@ -8,6 +8,7 @@ use Rattle.qm_phrase.specs.PhrasePrefix.{common_count}
 use Rattle.qm_phrase.specs.Places.{Ascends, places_of, shift_of}
 use Rattle.qm_phrase.proofs.SuffixSteps.{none-shared, positions_at-found, positions_at-lacks}
 use Rattle.qm_phrase.proofs.TermSteps.{Ascends-zero}
+use Rattle.std.proofs.lemmas.Grind.{common_steps}
 use Rattle.qm_phrase.proofs.suffixes.count_suffix.Goals as goal
 
 pub count_shared-requires-clause-row : goal.count_shared-requires-clause-row
@@ -34,3 +35,21 @@ returns-in-SeekLowerBound-clause-count g c =
     let answer = c.in-SeekLowerBound.ensures.answer in
     let lacks = positions_at-lacks c.args.doc (g.P.DocSet.limits suffix) old new law c.seek_danger.ensures.entries (omega (arith, answer.before_all, answer.past c.requires.doc)) in
     none-shared (shift_of c.args.row.now) (positions_at c.args.doc old) (places_of c.args.common.now) lacks
+
+pub returns-in-Found-clause-entries : goal.returns-in-Found-clause-entries
+returns-in-Found-clause-entries g c = grind (arith, common_steps)
+
+pub returns-in-Found-clause-limits : goal.returns-in-Found-clause-limits
+returns-in-Found-clause-limits g c = grind (arith, common_steps)
+
+pub returns-in-Found-clause-room : goal.returns-in-Found-clause-room
+returns-in-Found-clause-room g c = grind (arith, common_steps)
+
+pub count_shared-requires-clause-common : goal.count_shared-requires-clause-common
+count_shared-requires-clause-common g c = grind (arith, common_steps)
+
+pub read-requires-clause-room : goal.read-requires-clause-room
+read-requires-clause-room g c = grind (arith, common_steps)
+
+pub read-requires-clause-here : goal.read-requires-clause-here
+read-requires-clause-here g c = grind (arith, common_steps)

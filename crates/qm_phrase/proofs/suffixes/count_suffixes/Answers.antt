@@ -8,6 +8,7 @@ use Rattle.qm_docset.specs.Lists.{lists}
 use Rattle.qm_phrase.specs.Places.{places_of, shift_of}
 use Rattle.qm_phrase.proofs.EachRow.{each_more}
 use Rattle.qm_phrase.proofs.SuffixSteps.{FitIn-kept, counted-more, each_next, shared_with}
+use Rattle.std.proofs.lemmas.Grind.{common_steps}
 use Rattle.qm_phrase.proofs.suffixes.count_suffixes.Goals as goal
 
 pub count_suffix-requires-clause-room : goal.count_suffix-requires-clause-room
@@ -44,3 +45,15 @@ loop-suffix-preserved g c =
 pub returns-clause-fit : goal.returns-clause-fit
 returns-clause-fit g c =
     FitIn-kept g.P.DocSet c.args.suffixes.now c.loop-suffix.suffixes c.args.row.now c.loop-suffix.row c.requires.fit c.loop-suffix.invariant.limits c.loop-suffix.invariant.room
+
+pub returns-clause-count : goal.returns-clause-count
+returns-clause-count g c = grind (arith, common_steps)
+
+pub returns-clause-entries : goal.returns-clause-entries
+returns-clause-entries g c = grind (arith, common_steps)
+
+pub returns-clause-valid : goal.returns-clause-valid
+returns-clause-valid g c = grind (arith, common_steps)
+
+pub returns-clause-shift : goal.returns-clause-shift
+returns-clause-shift g c = grind (arith, common_steps)

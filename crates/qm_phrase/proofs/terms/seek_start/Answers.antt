@@ -1,5 +1,7 @@
 -- The first document with a start, or the end.
+use Rattle.std.proofs.Common.{arith}
 use Rattle.qm_phrase.proofs.TermMoves.{AreMovedTo-end, IsFirstStart-here, IsPassed-bound}
+use Rattle.std.proofs.lemmas.Grind.{common_steps}
 use Rattle.qm_phrase.proofs.terms.seek_start.Goals as goal
 
 pub returns-in-Ok-clause-found : goal.returns-in-Ok-clause-found
@@ -13,3 +15,6 @@ loop-doc-preserved g c =
 pub returns-clause-moved : goal.returns-clause-moved
 returns-clause-moved g c =
     AreMovedTo-end g.P.DocSet g.met.P.DocSet.ascending c.args.slop c.args.target c.loop-doc.doc c.args.members.now c.args.places.now c.loop-doc.members c.loop-doc.places c.seek.new.self c.index-members-0.result c.loop-doc.invariant c.loop-doc-test.false c.seek.ensures.entries c.seek.ensures.limits c.seek.ensures.valid
+
+pub look_at-requires-clause-valid : goal.look_at-requires-clause-valid
+look_at-requires-clause-valid g c = grind (arith, common_steps)

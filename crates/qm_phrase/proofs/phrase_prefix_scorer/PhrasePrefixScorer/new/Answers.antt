@@ -6,6 +6,7 @@ use Rattle.qm_phrase.specs.PhrasePrefix.{has_several, prefix_count, prefix_entri
 use Rattle.qm_phrase.specs.PhrasePrefixFacts.{AreEntries-prefix}
 use Rattle.qm_phrase.specs.PrefixTerms.{lists_of}
 use Rattle.qm_phrase.proofs.PrefixMoves.{prefix-covered}
+use Rattle.std.proofs.lemmas.Grind.{common_steps}
 use Rattle.qm_phrase.proofs.phrase_prefix_scorer.PhrasePrefixScorer.new.Goals as goal
 
 pub seek-requires-clause-valid : goal.seek-requires-clause-valid
@@ -32,3 +33,9 @@ returns-clause-lists g c =
 pub returns-clause-counts : goal.returns-clause-counts
 returns-clause-counts g c d =
     c.seek.ensures.counts d (omega arith) ∙ ap (λ u. prefix_count u d) c.in_ok-terms.ensures.lists
+
+pub seek-requires-clause-target : goal.seek-requires-clause-target
+seek-requires-clause-target g c = grind (arith, common_steps)
+
+pub returns-in_err-terms-clause-memory : goal.returns-in_err-terms-clause-memory
+returns-in_err-terms-clause-memory g c = grind (arith, common_steps)

@@ -7,6 +7,7 @@ use Rattle.qm_phrase.specs.Phrase.{phrase_entries, phrase_limits, phrase_points}
 use Rattle.qm_phrase.specs.PhraseFacts.{AreEntries-phrase}
 use Rattle.qm_phrase.specs.Places.{shift_of}
 use Rattle.qm_phrase.proofs.HandedIn.{AreTerms-split, covered-split, entries-split, greatest-le}
+use Rattle.std.proofs.lemmas.Grind.{common_steps}
 use Rattle.qm_phrase.proofs.phrase_scorer.PhraseScorer.new.Goals as goal
 
 pub split_terms-requires-clause-greatest : goal.split_terms-requires-clause-greatest
@@ -47,3 +48,9 @@ returns-clause-lists g c =
       valid = c.seek.ensures.valid;
       placed = c.seek.ensures.placed;
     }
+
+pub split_terms-requires-clause-valid : goal.split_terms-requires-clause-valid
+split_terms-requires-clause-valid g c = grind (arith, common_steps)
+
+pub returns-clause-weighted : goal.returns-clause-weighted
+returns-clause-weighted g c = grind (arith, common_steps)

@@ -8,6 +8,7 @@ use Rattle.qm_phrase.specs.PhraseScorer.{phrase_left}
 use Rattle.qm_postings.specs.FieldNorms.{norm_ids}
 use Rattle.qm_phrase.specs.Phrase.{phrase_points}
 use Rattle.qm_phrase.proofs.PhraseLists.{look-bound, look-entries, look-found, moved-some}
+use Rattle.std.proofs.lemmas.Grind.{common_steps}
 use Rattle.qm_phrase.proofs.phrase_scorer.PhraseScorerDocSet.seek_danger.Goals as goal
 
 pub returns-then-target-eq-TERMINATED-clause-answer : goal.returns-then-target-eq-TERMINATED-clause-answer
@@ -94,3 +95,33 @@ returns-in-Err-clause-valid g c =
       terms = rw (members, places) moved.valid;
       covered = λ d. rw (members, places) (λ some. c.requires.valid.covered d (moved-some g.P.DocSet self.slop c.args.target self.members.items self.places.items step.new.members step.new.places moved d some));
     }
+
+pub look_at-requires-clause-most : goal.look_at-requires-clause-most
+look_at-requires-clause-most g c = grind (arith, common_steps)
+
+pub look_at-requires-clause-valid : goal.look_at-requires-clause-valid
+look_at-requires-clause-valid g c = grind (arith, common_steps)
+
+pub returns-in-Err-clause-limits : goal.returns-in-Err-clause-limits
+returns-in-Err-clause-limits g c = grind (arith, common_steps)
+
+pub returns-in-Err-clause-weighted : goal.returns-in-Err-clause-weighted
+returns-in-Err-clause-weighted g c = grind (arith, common_steps)
+
+pub returns-in-Ok-clause-limits : goal.returns-in-Ok-clause-limits
+returns-in-Ok-clause-limits g c = grind (arith, common_steps)
+
+pub returns-in-Ok-clause-weighted : goal.returns-in-Ok-clause-weighted
+returns-in-Ok-clause-weighted g c = grind (arith, common_steps)
+
+pub returns-then-target-eq-TERMINATED-clause-entries : goal.returns-then-target-eq-TERMINATED-clause-entries
+returns-then-target-eq-TERMINATED-clause-entries g c = grind (arith, common_steps)
+
+pub returns-then-target-eq-TERMINATED-clause-limits : goal.returns-then-target-eq-TERMINATED-clause-limits
+returns-then-target-eq-TERMINATED-clause-limits g c = grind (arith, common_steps)
+
+pub returns-then-target-eq-TERMINATED-clause-valid : goal.returns-then-target-eq-TERMINATED-clause-valid
+returns-then-target-eq-TERMINATED-clause-valid g c = grind (arith, common_steps)
+
+pub returns-then-target-eq-TERMINATED-clause-weighted : goal.returns-then-target-eq-TERMINATED-clause-weighted
+returns-then-target-eq-TERMINATED-clause-weighted g c = grind (arith, common_steps)

@@ -11,6 +11,7 @@ use Rattle.qm_phrase.specs.PrefixTerms.{lists_of}
 use Rattle.qm_phrase.proofs.FullTerms.{IsCommonBuffer-same}
 use Rattle.qm_phrase.proofs.PrefixMoves.{ArePrefixTerms-moved, HaveGoneOn-terms, IsPrefixLook-passed, counted-is, full_count-terms}
 use Rattle.qm_phrase.proofs.TermMoves.{from_later}
+use Rattle.std.proofs.lemmas.Grind.{common_steps}
 use Rattle.qm_phrase.proofs.prefix_terms.PrefixTerms.look_at.Goals as goal
 
 pub returns-in_err-full-clause-answer : goal.returns-in_err-full-clause-answer
@@ -92,3 +93,21 @@ returns-in_default-clause-answer g c =
       prefix = counted-is g.P.DocSet self c.args.doc c.count_suffixes.result (places_of c.look_at_full.new.common) common counted;
       full = omega (arith, look.1, full_count-terms g.P.DocSet self c.args.doc c.requires.valid.full);
     }
+
+pub count_suffixes-requires-clause-common : goal.count_suffixes-requires-clause-common
+count_suffixes-requires-clause-common g c = grind (arith, common_steps)
+
+pub count_suffixes-requires-clause-fit : goal.count_suffixes-requires-clause-fit
+count_suffixes-requires-clause-fit g c = grind (arith, common_steps)
+
+pub count_suffixes-requires-clause-valid : goal.count_suffixes-requires-clause-valid
+count_suffixes-requires-clause-valid g c = grind (arith, common_steps)
+
+pub count_suffixes-requires-clause-shift : goal.count_suffixes-requires-clause-shift
+count_suffixes-requires-clause-shift g c = grind (arith, common_steps)
+
+pub look_at_full-requires-clause-common : goal.look_at_full-requires-clause-common
+look_at_full-requires-clause-common g c = grind (arith, common_steps)
+
+pub look_at_full-requires-clause-valid : goal.look_at_full-requires-clause-valid
+look_at_full-requires-clause-valid g c = grind (arith, common_steps)

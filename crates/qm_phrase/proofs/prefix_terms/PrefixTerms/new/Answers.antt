@@ -7,6 +7,7 @@ use Rattle.qm_phrase.specs.PhrasePrefix.{greatest_of}
 use Rattle.qm_phrase.specs.Places.{room_of, shift_of}
 use Rattle.qm_phrase.proofs.HandedIn.{AreTerms-split, greatest-le, map_twice}
 use Rattle.qm_phrase.proofs.TermSteps.{length-roomy}
+use Rattle.std.proofs.lemmas.Grind.{common_steps}
 use Rattle.qm_phrase.proofs.prefix_terms.PrefixTerms.new.Goals as goal
 
 pub split_terms-requires-clause-greatest : goal.split_terms-requires-clause-greatest
@@ -69,3 +70,9 @@ returns-clause-lists g c =
     let full : lists D c.in_ok-members.members.items ≡ map (λ pair. D.entries pair.1) items = ap (map D.entries) c.in_ok-members.ensures.members ∙ map_twice D.entries postings_of items in
     let own : shift_of c.in_ok-suffix_places.suffix_places ≡ greatest_of (map offset items) c.args.suffix_pos - c.args.suffix_pos = omega (arith, c.in_ok-suffix_places.ensures.shift, c.saturating_sub-shift.ensures, greatest) in
     λ i. record { full_shifts = shifts i; full = full i; suffix_shift = own i; suffixes = lists D c.args.suffixes.items }
+
+pub split_terms-requires-clause-valid : goal.split_terms-requires-clause-valid
+split_terms-requires-clause-valid g c = grind (arith, common_steps)
+
+pub greatest_freq-requires : goal.greatest_freq-requires
+greatest_freq-requires g c = grind (arith, common_steps)

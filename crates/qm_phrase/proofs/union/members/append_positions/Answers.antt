@@ -12,6 +12,7 @@ use Rattle.qm_phrase.specs.PostingUnions.{entries_at, united_positions}
 use Rattle.qm_phrase.specs.PostingUnionFacts.{entries_at-nil}
 use Rattle.qm_phrase.proofs.SortedNumbers.{IsStrictlyIncreasing-tidied, is_in-tidied}
 use Rattle.qm_phrase.proofs.UnitedMembers.{All-head_positions, AreOrdered, entries_at-more_ahead, has_shifted, has_shifted-more, is_in-united_shifted, or_false, ordered-entries_at, room-more, room-within}
+use Rattle.std.proofs.lemmas.Grind.{common_steps}
 use Rattle.qm_phrase.proofs.union.members.append_positions.Goals as goal
 use Rattle.qm_phrase.proofs.union.members.append_positions.Goals.{then-doc, else-doc}
 
@@ -120,3 +121,18 @@ returns-clause-added g c = λ x.
 
 pub returns-clause-ascending : goal.returns-clause-ascending
 returns-clause-ascending g c = IsStrictlyIncreasing-tidied _ _ c.sort_unstable.ensures.sorted c.dedup.ensures.filtered
+
+pub returns-clause-longer : goal.returns-clause-longer
+returns-clause-longer g c = grind (arith, common_steps)
+
+pub returns-clause-capacity : goal.returns-clause-capacity
+returns-clause-capacity g c = grind (arith, common_steps)
+
+pub returns-clause-limits : goal.returns-clause-limits
+returns-clause-limits g c = grind (arith, common_steps)
+
+pub returns-clause-entries : goal.returns-clause-entries
+returns-clause-entries g c = grind (arith, common_steps)
+
+pub returns-clause-members : goal.returns-clause-members
+returns-clause-members g c = grind (arith, common_steps)

@@ -1,5 +1,5 @@
 -- The set goes to its target, and the members below its document follow.
-use Rattle.std.proofs.Common.{map, length, ap, ◌∙◌}
+use Rattle.std.proofs.Common.{map, length, ap, ◌∙◌, arith}
 use Rattle.qm_combine.proofs.Leading.{whole}
 use Rattle.qm_docset.specs.BitSetDocSet.{remaining_members}
 use Rattle.qm_docset.specs.BitSetDocSetFacts.{AreEntries-remaining}
@@ -7,6 +7,7 @@ use Rattle.qm_docset.specs.Entry.{from, no_limits}
 use Rattle.qm_docset.specs.Lists.{lists}
 use Rattle.qm_phrase.specs.PostingUnions.{united_over}
 use Rattle.qm_phrase.proofs.UnitedOver.{from-over, over-moved}
+use Rattle.std.proofs.lemmas.Grind.{common_steps}
 use Rattle.qm_phrase.proofs.union.bitset_union.BitSetPostingUnionDocSet.seek.Goals as goal
 
 pub returns-clause-entries : goal.returns-clause-entries
@@ -19,3 +20,12 @@ returns-clause-entries g c =
     let left = step.ensures.entries ∙ ap (λ xs. map (from c.seek-doc.result) (lists g.D.DocSet xs)) c.deref_mut.ensures.value in
     let moved = over-moved no_limits set old (lists g.D.DocSet step.new.members) (AreEntries-remaining c.seek-doc.new.self c.seek-doc.ensures.valid) (rw c.seek-doc.ensures.head at left) in
     rw same (moved ∙ ap (λ r. united_over r old) c.seek-doc.ensures.entries ∙ from-over c.args.target (remaining_members c.args.self.now.bitset) old)
+
+pub returns-clause-head : goal.returns-clause-head
+returns-clause-head g c = grind (arith, common_steps)
+
+pub returns-clause-limits : goal.returns-clause-limits
+returns-clause-limits g c = grind (arith, common_steps)
+
+pub returns-clause-valid : goal.returns-clause-valid
+returns-clause-valid g c = grind (arith, common_steps)

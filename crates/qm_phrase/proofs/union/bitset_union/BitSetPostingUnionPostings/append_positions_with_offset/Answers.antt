@@ -10,6 +10,7 @@ use Rattle.qm_phrase.specs.PostingUnions.{entries_at, united_positions}
 use Rattle.qm_phrase.specs.PostingUnionFacts.{ArePositions-united_positions}
 use Rattle.qm_phrase.proofs.SortedNumbers.{alone}
 use Rattle.qm_phrase.proofs.UnitedOver.{head_document-over, head_positions-over}
+use Rattle.std.proofs.lemmas.Grind.{common_steps}
 use Rattle.qm_phrase.proofs.union.bitset_union.BitSetPostingUnionPostings.append_positions_with_offset.Goals as goal
 
 pub returns-clause-alone : goal.returns-clause-alone
@@ -33,3 +34,27 @@ returns-clause-valid g c =
       members = rw same c.append_positions.ensures.members;
       aligned = rw same (All-same_lists g.D.DocSet.entries (λ es. head_document (remaining_members s.bitset) ≤ head_document es) s.members.items new kept c.requires.valid.aligned);
     }
+
+pub append_positions-requires-clause-members : goal.append_positions-requires-clause-members
+append_positions-requires-clause-members g c = grind (arith, common_steps)
+
+pub append_positions-requires-clause-doc : goal.append_positions-requires-clause-doc
+append_positions-requires-clause-doc g c = grind (arith, common_steps)
+
+pub append_positions-requires-clause-reached : goal.append_positions-requires-clause-reached
+append_positions-requires-clause-reached g c = grind (arith, common_steps)
+
+pub append_positions-requires-clause-room : goal.append_positions-requires-clause-room
+append_positions-requires-clause-room g c = grind (arith, common_steps)
+
+pub returns-clause-members : goal.returns-clause-members
+returns-clause-members g c = grind (arith, common_steps)
+
+pub returns-clause-longer : goal.returns-clause-longer
+returns-clause-longer g c = grind (arith, common_steps)
+
+pub returns-clause-entries : goal.returns-clause-entries
+returns-clause-entries g c = grind (arith, common_steps)
+
+pub returns-clause-limits : goal.returns-clause-limits
+returns-clause-limits g c = grind (arith, common_steps)

@@ -9,6 +9,7 @@ use Rattle.qm_phrase.specs.PostingUnions.{entries_at, united_positions}
 use Rattle.qm_phrase.specs.PostingUnionFacts.{ArePositions-united_positions}
 use Rattle.qm_phrase.proofs.SortedNumbers.{alone}
 use Rattle.qm_phrase.proofs.UnitedLists.{head_document-united, union-positions}
+use Rattle.std.proofs.lemmas.Grind.{common_steps}
 use Rattle.qm_phrase.proofs.union.simple_union.SimpleUnionPostings.append_positions_with_offset.Goals as goal
 
 pub append_positions-requires-clause-doc : goal.append_positions-requires-clause-doc
@@ -44,3 +45,18 @@ returns-clause-alone g c = λ none.
     let below : s.doc < TERMINATED = omega (arith, c.requires.here, h.first, head_document-united g.D.DocSet.valid g.D.DocSet.limits g.D.DocSet.entries g.met.D.DocSet.ascending s.members.items h.members.valid) in
     let shown = union-positions g.D.DocSet.valid g.D.DocSet.limits g.D.DocSet.entries g.met.D.DocSet.ascending s.doc s.members.items h.members.valid h.first below ∙ ap (λ xs. united_positions (entries_at s.doc (lists g.D.DocSet xs))) (sym c.deref_mut.ensures.value) in
     alone c.args.offset c.args.output.now.items c.append_positions.new.output.items _ none (ArePositions-united_positions _) c.append_positions.ensures.added c.append_positions.ensures.ascending ∙ ap (shifted c.args.offset) (sym shown)
+
+pub append_positions-requires-clause-members : goal.append_positions-requires-clause-members
+append_positions-requires-clause-members g c = grind (arith, common_steps)
+
+pub append_positions-requires-clause-room : goal.append_positions-requires-clause-room
+append_positions-requires-clause-room g c = grind (arith, common_steps)
+
+pub returns-clause-longer : goal.returns-clause-longer
+returns-clause-longer g c = grind (arith, common_steps)
+
+pub returns-clause-entries : goal.returns-clause-entries
+returns-clause-entries g c = grind (arith, common_steps)
+
+pub returns-clause-limits : goal.returns-clause-limits
+returns-clause-limits g c = grind (arith, common_steps)
