@@ -9,8 +9,9 @@ ghost use Rattle.qm_scorer.specs.declared.any_scorer.AnyScorer.{size-AnyScorer};
 
 use crate::boost_node::{BoostNode, danger_boost, score_boost, seek_boost};
 use crate::const_node::{ConstNode, danger_const, score_const, seek_const};
+use crate::estimates::{Estimate, estimate_tree};
 use crate::exclude_node::{ExcludeNode, danger_exclude, score_exclude, seek_exclude};
-use crate::group_node::{GroupNode, cost_group, danger_group, hint_group, score_group, seek_group};
+use crate::group_node::{GroupNode, danger_group, score_group, seek_group};
 use crate::intersection_node::{
     IntersectionNode, advance_intersection, danger_intersection, score_intersection,
     seek_intersection,
@@ -309,52 +310,6 @@ impl<'a, S: Scorer> AnyScorer<'a, S> {
     }
 }
 
-// About how many documents remain.
-#[cycle(hints)]
-pub(crate) fn hint_tree<'a, S: Scorer>(scorer: &AnyScorer<'a, S>) -> u32
-    requires valid { IsTree S.DocSet scorer.now }
-{
-    match scorer {
-        AnyScorer::Empty(leaf) => leaf.size_hint(),
-        AnyScorer::All(leaf) => leaf.size_hint(),
-        AnyScorer::Own(leaf) => leaf.size_hint(),
-        AnyScorer::Term(leaf) => leaf.size_hint(),
-        AnyScorer::BitSet(leaf) => leaf.size_hint(),
-        AnyScorer::Phrase(leaf) => leaf.size_hint(),
-        AnyScorer::PhrasePrefix(leaf) => leaf.size_hint(),
-        AnyScorer::Boost(node) => hint_tree(&node.inner),
-        AnyScorer::Const(node) => hint_tree(&node.inner),
-        AnyScorer::RequiredOptional(node) => hint_tree(&node.required),
-        AnyScorer::Exclude(node) => hint_tree(&node.inner),
-        AnyScorer::Union(node) => hint_group(node),
-        AnyScorer::Disjunction(node) => hint_group(node),
-        AnyScorer::Intersection(node) => hint_tree(&node.leader).min(node.num_docs),
-    }
-}
-
-// About what it costs to go through a tree.
-#[cycle(costs)]
-pub(crate) fn cost_tree<'a, S: Scorer>(scorer: &AnyScorer<'a, S>) -> u64
-    requires valid { IsTree S.DocSet scorer.now }
-{
-    match scorer {
-        AnyScorer::Empty(leaf) => leaf.cost(),
-        AnyScorer::All(leaf) => leaf.cost(),
-        AnyScorer::Own(leaf) => leaf.cost(),
-        AnyScorer::Term(leaf) => leaf.cost(),
-        AnyScorer::BitSet(leaf) => leaf.cost(),
-        AnyScorer::Phrase(leaf) => leaf.cost(),
-        AnyScorer::PhrasePrefix(leaf) => leaf.cost(),
-        AnyScorer::Boost(node) => cost_tree(&node.inner),
-        AnyScorer::Const(node) => cost_tree(&node.inner),
-        AnyScorer::RequiredOptional(node) => cost_tree(&node.required),
-        AnyScorer::Exclude(node) => cost_tree(&node.inner),
-        AnyScorer::Union(node) => cost_group(node),
-        AnyScorer::Disjunction(node) => cost_group(node),
-        AnyScorer::Intersection(node) => cost_tree(&node.leader),
-    }
-}
-
 impl<'a, S: Scorer> DocSet for AnyScorer<'a, S> {
     ghost entries = { λ x. tree_entries S.DocSet x };
 
@@ -390,11 +345,11 @@ impl<'a, S: Scorer> DocSet for AnyScorer<'a, S> {
     }
 
     fn size_hint(&self) -> u32 {
-        hint_tree(self)
+        estimate_tree(self, Estimate::Remaining).min(u64::from(u32::MAX)) as u32
     }
 
     fn cost(&self) -> u64 {
-        cost_tree(self)
+        estimate_tree(self, Estimate::Cost)
     }
 
     fn count(&mut self, alive: &AliveBitSet) -> u32 {

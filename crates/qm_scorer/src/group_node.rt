@@ -1,17 +1,17 @@
 //! A node over several scorers, of which a minimum has each document.
 
-ghost use Rattle.std.specs.Prelude.{◌≡◌, ◌<◌, ◌≤◌, ◌↔◌, All, length, map, true};
+ghost use Rattle.std.specs.Prelude.{◌≡◌, ◌<◌, ◌≤◌, ◌↔◌, length, map, true};
 ghost use Rattle.qm_docset.specs.Cursor.{IsSeekAnswer};
 ghost use Rattle.qm_docset.specs.Entry.{from, greatest_score, head_document, head_score};
 ghost use Rattle.qm_docset.specs.Gather.{scores_at};
 ghost use Rattle.qm_combine.specs.Union.{least_head};
 ghost use Rattle.qm_scorer.specs.AnyCombiner.{AnyHasRoom, any_step};
 ghost use Rattle.qm_scorer.specs.Group.{AreStanding, IsGroupNode, group_entries, group_lists};
-ghost use Rattle.qm_scorer.specs.Tree.{HasRoom, IsTree};
+ghost use Rattle.qm_scorer.specs.Tree.{HasRoom};
 ghost use Rattle.qm_scorer.specs.declared.group_node.GroupNode.{size-GroupNode};
 
 use crate::any_combiner::AnyCombiner;
-use crate::any_scorer::{AnyScorer, cost_tree, doc_tree, hint_tree, reach_tree, score_tree};
+use crate::any_scorer::{AnyScorer, doc_tree, reach_tree, score_tree};
 use qm_combine::{AllScorer, ConstScorer, ScoreCombiner, Scorer};
 use qm_docset::{DocId, Score, SeekDangerResult, TERMINATED};
 
@@ -177,28 +177,4 @@ pub(crate) fn score_group<'a, S: Scorer>(node: &mut GroupNode<'a, S>) -> u64
         }
     }
     combiner.score() as u64
-}
-
-// About how many documents remain: as many as the largest of the members has.
-#[cycle(hints)]
-pub(crate) fn hint_group<'a, S: Scorer>(node: &GroupNode<'a, S>) -> u32
-    requires members { All (IsTree S.DocSet) node.now.members.items }
-{
-    let mut hint = 0;
-    for member in &node.members {
-        hint = hint_tree(member).max(hint);
-    }
-    hint
-}
-
-// About what it costs to go through all members.
-#[cycle(costs)]
-pub(crate) fn cost_group<'a, S: Scorer>(node: &GroupNode<'a, S>) -> u64
-    requires members { All (IsTree S.DocSet) node.now.members.items }
-{
-    let mut cost = 0u64;
-    for member in &node.members {
-        cost = cost.saturating_add(cost_tree(member));
-    }
-    cost
 }

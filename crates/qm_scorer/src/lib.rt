@@ -8,6 +8,7 @@ mod boost_node;
 mod bounds;
 mod builders;
 mod const_node;
+mod estimates;
 mod exclude_node;
 mod group_builders;
 mod group_node;

@@ -4,17 +4,17 @@ use Rattle.qm_scorer.specs.Tree.{IsTree}
 use Rattle.qm_scorer.specs.declared.any_scorer.AnyScorer as aq
 use Rattle.qm_scorer.specs.declared.group_node.GroupNode.{GroupNode}
 use Rattle.qm_scorer.proofs.Opened.{opened-Disjunction, opened-Union}
-use Rattle.qm_scorer.proofs.+hints.Goals as goal
+use Rattle.qm_scorer.proofs.estimates.+estimates.Goals as goal
 
-pub any_scorer::hint_tree-hint_group-requires : goal.any_scorer::hint_tree-hint_group-requires
-any_scorer::hint_tree-hint_group-requires g t c κs within =
+pub estimate_tree-estimate_group-requires : goal.estimate_tree-estimate_group-requires
+estimate_tree-estimate_group-requires g t c κs within =
     let D = g.S.DocSet in
     let opened = opened-Union D c.in-Union.node (subst (IsTree D) c.in-Union.is c.requires.valid) in
     let members = subst (λ (n : GroupNode g.row.S.Denot). All (IsTree D) n.members.items) (sym c.deref-in-Union.ensures) opened.members.valid in
     (search (rules, aq.the_lemmas), (search rules, members))
 
-pub any_scorer::hint_tree-hint_group-requires-in-Disjunction : goal.any_scorer::hint_tree-hint_group-requires-in-Disjunction
-any_scorer::hint_tree-hint_group-requires-in-Disjunction g t c κs within =
+pub estimate_tree-estimate_group-requires-in-Disjunction : goal.estimate_tree-estimate_group-requires-in-Disjunction
+estimate_tree-estimate_group-requires-in-Disjunction g t c κs within =
     let D = g.S.DocSet in
     let opened = opened-Disjunction D c.in-Disjunction.node (subst (IsTree D) c.in-Disjunction.is c.requires.valid) in
     let members = subst (λ (n : GroupNode g.row.S.Denot). All (IsTree D) n.members.items) (sym c.deref-in-Disjunction.ensures) opened.members.valid in
