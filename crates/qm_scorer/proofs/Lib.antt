@@ -7,3 +7,4 @@ pub mod IntersectionArms
 pub mod Intersections
 pub mod Moving
 pub mod Opened
+pub mod ScoreArms

@@ -1,15 +1,17 @@
 -- Scores of the document that a tree stands on.
-use Rattle.std.proofs.Common.{rules, ◌≡◌, ℕ, ◌+◌, ◌<◌, ◌≤◌, List, [], ◌∷◌, fold, get_or, length, map, min, take, All, arith, refl, sym, ap, subst, ◌∙◌}
+use Rattle.std.proofs.Common.{rules, ◌≡◌, ℕ, ◌+◌, ◌*◌, ◌<◌, ◌≤◌, List, [], ◌∷◌, fold, get_or, length, map, min, take, All, arith, refl, sym, ap, subst, ◌∙◌}
 use denote.Param.Weighed.{at_most, most}
 use Rattle.std.specs.List.{sum}
 use Rattle.std.proofs.lemmas.List.{get_or_read_under, length-map, take_all, with_items_is}
 use Rattle.std.proofs.lemmas.List.Elements.{All-get_or, All-set}
 use Rattle.std.proofs.lemmas.List.Sums.{fold-append, sum_by-cons, sum_by_more}
-use Rattle.qm_docset.specs.Entry.{Entry, from, greatest_score, head_document, head_score}
+use Rattle.qm_docset.specs.Entry.{Entry, Limits, from, greatest_score, head_document, head_score}
 use Rattle.qm_docset.specs.declared.numbers.TheConstants.{TERMINATED}
-use Rattle.qm_scorer.specs.MoveFacts.{IsBounded-same, head_score-bounded}
+use Rattle.qm_scorer.specs.MoveFacts.{head_score-bounded}
 use Rattle.qm_docset.specs.Gather.{common_entries, scores_at}
 use Rattle.qm_docset.specs.GatherFacts.{scores_at-nil}
+use Rattle.qm_combine.specs.AllDocuments.{all_left}
+use Rattle.qm_combine.specs.Constant.{constant_left}
 use Rattle.qm_combine.specs.HeldSum.{held_sum}
 use Rattle.qm_combine.specs.Rescored.{with_optional}
 use Rattle.qm_combine.specs.SharedSeek.{StandOn}
@@ -20,29 +22,47 @@ use Rattle.qm_combine.proofs.EachMember.{All-same_lists, get_or-map-map, map-set
 use Rattle.qm_combine.proofs.Leading.{head_score-together}
 use Rattle.qm_combine.proofs.OptionalScores.{scores_at-passed, scores_at-reached, with_optional-reached}
 use Rattle.qm_combine.proofs.Uniting.{least_head-le, scores_at-more, scores_at-more_ahead}
+use Rattle.qm_phrase.specs.PhrasePrefixScorer.{phrase_prefix_left}
+use Rattle.qm_phrase.specs.PhraseScorer.{phrase_left}
+use Rattle.qm_term.specs.TermScorer.{scored_left}
 use Rattle.qm_scorer.specs.AnyCombiner.{AnyHasRoom, any_cleared, any_step}
+use Rattle.qm_scorer.specs.BareFacts.{bare-nil}
 use Rattle.qm_scorer.specs.AnyCombinerFacts.{any-room}
 use Rattle.qm_scorer.specs.Group.{IsGroupNode, group_entries}
-use Rattle.qm_scorer.specs.Tree.{HasRoom, IsTree, IsTreePlaced, gathered_list, tree_entries, tree_head, tree_limits}
+use Rattle.qm_scorer.specs.Tree.{HasRoom, IsTree, IsTreePlaced, postings_cursors, set_cursors, tree_entries, tree_head, tree_limits}
 use Rattle.qm_scorer.specs.TreeFacts.{tree-ascends}
 use Rattle.qm_scorer.specs.declared.any_scorer.AnyScorer as aq
 use Rattle.qm_scorer.specs.declared.any_scorer.AnyScorer.{AnyScorer, size-AnyScorer}
-use Rattle.qm_scorer.specs.declared.any_scorer.AnyScorer.TheVariants.{Disjunction, Union, outs-Disjunction, outs-Intersection, outs-Union}
+use Rattle.qm_scorer.specs.declared.any_scorer.AnyScorer.TheVariants.{All as Every, BitSet, Boost, Const, Disjunction, Empty, Exclude, Intersection, Own, Phrase, PhrasePrefix, RequiredOptional, Term, Union, outs-Boost, outs-Const, outs-Disjunction, outs-Exclude, outs-Intersection, outs-RequiredOptional, outs-Union}
 use Rattle.qm_scorer.specs.declared.group_node.GroupNode.{GroupNode, size-GroupNode}
 use Rattle.qm_scorer.specs.declared.group_node.Shape.{Shape}
 use Rattle.qm_scorer.specs.declared.group_node.GroupNode as gq
 use Rattle.qm_scorer.specs.declared.intersection_node.IntersectionNode.{size_is-IntersectionNode}
-use Rattle.qm_scorer.proofs.Depth.{most-set, size-Disjunction, size-Union, size-members, size-others}
+use Rattle.qm_scorer.proofs.Depth.{most-set, size-members, size-others}
 use Rattle.qm_scorer.proofs.GroupScores.{group-kept, group-score, room-next}
-use Rattle.qm_scorer.proofs.IntersectionArms.{left-depth, left-entries, left-head, left-top, left-valid, lent-entries, lent-here, lent-together, lent-trees}
-use Rattle.qm_scorer.proofs.Opened.{closed-Disjunction, closed-Union, entries-Disjunction, entries-Union, opened-Disjunction, opened-Union, placed-Intersection}
+use Rattle.qm_scorer.proofs.IntersectionArms.{lent-here, lent-together, lent-trees}
+use Rattle.qm_scorer.proofs.Opened.{opened-Disjunction, opened-Union}
 use Rattle.qm_scorer.proofs.Heads.{boost-fits, tree-head, tree-here}
+use Rattle.qm_scorer.proofs.ScoreArms.{asked-Boost, asked-Const, asked-Exclude, asked-RequiredOptional, same-All, same-BitSet, same-Empty, same-Own, same-Phrase, same-PhrasePrefix, same-Term, score_fits, scored-Boost, scored-Const, scored-Disjunction, scored-Exclude, scored-Intersection, scored-RequiredOptional, scored-Union, scored-as, scored-leaf}
 use Rattle.qm_scorer.proofs.+scores.Goals as goal
 use Rattle.qm_scorer.proofs.+scores.Goals.{group_node::score_group-else-doc_tree-doc, group_node::score_group-then-doc_tree-doc}
 
 pub boost_node::score_boost-returns-clause-fits : goal.boost_node::score_boost-returns-clause-fits
 boost_node::score_boost-returns-clause-fits g t c =
     rw c.score_tree.ensures.score (boost-fits g.S.DocSet g.met.S.DocSet.ascending _ _ _ c.requires.valid c.requires.placed c.requires.here c.requires.bounded)
+
+pub boost_node::score_boost-returns-clause-score : goal.boost_node::score_boost-returns-clause-score
+boost_node::score_boost-returns-clause-score g t c =
+    let D = g.S.DocSet in
+    let boost = c.args.node.now.boost in
+    let inner = c.args.node.now.inner in
+    let here = tree-here D g.met.S.DocSet.ascending inner c.requires.valid c.requires.placed c.requires.here in
+    ap (λ n. n * boost) c.score_tree.ensures.score ∙ sym (head_score-rescored (λ e. e.score * boost) (tree_entries D inner) here)
+
+pub boost_node::score_boost-overflow_mul-result : goal.boost_node::score_boost-overflow_mul-result
+boost_node::score_boost-overflow_mul-result g t c =
+    let fits : c.score_tree.result * c.args.node.now.boost ≤ greatest_score = rw c.score_tree.ensures.score (boost-fits g.S.DocSet g.met.S.DocSet.ascending _ _ _ c.requires.valid c.requires.placed c.requires.here c.requires.bounded) in
+    omega (arith, fits)
 
 pub optional_node::score_at-returns-then-reach_tree-doc-clause-score : goal.optional_node::score_at-returns-then-reach_tree-doc-clause-score
 optional_node::score_at-returns-then-reach_tree-doc-clause-score g t c =
@@ -332,23 +352,126 @@ intersection_node::score_intersection-returns-clause-depth g t c =
     let whole = with_items_is node.others xs (omega (arith, c.loop-i.auto.others, ap length c.as_mut_slice-others.ensures.value, node.others.ok.0)) in
     size-others node _ c.score_tree-sum.ensures.depth (omega (arith, ap (most size) whole, c.loop-i.invariant.depth))
 
--- ---- the arms of the enum
+-- ---- the leaves of the enum
 
-pub any_scorer::score_other-returns-in-Union-clause-depth : goal.any_scorer::score_other-returns-in-Union-clause-depth
-any_scorer::score_other-returns-in-Union-clause-depth g t c =
-    let node = c.in-Union.node in
-    let value = rw (c.in-Union.is, outs-Union c.in-Union.node) at c.deref_mut-in-Union.ensures.value in
-    let new = record node { value = c.score_group.new.node } in
-    let smaller = subst (λ (n : GroupNode g.row.S.Denot). size-GroupNode g.row.S.Denot c.score_group.new.node ≤ size-GroupNode g.row.S.Denot n) value c.score_group.ensures.depth in
-    rw (c.in-Union.is, outs-Union c.in-Union.node) (size-Union node new smaller)
+pub any_scorer::score_tree-returns-in-Term : goal.any_scorer::score_tree-returns-in-Term
+any_scorer::score_tree-returns-in-Term g t c =
+    let leaf = c.in-Term.leaf in
+    let scored = c.score in
+    let score = score_cast scored.result _ scored.ensures.score scored.type_inv in
+    scored-leaf g.S.DocSet Term (λ s. scored_left s.value) (λ _. refl) (λ _. refl) (same-Term g.row.S.Denot) leaf scored.new.self c.in-Term.leaf-is c.in-Term.is c.requires.here score (score_fits _ _ scored.ensures.score scored.type_inv) scored.ensures.entries (ap (λ (l : Limits). l.top) scored.ensures.limits) scored.ensures.valid scored.ensures.placed (search rules)
 
-pub any_scorer::score_other-returns-in-Disjunction-clause-depth : goal.any_scorer::score_other-returns-in-Disjunction-clause-depth
-any_scorer::score_other-returns-in-Disjunction-clause-depth g t c =
-    let node = c.in-Disjunction.node in
-    let value = rw (c.in-Disjunction.is, outs-Disjunction c.in-Disjunction.node) at c.deref_mut-in-Disjunction.ensures.value in
-    let new = record node { value = c.score_group-in-Disjunction.new.node } in
-    let smaller = subst (λ (n : GroupNode g.row.S.Denot). size-GroupNode g.row.S.Denot c.score_group-in-Disjunction.new.node ≤ size-GroupNode g.row.S.Denot n) value c.score_group-in-Disjunction.ensures.depth in
-    rw (c.in-Disjunction.is, outs-Disjunction c.in-Disjunction.node) (size-Disjunction node new smaller)
+pub any_scorer::score_other-returns-in-Empty : goal.any_scorer::score_other-returns-in-Empty
+any_scorer::score_other-returns-in-Empty g t c =
+    let leaf = c.in-Empty.leaf in
+    let scored = c.score in
+    let score = score_cast scored.result _ scored.ensures scored.type_inv in
+    scored-leaf g.S.DocSet Empty (λ _. []) (λ _. sym bare-nil) (λ _. refl) (same-Empty g.row.S.Denot) leaf scored.new.self c.in-Empty.leaf-is c.in-Empty.is c.requires.here score (score_fits _ _ scored.ensures scored.type_inv) refl refl tt tt (search rules)
+
+pub any_scorer::score_other-returns-in-All : goal.any_scorer::score_other-returns-in-All
+any_scorer::score_other-returns-in-All g t c =
+    let leaf = c.in-All.leaf in
+    let scored = c.score-in-All in
+    let score = score_cast scored.result _ scored.ensures.score scored.type_inv in
+    scored-leaf g.S.DocSet Every all_left (λ _. refl) (λ _. refl) (same-All g.row.S.Denot) leaf scored.new.self c.in-All.leaf-is c.in-All.is c.requires.here score (score_fits _ _ scored.ensures.score scored.type_inv) scored.ensures.entries refl scored.ensures.valid scored.ensures.placed (search rules)
+
+pub any_scorer::score_other-returns-in-Own : goal.any_scorer::score_other-returns-in-Own
+any_scorer::score_other-returns-in-Own g t c =
+    let leaf = c.in-Own.leaf in
+    let scored = c.score-in-Own in
+    let score = score_cast scored.result _ scored.ensures.score scored.type_inv in
+    scored-leaf g.S.DocSet Own g.S.DocSet.entries (λ _. refl) (λ _. refl) (same-Own g.row.S.Denot) leaf scored.new.self c.in-Own.leaf-is c.in-Own.is c.requires.here score (score_fits _ _ scored.ensures.score scored.type_inv) scored.ensures.entries (ap (λ (l : Limits). l.top) scored.ensures.limits) scored.ensures.valid scored.ensures.placed (search rules)
+
+pub any_scorer::score_other-returns-in-Term : goal.any_scorer::score_other-returns-in-Term
+any_scorer::score_other-returns-in-Term g t c =
+    let leaf = c.in-Term.leaf in
+    let scored = c.score-in-Term in
+    let score = score_cast scored.result _ scored.ensures.score scored.type_inv in
+    scored-leaf g.S.DocSet Term (λ s. scored_left s.value) (λ _. refl) (λ _. refl) (same-Term g.row.S.Denot) leaf scored.new.self c.in-Term.leaf-is c.in-Term.is c.requires.here score (score_fits _ _ scored.ensures.score scored.type_inv) scored.ensures.entries (ap (λ (l : Limits). l.top) scored.ensures.limits) scored.ensures.valid scored.ensures.placed (search rules)
+
+pub any_scorer::score_other-returns-in-BitSet : goal.any_scorer::score_other-returns-in-BitSet
+any_scorer::score_other-returns-in-BitSet g t c =
+    let leaf = c.in-BitSet.leaf in
+    let scored = c.score-in-BitSet in
+    let score = score_cast scored.result _ scored.ensures.score scored.type_inv in
+    scored-leaf g.S.DocSet BitSet (λ s. constant_left set_cursors s.value) (λ _. refl) (λ _. refl) (same-BitSet g.row.S.Denot) leaf scored.new.self c.in-BitSet.leaf-is c.in-BitSet.is c.requires.here score (score_fits _ _ scored.ensures.score scored.type_inv) scored.ensures.entries (ap (λ (l : Limits). l.top) scored.ensures.limits) scored.ensures.valid scored.ensures.placed (search rules)
+
+pub any_scorer::score_other-returns-in-Phrase : goal.any_scorer::score_other-returns-in-Phrase
+any_scorer::score_other-returns-in-Phrase g t c =
+    let leaf = c.in-Phrase.leaf in
+    let scored = c.score-in-Phrase in
+    let score = score_cast scored.result _ scored.ensures.score scored.type_inv in
+    scored-leaf g.S.DocSet Phrase (λ s. phrase_left postings_cursors s.value) (λ _. refl) (λ _. refl) (same-Phrase g.row.S.Denot) leaf scored.new.self c.in-Phrase.leaf-is c.in-Phrase.is c.requires.here score (score_fits _ _ scored.ensures.score scored.type_inv) scored.ensures.entries (ap (λ (l : Limits). l.top) scored.ensures.limits) scored.ensures.valid scored.ensures.placed (search rules)
+
+pub any_scorer::score_other-returns-in-PhrasePrefix : goal.any_scorer::score_other-returns-in-PhrasePrefix
+any_scorer::score_other-returns-in-PhrasePrefix g t c =
+    let leaf = c.in-PhrasePrefix.leaf in
+    let scored = c.score-in-PhrasePrefix in
+    let score = score_cast scored.result _ scored.ensures.score scored.type_inv in
+    scored-leaf g.S.DocSet PhrasePrefix (λ s. phrase_prefix_left postings_cursors s.value) (λ _. refl) (λ _. refl) (same-PhrasePrefix g.row.S.Denot) leaf scored.new.self c.in-PhrasePrefix.leaf-is c.in-PhrasePrefix.is c.requires.here score (score_fits _ _ scored.ensures.score scored.type_inv) scored.ensures.entries (ap (λ (l : Limits). l.top) scored.ensures.limits) scored.ensures.valid scored.ensures.placed (search rules)
+
+-- ---- the nodes of the enum
+
+pub any_scorer::score_other-score_boost-requires : goal.any_scorer::score_other-score_boost-requires
+any_scorer::score_other-score_boost-requires g t c κs within =
+    let node = c.in-Boost.node in
+    let lent = rw (c.in-Boost.is, outs-Boost node) at c.deref_mut.ensures.value in
+    (search (rules, aq.the_lemmas), (search rules, asked-Boost g.S.DocSet node c.in-Boost.is lent c.requires.valid c.requires.placed c.requires.here))
+
+pub any_scorer::score_other-score_optional-requires : goal.any_scorer::score_other-score_optional-requires
+any_scorer::score_other-score_optional-requires g t c κs within =
+    let node = c.in-RequiredOptional.node in
+    let lent = rw (c.in-RequiredOptional.is, outs-RequiredOptional node) at c.deref_mut-in-RequiredOptional.ensures.value in
+    (search (rules, aq.the_lemmas), (search rules, asked-RequiredOptional g.S.DocSet node c.in-RequiredOptional.is lent c.requires.valid c.requires.placed c.requires.here))
+
+pub any_scorer::score_other-score_exclude-requires : goal.any_scorer::score_other-score_exclude-requires
+any_scorer::score_other-score_exclude-requires g t c κs within =
+    let node = c.in-Exclude.node in
+    let lent = rw (c.in-Exclude.is, outs-Exclude node) at c.deref_mut-in-Exclude.ensures.value in
+    (search (rules, aq.the_lemmas), (search rules, asked-Exclude g.S.DocSet node c.in-Exclude.is lent c.requires.valid c.requires.placed c.requires.here))
+
+pub any_scorer::score_other-score_const-requires : goal.any_scorer::score_other-score_const-requires
+any_scorer::score_other-score_const-requires g t c =
+    let node = c.in-Const.node in
+    let lent = rw (c.in-Const.is, outs-Const node) at c.deref_mut-in-Const.ensures.value in
+    let asked = asked-Const g.S.DocSet node c.in-Const.is lent c.requires.valid c.requires.placed c.requires.here in
+    record { valid = asked.0; placed = asked.1.0; here = asked.1.1.0; bounded = asked.1.1.1 }
+
+pub any_scorer::score_other-returns-in-Boost : goal.any_scorer::score_other-returns-in-Boost
+any_scorer::score_other-returns-in-Boost g t c =
+    let D = g.S.DocSet in
+    let node = c.in-Boost.node in
+    let lent = rw (c.in-Boost.is, outs-Boost node) at c.deref_mut.ensures.value in
+    let new = c.score_boost.new.node in
+    let is = c.score_boost.ensures in
+    scored-as D (Boost node) (Boost (record node { value = new })) c.in-Boost.is (rw (c.in-Boost.is, outs-Boost node) refl) (scored-Boost D node new lent (subst (IsTree D) c.in-Boost.is c.requires.valid) is.score is.fits is.entries is.valid is.placed is.head is.boost is.top is.depth)
+
+pub any_scorer::score_other-returns-in-Const : goal.any_scorer::score_other-returns-in-Const
+any_scorer::score_other-returns-in-Const g t c =
+    let D = g.S.DocSet in
+    let node = c.in-Const.node in
+    let lent = rw (c.in-Const.is, outs-Const node) at c.deref_mut-in-Const.ensures.value in
+    let new = c.score_const.new.node in
+    let is = c.score_const.ensures in
+    scored-as D (Const node) (Const (record node { value = new })) c.in-Const.is (rw (c.in-Const.is, outs-Const node) refl) (scored-Const D node new lent (subst (IsTree D) c.in-Const.is c.requires.valid) is.score is.fits is.entries is.valid is.placed is.head is.same is.depth)
+
+pub any_scorer::score_other-returns-in-RequiredOptional : goal.any_scorer::score_other-returns-in-RequiredOptional
+any_scorer::score_other-returns-in-RequiredOptional g t c =
+    let D = g.S.DocSet in
+    let node = c.in-RequiredOptional.node in
+    let lent = rw (c.in-RequiredOptional.is, outs-RequiredOptional node) at c.deref_mut-in-RequiredOptional.ensures.value in
+    let new = c.score_optional.new.node in
+    let is = c.score_optional.ensures in
+    scored-as D (RequiredOptional node) (RequiredOptional (record node { value = new })) c.in-RequiredOptional.is (rw (c.in-RequiredOptional.is, outs-RequiredOptional node) refl) (scored-RequiredOptional D node new lent (subst (IsTree D) c.in-RequiredOptional.is c.requires.valid) is.score is.fits is.entries is.required is.placed is.optional is.stands is.head is.top is.depth)
+
+pub any_scorer::score_other-returns-in-Exclude : goal.any_scorer::score_other-returns-in-Exclude
+any_scorer::score_other-returns-in-Exclude g t c =
+    let D = g.S.DocSet in
+    let node = c.in-Exclude.node in
+    let lent = rw (c.in-Exclude.is, outs-Exclude node) at c.deref_mut-in-Exclude.ensures.value in
+    let new = c.score_exclude.new.node in
+    let is = c.score_exclude.ensures in
+    scored-as D (Exclude node) (Exclude (record node { value = new })) c.in-Exclude.is (rw (c.in-Exclude.is, outs-Exclude node) refl) (scored-Exclude D node new lent (subst (IsTree D) c.in-Exclude.is c.requires.valid) (subst (IsTreePlaced D) c.in-Exclude.is c.requires.placed) is.score is.fits is.entries is.inner is.placed is.head is.out is.top is.depth)
 
 pub any_scorer::score_other-score_group-requires : goal.any_scorer::score_other-score_group-requires
 any_scorer::score_other-score_group-requires g t c κs within =
@@ -359,44 +482,6 @@ any_scorer::score_other-score_group-requires g t c κs within =
     let here : c.deref_mut-in-Union.result.now.current < TERMINATED = omega (arith, c.requires.here, ap (tree_head D) c.in-Union.is, ap (λ (n : GroupNode g.row.S.Denot). n.current) value) in
     (search (rules, aq.the_lemmas), (search rules, (opened, here)))
 
-pub any_scorer::score_other-returns-in-Union-clause-score : goal.any_scorer::score_other-returns-in-Union-clause-score
-any_scorer::score_other-returns-in-Union-clause-score g t c =
-    let D = g.S.DocSet in
-    let node = c.in-Union.node in
-    let value = rw (c.in-Union.is, outs-Union c.in-Union.node) at c.deref_mut-in-Union.ensures.value in
-    let before : tree_entries D (Union node) ≡ group_entries D c.deref_mut-in-Union.result.now = entries-Union D node ∙ ap (group_entries D) (sym value) in
-    rw c.in-Union.is (c.score_group.ensures.score ∙ sym (ap head_score before))
-
-pub any_scorer::score_other-returns-in-Union-clause-entries : goal.any_scorer::score_other-returns-in-Union-clause-entries
-any_scorer::score_other-returns-in-Union-clause-entries g t c =
-    let D = g.S.DocSet in
-    let node = c.in-Union.node in
-    let value = rw (c.in-Union.is, outs-Union c.in-Union.node) at c.deref_mut-in-Union.ensures.value in
-    let new = record node { value = c.score_group.new.node } in
-    let before : tree_entries D (Union node) ≡ group_entries D c.deref_mut-in-Union.result.now = entries-Union D node ∙ ap (group_entries D) (sym value) in
-    rw (c.in-Union.is, outs-Union c.in-Union.node) (entries-Union D new ∙ (λ i. gathered_list (c.score_group.ensures.shape i) (c.score_group.ensures.lists i)) ∙ sym before)
-
-pub any_scorer::score_other-returns-in-Union-clause-top : goal.any_scorer::score_other-returns-in-Union-clause-top
-any_scorer::score_other-returns-in-Union-clause-top g t c =
-    let D = g.S.DocSet in
-    let value = rw (c.in-Union.is, outs-Union c.in-Union.node) at c.deref_mut-in-Union.ensures.value in
-    rw (c.in-Union.is, outs-Union c.in-Union.node) (ap (λ (s : Shape). s.top) c.score_group.ensures.shape ∙ ap (λ (n : GroupNode g.row.S.Denot). n.shape.top) value)
-
-pub any_scorer::score_other-returns-in-Union-clause-valid : goal.any_scorer::score_other-returns-in-Union-clause-valid
-any_scorer::score_other-returns-in-Union-clause-valid g t c =
-    let node = c.in-Union.node in
-    let new = record node { value = c.score_group.new.node } in
-    rw (c.in-Union.is, outs-Union c.in-Union.node) (closed-Union g.S.DocSet new c.score_group.ensures.valid)
-
-pub any_scorer::score_other-returns-in-Union-clause-placed : goal.any_scorer::score_other-returns-in-Union-clause-placed
-any_scorer::score_other-returns-in-Union-clause-placed g t c = rw (c.in-Union.is, outs-Union c.in-Union.node) tt
-
-pub any_scorer::score_other-returns-in-Union-clause-head : goal.any_scorer::score_other-returns-in-Union-clause-head
-any_scorer::score_other-returns-in-Union-clause-head g t c =
-    let D = g.S.DocSet in
-    let value = rw (c.in-Union.is, outs-Union c.in-Union.node) at c.deref_mut-in-Union.ensures.value in
-    rw (c.in-Union.is, outs-Union c.in-Union.node) (c.score_group.ensures.current ∙ ap (λ (n : GroupNode g.row.S.Denot). n.current) value)
-
 pub any_scorer::score_other-score_group-requires-in-Disjunction : goal.any_scorer::score_other-score_group-requires-in-Disjunction
 any_scorer::score_other-score_group-requires-in-Disjunction g t c κs within =
     let D = g.S.DocSet in
@@ -406,46 +491,6 @@ any_scorer::score_other-score_group-requires-in-Disjunction g t c κs within =
     let here : c.deref_mut-in-Disjunction.result.now.current < TERMINATED = omega (arith, c.requires.here, ap (tree_head D) c.in-Disjunction.is, ap (λ (n : GroupNode g.row.S.Denot). n.current) value) in
     (search (rules, aq.the_lemmas), (search rules, (opened, here)))
 
-pub any_scorer::score_other-returns-in-Disjunction-clause-score : goal.any_scorer::score_other-returns-in-Disjunction-clause-score
-any_scorer::score_other-returns-in-Disjunction-clause-score g t c =
-    let D = g.S.DocSet in
-    let node = c.in-Disjunction.node in
-    let value = rw (c.in-Disjunction.is, outs-Disjunction c.in-Disjunction.node) at c.deref_mut-in-Disjunction.ensures.value in
-    let before : tree_entries D (Disjunction node) ≡ group_entries D c.deref_mut-in-Disjunction.result.now = entries-Disjunction D node ∙ ap (group_entries D) (sym value) in
-    rw c.in-Disjunction.is (c.score_group-in-Disjunction.ensures.score ∙ sym (ap head_score before))
-
-pub any_scorer::score_other-returns-in-Disjunction-clause-entries : goal.any_scorer::score_other-returns-in-Disjunction-clause-entries
-any_scorer::score_other-returns-in-Disjunction-clause-entries g t c =
-    let D = g.S.DocSet in
-    let node = c.in-Disjunction.node in
-    let value = rw (c.in-Disjunction.is, outs-Disjunction c.in-Disjunction.node) at c.deref_mut-in-Disjunction.ensures.value in
-    let new = record node { value = c.score_group-in-Disjunction.new.node } in
-    let before : tree_entries D (Disjunction node) ≡ group_entries D c.deref_mut-in-Disjunction.result.now = entries-Disjunction D node ∙ ap (group_entries D) (sym value) in
-    rw (c.in-Disjunction.is, outs-Disjunction c.in-Disjunction.node) (entries-Disjunction D new ∙ (λ i. gathered_list (c.score_group-in-Disjunction.ensures.shape i) (c.score_group-in-Disjunction.ensures.lists i)) ∙ sym before)
-
-pub any_scorer::score_other-returns-in-Disjunction-clause-top : goal.any_scorer::score_other-returns-in-Disjunction-clause-top
-any_scorer::score_other-returns-in-Disjunction-clause-top g t c =
-    let D = g.S.DocSet in
-    let value = rw (c.in-Disjunction.is, outs-Disjunction c.in-Disjunction.node) at c.deref_mut-in-Disjunction.ensures.value in
-    rw (c.in-Disjunction.is, outs-Disjunction c.in-Disjunction.node) (ap (λ (s : Shape). s.top) c.score_group-in-Disjunction.ensures.shape ∙ ap (λ (n : GroupNode g.row.S.Denot). n.shape.top) value)
-
-pub any_scorer::score_other-returns-in-Disjunction-clause-valid : goal.any_scorer::score_other-returns-in-Disjunction-clause-valid
-any_scorer::score_other-returns-in-Disjunction-clause-valid g t c =
-    let node = c.in-Disjunction.node in
-    let new = record node { value = c.score_group-in-Disjunction.new.node } in
-    rw (c.in-Disjunction.is, outs-Disjunction c.in-Disjunction.node) (closed-Disjunction g.S.DocSet new c.score_group-in-Disjunction.ensures.valid)
-
-pub any_scorer::score_other-returns-in-Disjunction-clause-placed : goal.any_scorer::score_other-returns-in-Disjunction-clause-placed
-any_scorer::score_other-returns-in-Disjunction-clause-placed g t c = rw (c.in-Disjunction.is, outs-Disjunction c.in-Disjunction.node) tt
-
-pub any_scorer::score_other-returns-in-Disjunction-clause-head : goal.any_scorer::score_other-returns-in-Disjunction-clause-head
-any_scorer::score_other-returns-in-Disjunction-clause-head g t c =
-    let D = g.S.DocSet in
-    let value = rw (c.in-Disjunction.is, outs-Disjunction c.in-Disjunction.node) at c.deref_mut-in-Disjunction.ensures.value in
-    rw (c.in-Disjunction.is, outs-Disjunction c.in-Disjunction.node) (c.score_group-in-Disjunction.ensures.current ∙ ap (λ (n : GroupNode g.row.S.Denot). n.current) value)
-
--- ---- the arm of an intersection
-
 pub any_scorer::score_other-score_intersection-requires : goal.any_scorer::score_other-score_intersection-requires
 any_scorer::score_other-score_intersection-requires g t c κs within =
     let node = c.in-Intersection.node in
@@ -454,43 +499,29 @@ any_scorer::score_other-score_intersection-requires g t c κs within =
     let D = g.S.DocSet in
     (search (rules, aq.the_lemmas), (search rules, (lent-trees D node is lent c.requires.valid, (lent-together D node is lent c.requires.placed, lent-here D node is lent c.requires.here))))
 
-pub any_scorer::score_other-returns-in-Intersection-clause-score : goal.any_scorer::score_other-returns-in-Intersection-clause-score
-any_scorer::score_other-returns-in-Intersection-clause-score g t c =
+pub any_scorer::score_other-returns-in-Union : goal.any_scorer::score_other-returns-in-Union
+any_scorer::score_other-returns-in-Union g t c =
+    let D = g.S.DocSet in
+    let node = c.in-Union.node in
+    let lent = rw (c.in-Union.is, outs-Union node) at c.deref_mut-in-Union.ensures.value in
+    let new = c.score_group.new.node in
+    let is = c.score_group.ensures in
+    scored-as D (Union node) (Union (record node { value = new })) c.in-Union.is (rw (c.in-Union.is, outs-Union node) refl) (scored-Union D node new lent is.score is.fits is.lists is.valid is.shape is.current is.depth)
+
+pub any_scorer::score_other-returns-in-Disjunction : goal.any_scorer::score_other-returns-in-Disjunction
+any_scorer::score_other-returns-in-Disjunction g t c =
+    let D = g.S.DocSet in
+    let node = c.in-Disjunction.node in
+    let lent = rw (c.in-Disjunction.is, outs-Disjunction node) at c.deref_mut-in-Disjunction.ensures.value in
+    let new = c.score_group-in-Disjunction.new.node in
+    let is = c.score_group-in-Disjunction.ensures in
+    scored-as D (Disjunction node) (Disjunction (record node { value = new })) c.in-Disjunction.is (rw (c.in-Disjunction.is, outs-Disjunction node) refl) (scored-Disjunction D node new lent is.score is.fits is.lists is.valid is.shape is.current is.depth)
+
+pub any_scorer::score_other-returns-in-Intersection : goal.any_scorer::score_other-returns-in-Intersection
+any_scorer::score_other-returns-in-Intersection g t c =
+    let D = g.S.DocSet in
     let node = c.in-Intersection.node in
     let lent = rw (c.in-Intersection.is, outs-Intersection node) at c.deref_mut-in-Intersection.ensures.value in
-    c.score_intersection.ensures.score ∙ ap head_score (lent-entries g.S.DocSet node c.in-Intersection.is lent)
-
-pub any_scorer::score_other-returns-in-Intersection-clause-entries : goal.any_scorer::score_other-returns-in-Intersection-clause-entries
-any_scorer::score_other-returns-in-Intersection-clause-entries g t c =
-    let node = c.in-Intersection.node in
-    let lent = rw (c.in-Intersection.is, outs-Intersection node) at c.deref_mut-in-Intersection.ensures.value in
-    rw (c.in-Intersection.is, outs-Intersection node) (left-entries g.S.DocSet (λ es. es) node c.score_intersection.new.node lent c.score_intersection.ensures.entries)
-
-pub any_scorer::score_other-returns-in-Intersection-clause-top : goal.any_scorer::score_other-returns-in-Intersection-clause-top
-any_scorer::score_other-returns-in-Intersection-clause-top g t c =
-    let node = c.in-Intersection.node in
-    let lent = rw (c.in-Intersection.is, outs-Intersection node) at c.deref_mut-in-Intersection.ensures.value in
-    rw (c.in-Intersection.is, outs-Intersection node) (left-top g.S.DocSet node c.score_intersection.new.node lent c.score_intersection.ensures.top)
-
-pub any_scorer::score_other-returns-in-Intersection-clause-valid : goal.any_scorer::score_other-returns-in-Intersection-clause-valid
-any_scorer::score_other-returns-in-Intersection-clause-valid g t c =
-    let node = c.in-Intersection.node in
-    let lent = rw (c.in-Intersection.is, outs-Intersection node) at c.deref_mut-in-Intersection.ensures.value in
-    rw (c.in-Intersection.is, outs-Intersection node) (left-valid g.S.DocSet (λ es. es) IsBounded-same node c.score_intersection.new.node c.in-Intersection.is lent c.requires.valid c.score_intersection.ensures.entries c.score_intersection.ensures.top c.score_intersection.ensures.trees)
-
-pub any_scorer::score_other-returns-in-Intersection-clause-placed : goal.any_scorer::score_other-returns-in-Intersection-clause-placed
-any_scorer::score_other-returns-in-Intersection-clause-placed g t c =
-    let node = c.in-Intersection.node in
-    rw (c.in-Intersection.is, outs-Intersection node) (placed-Intersection g.S.DocSet (record node { value = c.score_intersection.new.node }) c.score_intersection.ensures.placed)
-
-pub any_scorer::score_other-returns-in-Intersection-clause-head : goal.any_scorer::score_other-returns-in-Intersection-clause-head
-any_scorer::score_other-returns-in-Intersection-clause-head g t c =
-    let node = c.in-Intersection.node in
-    let lent = rw (c.in-Intersection.is, outs-Intersection node) at c.deref_mut-in-Intersection.ensures.value in
-    rw (c.in-Intersection.is, outs-Intersection node) (left-head g.S.DocSet node c.score_intersection.new.node lent c.score_intersection.ensures.head)
-
-pub any_scorer::score_other-returns-in-Intersection-clause-depth : goal.any_scorer::score_other-returns-in-Intersection-clause-depth
-any_scorer::score_other-returns-in-Intersection-clause-depth g t c =
-    let node = c.in-Intersection.node in
-    let lent = rw (c.in-Intersection.is, outs-Intersection node) at c.deref_mut-in-Intersection.ensures.value in
-    rw (c.in-Intersection.is, outs-Intersection node) (left-depth node c.score_intersection.new.node lent c.score_intersection.ensures.depth)
+    let new = c.score_intersection.new.node in
+    let is = c.score_intersection.ensures in
+    scored-as D (Intersection node) (Intersection (record node { value = new })) c.in-Intersection.is (rw (c.in-Intersection.is, outs-Intersection node) refl) (scored-Intersection D node new c.in-Intersection.is lent c.requires.valid is.score is.fits is.entries is.trees is.placed is.head is.top is.depth)
