@@ -8,3 +8,4 @@ pub mod Intersections
 pub mod Moving
 pub mod Opened
 pub mod ScoreArms
+pub mod StepArms
