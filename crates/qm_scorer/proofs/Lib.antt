@@ -2,6 +2,7 @@ pub mod Built
 pub mod Depth
 pub mod GroupScores
 pub mod Groups
+pub mod HandedOn
 pub mod Heads
 pub mod IntersectionArms
 pub mod Intersections

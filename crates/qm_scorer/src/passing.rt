@@ -131,7 +131,6 @@ fn fill_by_steps<'a, S: Scorer>(
 
 // The number of alive documents; leaves none.
 #[cycle(counts)]
-#[tactic(auto, using(crate::specs::PassingFacts::passing))]
 pub(crate) fn count_tree<'a, S: Scorer>(scorer: &mut AnyScorer<'a, S>, alive: &AliveBitSet) -> u32
     requires valid { IsTree S.DocSet scorer.old }
     requires placed { IsTreePlaced S.DocSet scorer.old }
@@ -179,7 +178,6 @@ fn count_by_steps<'a, S: Scorer>(scorer: &mut AnyScorer<'a, S>, alive: &AliveBit
 
 // The number of documents, deleted ones too; leaves none.
 #[cycle(totals)]
-#[tactic(auto, using(crate::specs::PassingFacts::passing))]
 pub(crate) fn total_tree<'a, S: Scorer>(scorer: &mut AnyScorer<'a, S>) -> u32
     requires valid { IsTree S.DocSet scorer.old }
     requires placed { IsTreePlaced S.DocSet scorer.old }
