@@ -13,8 +13,32 @@ use Rattle.qm_scorer.specs.Tree.{postings_cursors, set_cursors, tree_entries}
 use Rattle.qm_scorer.specs.declared.any_scorer.AnyScorer.TheVariants.{All, BitSet, Empty, Own, Phrase, PhrasePrefix, Term, outs-Boost, outs-Const}
 use Rattle.qm_scorer.specs.declared.boost_node.BoostNode.{BoostNode}
 use Rattle.qm_scorer.specs.declared.const_node.ConstNode.{ConstNode}
-use Rattle.qm_scorer.proofs.HandedOn.{leaf-ended, lent-Boost, lent-Const}
+use Rattle.qm_scorer.proofs.HandedOn.{leaf-asked, leaf-ended, lent-Boost, lent-Const}
 use Rattle.qm_scorer.proofs.passing.+totals.Goals as goal
+
+pub count_including_deleted-requires : goal.count_including_deleted-requires
+count_including_deleted-requires g t c = leaf-asked g.S.DocSet Empty c.in-Empty.leaf-is c.in-Empty.is c.requires.valid c.requires.placed
+
+pub count_including_deleted-requires-in-All : goal.count_including_deleted-requires-in-All
+count_including_deleted-requires-in-All g t c = leaf-asked g.S.DocSet All c.in-All.leaf-is c.in-All.is c.requires.valid c.requires.placed
+
+pub count_including_deleted-requires-in-Own : goal.count_including_deleted-requires-in-Own
+count_including_deleted-requires-in-Own g t c = leaf-asked g.S.DocSet Own c.in-Own.leaf-is c.in-Own.is c.requires.valid c.requires.placed
+
+pub count_including_deleted-requires-in-Term : goal.count_including_deleted-requires-in-Term
+count_including_deleted-requires-in-Term g t c = leaf-asked g.S.DocSet Term c.in-Term.leaf-is c.in-Term.is c.requires.valid c.requires.placed
+
+pub count_including_deleted-requires-in-BitSet : goal.count_including_deleted-requires-in-BitSet
+count_including_deleted-requires-in-BitSet g t c = leaf-asked g.S.DocSet BitSet c.in-BitSet.leaf-is c.in-BitSet.is c.requires.valid c.requires.placed
+
+pub count_including_deleted-requires-in-Phrase : goal.count_including_deleted-requires-in-Phrase
+count_including_deleted-requires-in-Phrase g t c = leaf-asked g.S.DocSet Phrase c.in-Phrase.leaf-is c.in-Phrase.is c.requires.valid c.requires.placed
+
+pub count_including_deleted-requires-in-PhrasePrefix : goal.count_including_deleted-requires-in-PhrasePrefix
+count_including_deleted-requires-in-PhrasePrefix g t c = leaf-asked g.S.DocSet PhrasePrefix c.in-PhrasePrefix.leaf-is c.in-PhrasePrefix.is c.requires.valid c.requires.placed
+
+pub total_by_steps-requires : goal.total_by_steps-requires
+total_by_steps-requires g t c = record { valid = c.requires.valid; placed = c.requires.placed }
 
 pub returns-in-Empty : goal.returns-in-Empty
 returns-in-Empty g t c =
