@@ -13,9 +13,7 @@ ghost use Rattle.qm_weight.specs.Weights.{boolean_tree, clauses_from, combiner_o
 use crate::any_weight::{AnyWeight, count_any};
 use crate::counts::count_alive;
 use crate::explanations::{check_document, score_of};
-use crate::weight::{
-    Weight, empty_buffer, for_each_docset_buffered, for_each_pruning_scorer, for_each_scorer,
-};
+use crate::weight::{Weight, empty_buffer, for_each_docset_buffered};
 use clauses::build_clauses;
 use explained::explain_clauses;
 use joined::join_clauses;
@@ -101,17 +99,6 @@ impl Weight for BooleanWeight {
         explain_boolean(self, alloc, reader, doc, 1)
     }
 
-    fn for_each<F: FnMut(DocId, Score)>(
-        &self,
-        alloc: Global,
-        reader: &SegmentReader,
-        callback: &mut F,
-    ) -> Result<(), QueryError> {
-        let mut scorer: AnyScorer<EmptyScorer> = build_boolean(self, alloc, reader, 1)?;
-        for_each_scorer(&mut scorer, callback);
-        Ok(())
-    }
-
     fn for_each_no_score<F: FnMut(&[DocId])>(
         &self,
         alloc: Global,
@@ -120,18 +107,6 @@ impl Weight for BooleanWeight {
     ) -> Result<(), QueryError> {
         let mut scorer: AnyScorer<EmptyScorer> = build_boolean(self, alloc, reader, 1)?;
         for_each_docset_buffered(&mut scorer, &mut empty_buffer(), callback);
-        Ok(())
-    }
-
-    fn for_each_pruning<F: FnMut(DocId, Score) -> Score>(
-        &self,
-        alloc: Global,
-        threshold: Score,
-        reader: &SegmentReader,
-        callback: &mut F,
-    ) -> Result<(), QueryError> {
-        let mut scorer: AnyScorer<EmptyScorer> = build_boolean(self, alloc, reader, 1)?;
-        for_each_pruning_scorer(&mut scorer, threshold, callback);
         Ok(())
     }
 }
