@@ -5,11 +5,9 @@ ghost use Rattle.std.specs.Prelude.{IsOkUnless};
 use crate::boxed::boxed;
 use crate::enable_scoring::EnableScoring;
 use crate::query::Query;
-use crate::searches::{count_alive, segment_at};
-use qm_postings::{Bm25StatisticsProvider, DocAddress, Searcher};
+use qm_postings::Bm25StatisticsProvider;
 use qm_schema::{QueryError, Term};
-use qm_term::Explanation;
-use qm_weight::{AllWeight, AnyWeight, Weight};
+use qm_weight::{AllWeight, AnyWeight};
 use std::alloc::Global;
 
 /// Matches every document, and scores the boost.
@@ -36,23 +34,6 @@ impl Query for AllQuery {
         _enable_scoring: EnableScoring<'_, P>,
     ) -> Result<Box<AnyWeight>, QueryError> {
         boxed(alloc, AnyWeight::All(AllWeight))
-    }
-
-    fn count(&self, alloc: Global, searcher: &Searcher) -> Result<usize, QueryError> {
-        let enable_scoring = EnableScoring::<Searcher>::disabled_from_searcher(searcher);
-        let weight = self.weight(alloc, enable_scoring)?;
-        count_alive(&weight, alloc, searcher)
-    }
-
-    fn explain(
-        &self,
-        alloc: Global,
-        searcher: &Searcher,
-        address: DocAddress,
-    ) -> Result<Explanation, QueryError> {
-        let reader = segment_at(searcher, address)?;
-        let weight = self.weight(alloc, EnableScoring::enabled_from_searcher(searcher))?;
-        (*weight).explain(alloc, reader, address.doc_id)
     }
 
     fn query_terms<F: FnMut(&Term, bool)>(&self, _visitor: &mut F) {}

@@ -15,14 +15,12 @@ use crate::any_query::AnyQuery;
 use crate::boxed::boxed;
 use crate::enable_scoring::EnableScoring;
 use crate::query::Query;
-use crate::searches::{count_alive, segment_at};
 use crate::term_query::TermQuery;
 use qm_combine::SumCombiner;
-use qm_postings::{Bm25StatisticsProvider, DocAddress, Searcher};
+use qm_postings::Bm25StatisticsProvider;
 use qm_schema::{IndexRecordOption, Occur, QueryError, Term};
 use qm_scorer::AnyCombiner;
-use qm_term::Explanation;
-use qm_weight::{AnyWeight, BooleanWeight, Weight};
+use qm_weight::{AnyWeight, BooleanWeight};
 use std::alloc::Global;
 
 /// Matches the documents that every Must clause matches, no MustNot clause does, and at least so many
@@ -269,23 +267,6 @@ impl Query for BooleanQuery {
         enable_scoring: EnableScoring<'_, P>,
     ) -> Result<Box<AnyWeight>, QueryError> {
         self.build_weight(alloc, enable_scoring)
-    }
-
-    fn count(&self, alloc: Global, searcher: &Searcher) -> Result<usize, QueryError> {
-        let enable_scoring = EnableScoring::<Searcher>::disabled_from_searcher(searcher);
-        let weight = self.weight(alloc, enable_scoring)?;
-        count_alive(&weight, alloc, searcher)
-    }
-
-    fn explain(
-        &self,
-        alloc: Global,
-        searcher: &Searcher,
-        address: DocAddress,
-    ) -> Result<Explanation, QueryError> {
-        let reader = segment_at(searcher, address)?;
-        let weight = self.weight(alloc, EnableScoring::enabled_from_searcher(searcher))?;
-        (*weight).explain(alloc, reader, address.doc_id)
     }
 
     fn query_terms<F: FnMut(&Term, bool)>(&self, visitor: &mut F) {

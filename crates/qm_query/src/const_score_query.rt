@@ -13,12 +13,10 @@ use crate::boxed::boxed;
 use crate::enable_scoring::EnableScoring;
 use crate::factor::Factor;
 use crate::query::Query;
-use crate::searches::{count_alive, segment_at};
 use qm_docset::Score;
-use qm_postings::{Bm25StatisticsProvider, DocAddress, Searcher};
+use qm_postings::Bm25StatisticsProvider;
 use qm_schema::{QueryError, Term};
-use qm_term::Explanation;
-use qm_weight::{AnyWeight, ConstWeight, Weight};
+use qm_weight::{AnyWeight, ConstWeight};
 use std::alloc::Global;
 
 /// Matches what another query matches, and gives each document one score, times the boost that the
@@ -98,23 +96,6 @@ impl Query for ConstScoreQuery {
         enable_scoring: EnableScoring<'_, P>,
     ) -> Result<Box<AnyWeight>, QueryError> {
         self.build_weight(alloc, enable_scoring)
-    }
-
-    fn count(&self, alloc: Global, searcher: &Searcher) -> Result<usize, QueryError> {
-        let enable_scoring = EnableScoring::<Searcher>::disabled_from_searcher(searcher);
-        let weight = self.weight(alloc, enable_scoring)?;
-        count_alive(&weight, alloc, searcher)
-    }
-
-    fn explain(
-        &self,
-        alloc: Global,
-        searcher: &Searcher,
-        address: DocAddress,
-    ) -> Result<Explanation, QueryError> {
-        let reader = segment_at(searcher, address)?;
-        let weight = self.weight(alloc, EnableScoring::enabled_from_searcher(searcher))?;
-        (*weight).explain(alloc, reader, address.doc_id)
     }
 
     fn query_terms<F: FnMut(&Term, bool)>(&self, visitor: &mut F) {

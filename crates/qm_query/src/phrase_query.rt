@@ -13,12 +13,10 @@ use crate::offsets::{
     clone_terms, clone_without_offsets, enumerate_terms, row_refusal, sort_by_offset, terms_refusal,
 };
 use crate::query::Query;
-use crate::searches::{count_alive, segment_at};
 use crate::visits::visit_phrase;
-use qm_postings::{Bm25StatisticsProvider, DocAddress, Searcher};
+use qm_postings::Bm25StatisticsProvider;
 use qm_schema::{Field, QueryError, Term};
-use qm_term::Explanation;
-use qm_weight::{AnyWeight, PhraseWeight, Weight};
+use qm_weight::{AnyWeight, PhraseWeight};
 use std::alloc::Global;
 use std::marker::Model;
 
@@ -164,23 +162,6 @@ impl Query for PhraseQuery {
         let mut weight = PhraseWeight::new(terms, weight);
         weight.slop(self.slop);
         boxed(alloc, AnyWeight::Phrase(weight))
-    }
-
-    fn count(&self, alloc: Global, searcher: &Searcher) -> Result<usize, QueryError> {
-        let enable_scoring = EnableScoring::<Searcher>::disabled_from_searcher(searcher);
-        let weight = self.weight(alloc, enable_scoring)?;
-        count_alive(&weight, alloc, searcher)
-    }
-
-    fn explain(
-        &self,
-        alloc: Global,
-        searcher: &Searcher,
-        address: DocAddress,
-    ) -> Result<Explanation, QueryError> {
-        let reader = segment_at(searcher, address)?;
-        let weight = self.weight(alloc, EnableScoring::enabled_from_searcher(searcher))?;
-        (*weight).explain(alloc, reader, address.doc_id)
     }
 
     fn query_terms<F: FnMut(&Term, bool)>(&self, visitor: &mut F) {

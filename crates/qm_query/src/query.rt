@@ -61,7 +61,12 @@ pub trait Query {
     /// the weight once, and costs what `Weight::count` does for each segment.
     fn count(&self, alloc: Global, searcher: &Searcher) -> Result<usize, QueryError>
         ensures count { IfOk result (IsCountOf ⟦<Searcher as Bm25StatisticsProvider>⟧ searcher.now (query self.now)) }
-        ensures refused { IfErr result (IsCountRefusal ⟦<Searcher as Bm25StatisticsProvider>⟧ searcher.now (query self.now)) };
+        ensures refused { IfErr result (IsCountRefusal ⟦<Searcher as Bm25StatisticsProvider>⟧ searcher.now (query self.now)) }
+    {
+        let enable_scoring = EnableScoring::<Searcher>::disabled_from_searcher(searcher);
+        let weight = self.weight(alloc, enable_scoring)?;
+        count_alive(&weight, alloc, searcher)
+    }
 
     /// Why a document of a segment of the searcher scores what it does, by the weights that the
     /// searcher gives to terms; a deleted one too. The value is its score, at a boost of 1.
@@ -77,7 +82,12 @@ pub trait Query {
         address: DocAddress,
     ) -> Result<Explanation, QueryError>
         ensures explained { IfOk result (λ e. IsExplainedAt ⟦<Searcher as Bm25StatisticsProvider>⟧ searcher.now (query self.now) address (value_of e)) }
-        ensures refused { IfErr result (IsUnexplainedAt ⟦<Searcher as Bm25StatisticsProvider>⟧ searcher.now (query self.now) address) };
+        ensures refused { IfErr result (IsUnexplainedAt ⟦<Searcher as Bm25StatisticsProvider>⟧ searcher.now (query self.now) address) }
+    {
+        let reader = segment_at(searcher, address)?;
+        let weight = self.weight(alloc, EnableScoring::enabled_from_searcher(searcher))?;
+        (*weight).explain(alloc, reader, address.doc_id)
+    }
 
     /// Calls `visitor` with each term that the query names, and with whether its positions are wanted, in
     /// the order of the clauses, those of a MustNot too: with a term that is asked for by itself and
@@ -218,23 +228,6 @@ impl Query for AnyQuery {
         self.build_weight(alloc, enable_scoring)
     }
 
-    fn count(&self, alloc: Global, searcher: &Searcher) -> Result<usize, QueryError> {
-        let enable_scoring = EnableScoring::<Searcher>::disabled_from_searcher(searcher);
-        let weight = self.weight(alloc, enable_scoring)?;
-        count_alive(&weight, alloc, searcher)
-    }
-
-    fn explain(
-        &self,
-        alloc: Global,
-        searcher: &Searcher,
-        address: DocAddress,
-    ) -> Result<Explanation, QueryError> {
-        let reader = segment_at(searcher, address)?;
-        let weight = self.weight(alloc, EnableScoring::enabled_from_searcher(searcher))?;
-        (*weight).explain(alloc, reader, address.doc_id)
-    }
-
     fn query_terms<F: FnMut(&Term, bool)>(&self, visitor: &mut F) {
         self.visit_terms(visitor);
     }
@@ -251,23 +244,6 @@ impl Query for Box<AnyQuery> {
         enable_scoring: EnableScoring<'_, P>,
     ) -> Result<Box<AnyWeight>, QueryError> {
         (**self).build_weight(alloc, enable_scoring)
-    }
-
-    fn count(&self, alloc: Global, searcher: &Searcher) -> Result<usize, QueryError> {
-        let enable_scoring = EnableScoring::<Searcher>::disabled_from_searcher(searcher);
-        let weight = self.weight(alloc, enable_scoring)?;
-        count_alive(&weight, alloc, searcher)
-    }
-
-    fn explain(
-        &self,
-        alloc: Global,
-        searcher: &Searcher,
-        address: DocAddress,
-    ) -> Result<Explanation, QueryError> {
-        let reader = segment_at(searcher, address)?;
-        let weight = self.weight(alloc, EnableScoring::enabled_from_searcher(searcher))?;
-        (*weight).explain(alloc, reader, address.doc_id)
     }
 
     fn query_terms<F: FnMut(&Term, bool)>(&self, visitor: &mut F) {

@@ -13,12 +13,11 @@ use crate::enable_scoring::EnableScoring;
 use crate::fields::term_field_refusal;
 use crate::leaf_weight::{leaf_weight, no_weight};
 use crate::query::Query;
-use crate::searches::{count_alive, segment_at};
 use crate::visits::visit_term;
-use qm_postings::{Bm25StatisticsProvider, DocAddress, Searcher};
+use qm_postings::Bm25StatisticsProvider;
 use qm_schema::{IndexRecordOption, QueryError, Term};
 use qm_term::{Bm25Weight, Explanation};
-use qm_weight::{AnyWeight, TermWeight, Weight};
+use qm_weight::{AnyWeight, TermWeight};
 use std::alloc::Global;
 use std::marker::Model;
 use std::slice;
@@ -143,23 +142,6 @@ impl Query for TermQuery {
                 self.boxed_weight(alloc, IndexRecordOption::Basic, &no_weight(), false)
             }
         }
-    }
-
-    fn count(&self, alloc: Global, searcher: &Searcher) -> Result<usize, QueryError> {
-        let enable_scoring = EnableScoring::<Searcher>::disabled_from_searcher(searcher);
-        let weight = self.weight(alloc, enable_scoring)?;
-        count_alive(&weight, alloc, searcher)
-    }
-
-    fn explain(
-        &self,
-        alloc: Global,
-        searcher: &Searcher,
-        address: DocAddress,
-    ) -> Result<Explanation, QueryError> {
-        let reader = segment_at(searcher, address)?;
-        let weight = self.weight(alloc, EnableScoring::enabled_from_searcher(searcher))?;
-        (*weight).explain(alloc, reader, address.doc_id)
     }
 
     fn query_terms<F: FnMut(&Term, bool)>(&self, visitor: &mut F) {
