@@ -6,6 +6,7 @@ pub mod HandedOn
 pub mod Heads
 pub mod IntersectionArms
 pub mod Intersections
+pub mod MoveArms
 pub mod Moving
 pub mod Opened
 pub mod ScoreArms

@@ -1,32 +1,23 @@
 -- What a tree is after its leaf or its node was asked for a score, by what that call ensures.
-use Rattle.std.proofs.Common.{rules, arith, ◌≡◌, ℕ, ◌*◌, ◌<◌, ◌≤◌, ℤ, pos, List, [], ◌∷◌, sum, sym, ap, subst, ◌∙◌}
+use Rattle.std.proofs.Common.{arith, ◌≡◌, ℕ, ◌*◌, ◌<◌, ◌≤◌, ℤ, pos, List, [], ◌∷◌, sum, sym, ap, subst, ◌∙◌}
 use Rattle.std.specs.declared.boxed.Box.{Box}
 use lib.Signed.{mag}
 use Rattle.qm_docset.specs.BitSetDocSet.{IsOnMember}
 use Rattle.qm_docset.specs.Entry.{Entry, greatest_score, head_document, head_score}
 use Rattle.qm_docset.specs.Exclusion.{has_document}
-use Rattle.qm_docset.specs.declared.bitset_docset.BitSetDocSet.{BitSetDocSet}
 use Rattle.qm_docset.specs.declared.docset.DocSet.{Ghosts}
 use Rattle.qm_docset.specs.declared.numbers.TheConstants.{TERMINATED}
-use Rattle.qm_postings.specs.declared.segment_postings.SegmentPostings.{SegmentPostings}
 use Rattle.qm_combine.specs.Rescored.{rescored, with_optional}
 use Rattle.qm_combine.specs.Without.{without}
 use Rattle.qm_combine.specs.WithoutFacts.{IsKept}
-use Rattle.qm_combine.specs.declared.all_scorer.AllScorer.{AllScorer}
-use Rattle.qm_combine.specs.declared.const_scorer.ConstScorer.{ConstScorer}
-use Rattle.qm_combine.specs.declared.empty_scorer.EmptyScorer.{EmptyScorer}
-use Rattle.qm_phrase.specs.declared.phrase_prefix_scorer.PhrasePrefixScorer.{PhrasePrefixScorer}
-use Rattle.qm_phrase.specs.declared.phrase_scorer.PhraseScorer.{PhraseScorer}
-use Rattle.qm_term.specs.declared.term_scorer.TermScorer.{TermScorer}
 use Rattle.qm_scorer.specs.Bare.{IsBounded, bare}
 use Rattle.qm_scorer.specs.BareFacts.{head_score-bare}
 use Rattle.qm_scorer.specs.Group.{IsGroupNode, group_entries, group_lists}
 use Rattle.qm_scorer.specs.Intersection.{AreTogether, AreTrees, common_list}
 use Rattle.qm_scorer.specs.MoveFacts.{IsBounded-same}
 use Rattle.qm_scorer.specs.Tree.{IsOnKept, IsTree, IsTreePlaced, gathered_list, joined_entries, kept_entries, tree_entries, tree_head, tree_top}
-use Rattle.qm_scorer.specs.declared.any_scorer.AnyScorer as q
 use Rattle.qm_scorer.specs.declared.any_scorer.AnyScorer.{AnyScorer, size-AnyScorer}
-use Rattle.qm_scorer.specs.declared.any_scorer.AnyScorer.TheVariants.{All, BitSet, Boost, Const, Disjunction, Empty, Exclude, Intersection, Own, Phrase, PhrasePrefix, RequiredOptional, Term, Union}
+use Rattle.qm_scorer.specs.declared.any_scorer.AnyScorer.TheVariants.{Boost, Const, Disjunction, Exclude, Intersection, RequiredOptional, Union}
 use Rattle.qm_scorer.specs.declared.boost_node.BoostNode.{BoostNode, size-BoostNode}
 use Rattle.qm_scorer.specs.declared.const_node.ConstNode.{ConstNode, size-ConstNode}
 use Rattle.qm_scorer.specs.declared.exclude_node.ExcludeNode.{ExcludeNode, size-ExcludeNode}
@@ -34,7 +25,7 @@ use Rattle.qm_scorer.specs.declared.group_node.GroupNode.{GroupNode, size-GroupN
 use Rattle.qm_scorer.specs.declared.group_node.Shape.{Shape}
 use Rattle.qm_scorer.specs.declared.intersection_node.IntersectionNode.{IntersectionNode, size-IntersectionNode}
 use Rattle.qm_scorer.specs.declared.optional_node.OptionalNode.{OptionalNode, size-OptionalNode}
-use Rattle.qm_scorer.proofs.Depth.{size-Disjunction, size-Union}
+use Rattle.qm_scorer.proofs.Depth.{size-Boost, size-Const, size-Disjunction, size-Exclude, size-RequiredOptional, size-Union}
 use Rattle.qm_scorer.proofs.IntersectionArms.{left-depth, left-entries, left-head, left-top, left-valid, lent-entries}
 use Rattle.qm_scorer.proofs.Opened.{closed-Disjunction, closed-Union, entries-Disjunction, entries-Union, placed-Intersection}
 
@@ -43,43 +34,6 @@ pub score_fits : (z : ℤ) (n : ℕ) → z ≡ pos n → mag z < 922337203685477
 score_fits z n is fits =
     let below : n < 9223372036854775808 = subst (λ (y : ℤ). mag y < 9223372036854775808) is fits in
     omega (arith, below)
-
--- each leaf is as deep as another of its kind
-module _ (S : Type 0) where
-  pub same-Empty : (new old : EmptyScorer) → size-AnyScorer S (Empty new) ≤ size-AnyScorer S (Empty old)
-  same-Empty new old = search (rules, q.the_lemmas)
-
-  pub same-All : (new old : AllScorer) → size-AnyScorer S (All new) ≤ size-AnyScorer S (All old)
-  same-All new old = search (rules, q.the_lemmas)
-
-  pub same-Own : (new old : S) → size-AnyScorer S (Own new) ≤ size-AnyScorer S (Own old)
-  same-Own new old = search (rules, q.the_lemmas)
-
-  pub same-Term : (new old : Box TermScorer _) → size-AnyScorer S (Term new) ≤ size-AnyScorer S (Term old)
-  same-Term new old = search (rules, q.the_lemmas)
-
-  pub same-BitSet : (new old : Box (ConstScorer BitSetDocSet) _) → size-AnyScorer S (BitSet new) ≤ size-AnyScorer S (BitSet old)
-  same-BitSet new old = search (rules, q.the_lemmas)
-
-  pub same-Phrase : (new old : Box (PhraseScorer SegmentPostings) _) → size-AnyScorer S (Phrase new) ≤ size-AnyScorer S (Phrase old)
-  same-Phrase new old = search (rules, q.the_lemmas)
-
-  pub same-PhrasePrefix : (new old : Box (PhrasePrefixScorer SegmentPostings) _) → size-AnyScorer S (PhrasePrefix new) ≤ size-AnyScorer S (PhrasePrefix old)
-  same-PhrasePrefix new old = search (rules, q.the_lemmas)
-
--- each node over trees is no deeper where what it holds is no deeper
-module _ {S : Type 0} where
-  size-Boost : (old : Box (BoostNode S) _) (new : BoostNode S) → size-BoostNode S new ≤ size-BoostNode S old.value → size-AnyScorer S (Boost (record old { value = new })) ≤ size-AnyScorer S (Boost old)
-  size-Boost old new h = search (rules, q.the_lemmas)
-
-  size-Const : (old : Box (ConstNode S) _) (new : ConstNode S) → size-ConstNode S new ≤ size-ConstNode S old.value → size-AnyScorer S (Const (record old { value = new })) ≤ size-AnyScorer S (Const old)
-  size-Const old new h = search (rules, q.the_lemmas)
-
-  size-RequiredOptional : (old : Box (OptionalNode S) _) (new : OptionalNode S) → size-OptionalNode S new ≤ size-OptionalNode S old.value → size-AnyScorer S (RequiredOptional (record old { value = new })) ≤ size-AnyScorer S (RequiredOptional old)
-  size-RequiredOptional old new h = search (rules, q.the_lemmas)
-
-  size-Exclude : (old : Box (ExcludeNode S) _) (new : ExcludeNode S) → size-ExcludeNode S new ≤ size-ExcludeNode S old.value → size-AnyScorer S (Exclude (record old { value = new })) ≤ size-AnyScorer S (Exclude old)
-  size-Exclude old new h = search (rules, q.the_lemmas)
 
 module _ {S : Type 0} (D : Ghosts S) where
   -- what a tree ensures that was asked for its score

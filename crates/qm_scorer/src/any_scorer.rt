@@ -7,8 +7,8 @@ ghost use Rattle.qm_scorer.specs.Tree.{IsTree, IsTreePlaced, tree_entries, tree_
 ghost use Rattle.qm_scorer.specs.TreeFacts.{tree-ascends};
 ghost use Rattle.qm_scorer.specs.declared.any_scorer.AnyScorer.{size-AnyScorer};
 
-use crate::boost_node::{BoostNode, danger_boost, score_boost, seek_boost};
-use crate::const_node::{ConstNode, danger_const, score_const, seek_const};
+use crate::boost_node::{BoostNode, score_boost};
+use crate::const_node::{ConstNode, score_const};
 use crate::estimates::{Estimate, estimate_tree};
 use crate::exclude_node::{ExcludeNode, danger_exclude, score_exclude, seek_exclude};
 use crate::group_node::{GroupNode, danger_group, score_group, seek_group};
@@ -16,7 +16,7 @@ use crate::intersection_node::{
     IntersectionNode, advance_intersection, danger_intersection, score_intersection,
     seek_intersection,
 };
-use crate::optional_node::{OptionalNode, danger_optional, score_optional, seek_optional};
+use crate::optional_node::{OptionalNode, score_optional};
 use crate::passing::{advance_tree, count_tree, fill_tree, total_tree};
 use qm_combine::{AllScorer, ConstScorer, EmptyScorer, Scorer};
 use qm_docset::{
@@ -138,9 +138,9 @@ fn seek_other<'a, S: Scorer>(scorer: &mut AnyScorer<'a, S>, target: DocId) -> Do
         AnyScorer::BitSet(leaf) => leaf.seek(target),
         AnyScorer::Phrase(leaf) => leaf.seek(target),
         AnyScorer::PhrasePrefix(leaf) => leaf.seek(target),
-        AnyScorer::Boost(node) => seek_boost(node, target),
-        AnyScorer::Const(node) => seek_const(node, target),
-        AnyScorer::RequiredOptional(node) => seek_optional(node, target),
+        AnyScorer::Boost(node) => seek_tree(&mut node.inner, target),
+        AnyScorer::Const(node) => seek_tree(&mut node.inner, target),
+        AnyScorer::RequiredOptional(node) => seek_tree(&mut node.required, target),
         AnyScorer::Exclude(node) => seek_exclude(node, target),
         AnyScorer::Union(node) => seek_group(node, target),
         AnyScorer::Disjunction(node) => seek_group(node, target),
@@ -217,9 +217,9 @@ fn danger_other<'a, S: Scorer>(scorer: &mut AnyScorer<'a, S>, target: DocId) -> 
         AnyScorer::BitSet(leaf) => leaf.seek_danger(target),
         AnyScorer::Phrase(leaf) => leaf.seek_danger(target),
         AnyScorer::PhrasePrefix(leaf) => leaf.seek_danger(target),
-        AnyScorer::Boost(node) => danger_boost(node, target),
-        AnyScorer::Const(node) => danger_const(node, target),
-        AnyScorer::RequiredOptional(node) => danger_optional(node, target),
+        AnyScorer::Boost(node) => danger_tree(&mut node.inner, target),
+        AnyScorer::Const(node) => danger_tree(&mut node.inner, target),
+        AnyScorer::RequiredOptional(node) => danger_tree(&mut node.required, target),
         AnyScorer::Exclude(node) => danger_exclude(node, target),
         AnyScorer::Union(node) => danger_group(node, target),
         AnyScorer::Disjunction(node) => danger_group(node, target),

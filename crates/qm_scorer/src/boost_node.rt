@@ -1,16 +1,15 @@
 //! A node that multiplies scores.
 
 ghost use Rattle.std.specs.Prelude.{◌≡◌, ◌≤◌, ◌<◌, ◌*◌};
-ghost use Rattle.qm_docset.specs.Cursor.{IsSeekAnswer, OnFound};
-ghost use Rattle.qm_docset.specs.Entry.{from, greatest_score, head_document, head_score};
+ghost use Rattle.qm_docset.specs.Entry.{greatest_score, head_score};
 ghost use Rattle.qm_combine.specs.Rescored.{rescored, with_optional};
 ghost use Rattle.qm_scorer.specs.Bare.{IsBounded};
 ghost use Rattle.qm_scorer.specs.Tree.{IsTree, IsTreePlaced, tree_entries, tree_head, tree_top};
 ghost use Rattle.qm_scorer.specs.declared.boost_node.BoostNode.{size-BoostNode};
 
-use crate::any_scorer::{AnyScorer, danger_tree, score_tree, seek_tree};
+use crate::any_scorer::{AnyScorer, score_tree};
 use qm_combine::Scorer;
-use qm_docset::{DocId, SeekDangerResult, TERMINATED};
+use qm_docset::TERMINATED;
 
 /// The documents of a scorer, each with its score times a whole number.
 #[cycle(any)]
@@ -19,45 +18,6 @@ pub struct BoostNode<'a, S> {
     pub(crate) inner: AnyScorer<'a, S>,
     pub(crate) boost: u64,
     pub(crate) top: u64,
-}
-
-// Moves the node to its first document at or past the target.
-#[cycle(moves)]
-#[tactic(auto, using(crate::specs::MoveFacts::moves))]
-pub(crate) fn seek_boost<'a, S: Scorer>(node: &mut BoostNode<'a, S>, target: DocId) -> DocId
-    requires valid { IsTree S.DocSet node.old.inner }
-    requires target { target ≤ TERMINATED }
-    ensures head { result ≡ head_document (tree_entries S.DocSet node.new.inner) }
-    ensures entries { tree_entries S.DocSet node.new.inner ≡ from target (tree_entries S.DocSet node.old.inner) }
-    ensures limit { tree_top S.DocSet node.new.inner ≡ tree_top S.DocSet node.old.inner }
-    ensures valid { IsTree S.DocSet node.new.inner }
-    ensures placed { IsTreePlaced S.DocSet node.new.inner }
-    ensures boost { node.new.boost ≡ node.old.boost }
-    ensures top { node.new.top ≡ node.old.top }
-    ensures depth { size-BoostNode _ node.new ≤ size-BoostNode _ node.old }
-{
-    seek_tree(&mut node.inner, target)
-}
-
-// Drops what lies below the target, and says whether the target is the first that is left.
-#[cycle(moves)]
-#[tactic(auto, using(crate::specs::MoveFacts::moves))]
-pub(crate) fn danger_boost<'a, S: Scorer>(
-    node: &mut BoostNode<'a, S>,
-    target: DocId,
-) -> SeekDangerResult
-    requires valid { IsTree S.DocSet node.old.inner }
-    requires target { target ≤ TERMINATED }
-    ensures answer { IsSeekAnswer target (tree_entries S.DocSet node.new.inner) result }
-    ensures entries { tree_entries S.DocSet node.new.inner ≡ from target (tree_entries S.DocSet node.old.inner) }
-    ensures limit { tree_top S.DocSet node.new.inner ≡ tree_top S.DocSet node.old.inner }
-    ensures valid { IsTree S.DocSet node.new.inner }
-    ensures placed { OnFound result (IsTreePlaced S.DocSet node.new.inner) }
-    ensures boost { node.new.boost ≡ node.old.boost }
-    ensures top { node.new.top ≡ node.old.top }
-    ensures depth { size-BoostNode _ node.new ≤ size-BoostNode _ node.old }
-{
-    danger_tree(&mut node.inner, target)
 }
 
 // The score of the node's document.

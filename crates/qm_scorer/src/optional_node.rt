@@ -1,8 +1,7 @@
 //! A node whose scores an optional scorer adds to.
 
 ghost use Rattle.std.specs.Prelude.{◌≡◌, ◌≤◌, ◌<◌, ◌*◌, [], ◌∷◌, sum};
-ghost use Rattle.qm_docset.specs.Cursor.{IsSeekAnswer, OnFound};
-ghost use Rattle.qm_docset.specs.Entry.{from, greatest_score, head_document, head_score};
+ghost use Rattle.qm_docset.specs.Entry.{from, greatest_score, head_score};
 ghost use Rattle.qm_docset.specs.Gather.{scores_at};
 ghost use Rattle.qm_combine.specs.Rescored.{rescored};
 ghost use Rattle.qm_scorer.specs.Bare.{IsBounded};
@@ -10,9 +9,9 @@ ghost use Rattle.qm_scorer.specs.Tree.{IsTree, IsTreePlaced, joined_entries, tre
 ghost use Rattle.qm_scorer.specs.declared.any_scorer.AnyScorer.{size-AnyScorer};
 ghost use Rattle.qm_scorer.specs.declared.optional_node.OptionalNode.{size-OptionalNode};
 
-use crate::any_scorer::{AnyScorer, danger_tree, doc_tree, reach_tree, score_tree, seek_tree};
+use crate::any_scorer::{AnyScorer, doc_tree, reach_tree, score_tree};
 use qm_combine::Scorer;
-use qm_docset::{DocId, SeekDangerResult, TERMINATED};
+use qm_docset::{DocId, TERMINATED};
 
 /// The documents of a required scorer, each with the sum of its score and of that of an optional scorer,
 /// where that one has the document too.
@@ -22,45 +21,6 @@ pub struct OptionalNode<'a, S> {
     pub(crate) required: AnyScorer<'a, S>,
     pub(crate) optional: AnyScorer<'a, S>,
     pub(crate) top: u64,
-}
-
-// Moves the node to its first document at or past the target.
-#[cycle(moves)]
-#[tactic(auto, using(crate::specs::MoveFacts::moves))]
-pub(crate) fn seek_optional<'a, S: Scorer>(node: &mut OptionalNode<'a, S>, target: DocId) -> DocId
-    requires valid { IsTree S.DocSet node.old.required }
-    requires target { target ≤ TERMINATED }
-    ensures head { result ≡ head_document (tree_entries S.DocSet node.new.required) }
-    ensures entries { tree_entries S.DocSet node.new.required ≡ from target (tree_entries S.DocSet node.old.required) }
-    ensures limit { tree_top S.DocSet node.new.required ≡ tree_top S.DocSet node.old.required }
-    ensures valid { IsTree S.DocSet node.new.required }
-    ensures placed { IsTreePlaced S.DocSet node.new.required }
-    ensures optional { node.new.optional ≡ node.old.optional }
-    ensures top { node.new.top ≡ node.old.top }
-    ensures depth { size-OptionalNode _ node.new ≤ size-OptionalNode _ node.old }
-{
-    seek_tree(&mut node.required, target)
-}
-
-// Drops what lies below the target, and says whether the target is the first that is left.
-#[cycle(moves)]
-#[tactic(auto, using(crate::specs::MoveFacts::moves))]
-pub(crate) fn danger_optional<'a, S: Scorer>(
-    node: &mut OptionalNode<'a, S>,
-    target: DocId,
-) -> SeekDangerResult
-    requires valid { IsTree S.DocSet node.old.required }
-    requires target { target ≤ TERMINATED }
-    ensures answer { IsSeekAnswer target (tree_entries S.DocSet node.new.required) result }
-    ensures entries { tree_entries S.DocSet node.new.required ≡ from target (tree_entries S.DocSet node.old.required) }
-    ensures limit { tree_top S.DocSet node.new.required ≡ tree_top S.DocSet node.old.required }
-    ensures valid { IsTree S.DocSet node.new.required }
-    ensures placed { OnFound result (IsTreePlaced S.DocSet node.new.required) }
-    ensures optional { node.new.optional ≡ node.old.optional }
-    ensures top { node.new.top ≡ node.old.top }
-    ensures depth { size-OptionalNode _ node.new ≤ size-OptionalNode _ node.old }
-{
-    danger_tree(&mut node.required, target)
 }
 
 // Moves a placed tree to the document, unless it is there or past it, and answers its score where it

@@ -1,5 +1,5 @@
 -- What is answered where a query was listed, or was not.
-use Rattle.std.proofs.Common.{◌≡◌, ◌⊎◌, inl, inr, ℕ, ℤ, Bool, true, false, List, [], ◌∷◌, ◌++◌, length, arith, Option, None, Result, Ok, Err, IfOk, IfErr, OnOk, refl, sym, subst, ◌∙◌}
+use Rattle.std.proofs.Common.{◌≡◌, ◌⊎◌, inl, inr, ℕ, ℤ, Bool, true, false, List, [], ◌∷◌, ◌++◌, length, arith, Option, None, Result, Ok, Err, IfOk, IfErr, OnOk, refl, ap, sym, subst, ◌∙◌, ◌+◌, ◌≤◌, length-append}
 use Rattle.std.specs.Borrow.{Bor}
 use Rattle.std.specs.List.{range_with_len}
 use Rattle.qm_postings.specs.Segment.{Segment}
@@ -16,6 +16,7 @@ use Rattle.qm_search.specs.AllSegments.{all_listed}
 use Rattle.qm_search.specs.Answers.{AnswersQuery, IsLineRefusal, IsListingAnswer, IsSegmentsRefusal}
 use Rattle.qm_search.specs.Asked.{Builds, asked}
 use Rattle.qm_search.specs.Fields.{script_fields}
+use Rattle.qm_search.specs.Found.{found_above, found_above_in_parts}
 use Rattle.qm_search.specs.PrefixFree.{has_no_prefix}
 use Rattle.qm_search.specs.Prefixes.{has_prefix}
 use Rattle.qm_search.specs.Script as language
@@ -27,7 +28,8 @@ use Rattle.qm_search.specs.declared.answer.Answer.{Answer}
 use Rattle.qm_search.specs.declared.answer.Answer.TheVariants.{Refused}
 use Rattle.qm_search.proofs.AskedFields.{score-refusal}
 use Rattle.qm_search.proofs.AskedTrees.{asked-free}
-use Rattle.qm_search.proofs.OverParts.{listed-one_part, listed-segments}
+use Rattle.qm_search.proofs.OverParts.{listed-few_parts, listed-one_part, listed-parts, listed-segments}
+use Rattle.qm_search.proofs.PrunedParts.{pruned-segments}
 
 abbrev lent : {X : Type 0} → X → Bor X
 lent x = record { ref_ptr = (0, 0); now = x }
@@ -87,3 +89,27 @@ by-prefix scored false enable s q query segments has built are whole =
 
 pub parts-same : (scored b : Bool) (enable : EnableScoring Searched) (s : Script) (q : language.Query) (query : Query) (segments : List Segment) → b ≡ has_prefix q → asked q ≡ Ok query → AreSegments s segments → (b ≡ true → AreOnePart s segments) → all_listed scored (tree_of enable query) segments ≡ all_listed scored (tree_of enable query) (all_segments s)
 parts-same scored b enable s q query segments has built are whole = by-prefix scored b enable s q query segments (sym has) built are whole
+
+-- ---- a pruned run
+
+-- the first segments are the ended ones
+ended-length : (s : Script) (ended : ℕ) → length (all_segments s) ≡ ended + 1 → ended ≡ length s.ended
+ended-length s ended number = let whole = length-append s.ended (s.current ∷ []) in omega (arith, number)
+
+pub ended-within : (s : Script) (segments : List Segment) (ended : ℕ) → AreSegments s segments → length (all_segments s) ≡ ended + 1 → ended ≤ length segments
+ended-within s segments ended are number =
+    let count = ended-length s ended number in
+    let cut : length segments ≡ length s.ended + length are.parts = ap length are.all ∙ length-append s.ended are.parts in
+    omega arith
+
+above-by-prefix : (threshold : ℤ) (b : Bool) (enable : EnableScoring Searched) (s : Script) (q : language.Query) (query : Query) (ended : ℕ) (segments : List Segment) → has_prefix q ≡ b → asked q ≡ Ok query → ended ≡ length s.ended → AreSegments s segments → (b ≡ true → AreOnePart s segments) → found_above_in_parts threshold enable query ended segments ≡ found_above threshold enable query (all_segments s)
+above-by-prefix threshold true enable s q query ended segments has built number are whole =
+    let one = whole refl in
+    pruned-segments (tree_of enable query) threshold s segments one.segments (listed-few_parts (tree_of enable query) true s.current one.segments.parts one.one one.segments.parts_of_current) ended number
+above-by-prefix threshold false enable s q query ended segments has built number are whole =
+    let free : has_no_prefix (tree_of enable query) ≡ true = subst (λ r. IfOk r (λ p. has_no_prefix (tree_of enable p) ≡ true)) built (asked-free enable q has) in
+    pruned-segments (tree_of enable query) threshold s segments are (listed-parts (tree_of enable query) true s.current are.parts free are.parts_of_current) ended number
+
+pub above-same : (threshold : ℤ) (b : Bool) (enable : EnableScoring Searched) (s : Script) (q : language.Query) (query : Query) (ended : ℕ) (segments : List Segment) → b ≡ has_prefix q → asked q ≡ Ok query → length (all_segments s) ≡ ended + 1 → AreSegments s segments → (b ≡ true → AreOnePart s segments) → found_above_in_parts threshold enable query ended segments ≡ found_above threshold enable query (all_segments s)
+above-same threshold b enable s q query ended segments has built number are whole =
+    above-by-prefix threshold b enable s q query ended segments (sym has) built (ended-length s ended number) are whole

@@ -49,6 +49,12 @@ listing-more make items first found i d within =
     ∙ ap (numbered first) (map-append make (take i found) (get_or found i d ∷ []))
     ∙ map-append (λ (item : Item). (first + item.0, item.1)) (map make (take i found)) (make (get_or found i d) ∷ [])))
 
+-- the documents of a run that are written behind those before them
+pub listing-append : {X : Type 0} (make : X → Item) (items : List Item) (first : ℕ) (done more : List X) → (items ++ numbered first (map make done)) ++ numbered first (map make more) ≡ items ++ numbered first (map make (done ++ more))
+listing-append make items first done more =
+    append_assoc items (numbered first (map make done)) (numbered first (map make more))
+    ∙ ap (λ l. items ++ l) (sym (ap (numbered first) (map-append make done more) ∙ map-append (λ (item : Item). (first + item.0, item.1)) (map make done) (map make more)))
+
 -- a test whether a length is 0
 pub none-by_test : (n : ℕ) (empty : Bool) → empty ≡ (n == 0) → empty ≡ true → n ≡ 0
 none-by_test n empty is holds = eqb-true n 0 (sym is ∙ holds)

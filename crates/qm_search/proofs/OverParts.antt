@@ -5,11 +5,11 @@ use Rattle.std.proofs.Math.Seq.{drop-cons}
 use Rattle.qm_postings.specs.Segment.{Segment}
 use Rattle.qm_postings.specs.declared.segment_reader.SegmentReader.{SegmentReader}
 use Rattle.qm_search.specs.AllSegments.{all_listed, listed, listed_from, wanted_score}
-use Rattle.qm_search.specs.Parts.{document_count}
+use Rattle.qm_search.specs.Parts.{AreParts, document_count}
 use Rattle.qm_search.specs.PrefixFree.{has_no_prefix}
 use Rattle.qm_search.specs.ScriptSegments.{AreOnePart, AreSegments, Script, all_segments}
 use Rattle.qm_weight.specs.Tree.{Tree}
-use Rattle.qm_search.proofs.PartListings.{IsByDocument, IsByDocuments, items-few_segments, items-segments, items_from}
+use Rattle.qm_search.proofs.PartListings.{IsByDocument, IsByDocuments, items-few_parts, items-few_segments, items-parts, items-segments, items_from}
 use Rattle.qm_search.proofs.TreeParts.{score-documents, score-same}
 
 module _ (tree : Tree) where
@@ -28,6 +28,16 @@ module _ (tree : Tree) where
   by-documents : (scored : Bool) → IsByDocuments (numbered_item scored)
   by-documents false n s t d schema documents = refl
   by-documents true n s t d schema documents = ap (λ k. (n, Some (pos k))) (score-documents s t schema documents tree 1 d)
+
+  -- the parts of a segment, for a tree without prefixes
+  pub listed-parts : (scored : Bool) (whole : Segment) (parts : List Segment) → has_no_prefix tree ≡ true → AreParts whole parts → (first : ℕ) → listed_from scored tree first parts ≡ listed scored tree first whole
+  listed-parts scored whole parts free are first =
+      listed-items scored first parts ∙ items-parts tree (numbered_item scored) free (by-document scored free) whole first parts are
+
+  -- for any tree, where there is one part at most
+  pub listed-few_parts : (scored : Bool) (whole : Segment) (parts : List Segment) → length parts < 2 → AreParts whole parts → (first : ℕ) → listed_from scored tree first parts ≡ listed scored tree first whole
+  listed-few_parts scored whole parts few are first =
+      listed-items scored first parts ∙ items-few_parts tree (numbered_item scored) (by-documents scored) first whole parts few are
 
   -- a tree without prefixes
   pub listed-segments : (scored : Bool) (script : Script) (segments : List Segment) → has_no_prefix tree ≡ true → AreSegments script segments → all_listed scored tree segments ≡ all_listed scored tree (all_segments script)
@@ -49,10 +59,13 @@ module _ (scored : Bool) (tree : Tree) (readers : List SegmentReader) (i : ℕ) 
   pub row-next : drop i readers ≡ item ∷ drop (i + 1) readers
   row-next = drop-cons readers i item within ∙ ap (λ r. r ∷ drop (suc i) readers) (sym is) ∙ ap (λ k. item ∷ drop k readers) (sym (add-one i))
 
-  pub count-next : (first n : ℕ) → n ≡ length item.segment.documents → first + document_count (map (λ r. r.segment) (drop i readers)) ≡ document_count (map (λ r. r.segment) readers) → first + n + document_count (map (λ r. r.segment) (drop (i + 1) readers)) ≡ document_count (map (λ r. r.segment) readers)
-  count-next first n number room =
+  pub count-on : (first n all : ℕ) → n ≡ length item.segment.documents → first + document_count (map (λ r. r.segment) (drop i readers)) ≡ all → first + n + document_count (map (λ r. r.segment) (drop (i + 1) readers)) ≡ all
+  count-on first n all number room =
       let here = ap (λ rs. document_count (map (λ r. r.segment) rs)) row-next ∙ length-append item.segment.documents (flat_map (λ (s : Segment). s.documents) (map (λ r. r.segment) (drop (i + 1) readers))) in
       omega arith
+
+  pub count-next : (first n : ℕ) → n ≡ length item.segment.documents → first + document_count (map (λ r. r.segment) (drop i readers)) ≡ document_count (map (λ r. r.segment) readers) → first + n + document_count (map (λ r. r.segment) (drop (i + 1) readers)) ≡ document_count (map (λ r. r.segment) readers)
+  count-next first n number room = count-on first n (document_count (map (λ r. r.segment) readers)) number room
 
   pub listed-next : (items all : List (ℕ × Option ℤ)) (first n : ℕ) → n ≡ length item.segment.documents → items ++ listed_from scored tree first (map (λ r. r.segment) (drop i readers)) ≡ all → (items ++ listed scored tree first item.segment) ++ listed_from scored tree (first + n) (map (λ r. r.segment) (drop (i + 1) readers)) ≡ all
   listed-next items all first n number so_far =

@@ -122,11 +122,13 @@ pub count-next_taken : (readers : List SegmentReader) (i : ℕ) (item : SegmentR
 count-next_taken readers i item within is =
     ap (λ rs. document_count (segments_of rs)) (take_more readers i item within ∙ ap (λ r. take i readers ++ r ∷ []) (sym is)) ∙ count-push (take i readers) item
 
+-- up to one reader, and from it on
+pub count-split : (readers : List SegmentReader) (i : ℕ) → document_count (segments_of readers) ≡ document_count (segments_of (take i readers)) + document_count (segments_of (drop i readers))
+count-split readers i =
+    ap (λ rs. document_count (segments_of rs)) (sym (take-append-drop i readers)) ∙ ap document_count (map-append (λ r. r.segment) (take i readers) (drop i readers)) ∙ count-append (segments_of (take i readers)) (segments_of (drop i readers))
+
 pub count-taken : (readers : List SegmentReader) (i : ℕ) → document_count (segments_of (take i readers)) ≤ document_count (segments_of readers)
-count-taken readers i =
-    let cut : document_count (segments_of readers) ≡ document_count (segments_of (take i readers)) + document_count (segments_of (drop i readers)) =
-    ap (λ rs. document_count (segments_of rs)) (sym (take-append-drop i readers)) ∙ ap document_count (map-append (λ r. r.segment) (take i readers) (drop i readers)) ∙ count-append (segments_of (take i readers)) (segments_of (drop i readers)) in
-    omega (arith, cut)
+count-taken readers i = let cut = count-split readers i in omega (arith, cut)
 
 -- of the segments that were ended, and of the open one
 pub count-script : (ended : List Segment) (current : Segment) → document_count (ended ++ current ∷ []) ≡ document_count ended + length current.documents
@@ -134,8 +136,7 @@ count-script ended current = count-append ended (current ∷ []) ∙ ap (λ ds. 
 
 pub few-segments : (readers : List SegmentReader) (ended : ℕ) (whole : Segment) → ended ≤ length readers → document_count (segments_of (take ended readers)) ≤ ended * TERMINATED → AreParts whole (segments_of (drop ended readers)) → length whole.documents ≤ TERMINATED → document_count (segments_of readers) ≤ length (segments_of (take ended readers) ++ whole ∷ []) * TERMINATED
 few-segments readers ended whole within counted are small =
-    let cut : document_count (segments_of readers) ≡ document_count (segments_of (take ended readers)) + document_count (segments_of (drop ended readers)) =
-    ap (λ rs. document_count (segments_of rs)) (sym (take-append-drop ended readers)) ∙ ap document_count (map-append (λ r. r.segment) (take ended readers) (drop ended readers)) ∙ count-append (segments_of (take ended readers)) (segments_of (drop ended readers)) in
+    let cut = count-split readers ended in
     let of_current : document_count (segments_of (drop ended readers)) ≡ length whole.documents = ap length are.documents in
     let count : length (segments_of (take ended readers) ++ whole ∷ []) ≡ ended + 1 = length-append (segments_of (take ended readers)) (whole ∷ []) ∙ ap (λ n. n + 1) (length-map (take ended readers) (λ r. r.segment) ∙ length-take-le ended readers within) in
     let bound : document_count (segments_of readers) ≤ (ended + 1) * TERMINATED = omega arith in

@@ -1,23 +1,23 @@
 -- A pruned run whose calls answer their scores, and several of them over the segments of a script, of which
--- the open one is in one part at most.
-use Rattle.std.proofs.Common.{◌≡◌, ℕ, ℤ, ◌+◌, ◌<◌, ◌<ℤ◌, ◌≤ℤ◌, Bool, true, false, if◌then◌else◌, int_lt, List, [], ◌∷◌, ◌++◌, Option, None, Some, length, map, filter, drop, get_or, pos, refl, ap, sym, ◌∙◌, arith, append-nil, append_assoc}
-use Rattle.std.specs.List.{range_with_len}
+-- the open one may be in parts.
+use Rattle.std.proofs.Common.{◌≡◌, ℕ, ℤ, ◌+◌, ◌-◌, ◌<ℤ◌, ◌≤ℤ◌, Bool, true, false, if◌then◌else◌, int_lt, List, [], ◌∷◌, ◌++◌, Option, None, Some, length, map, take, drop, get_or, pos, refl, ap, sym, ◌∙◌, arith, append-nil, append_assoc, length-append, add-zero, zero-add, zero, suc, unwrap_or, ◌<◌}
+use Rattle.std.specs.List.{flat_map, slice_get}
+use Rattle.std.proofs.Math.Seq.{drop-append_seam, take-append_seam, take-length}
 use Rattle.std.proofs.lemmas.Int.{ints}
-use Rattle.std.proofs.lemmas.List.{map-append}
+use Rattle.std.proofs.lemmas.List.{length-drop, map-append}
+use Rattle.std.proofs.lemmas.Option.{none-some, slice_get-get_or, slice_get_within}
 use Rattle.qm_docset.specs.Gather.{scored}
 use Rattle.qm_postings.specs.Segment.{Segment}
 use Rattle.qm_postings.specs.declared.segment_reader.SegmentReader.{SegmentReader}
-use Rattle.qm_search.specs.AllSegments.{listed}
-use Rattle.qm_search.specs.Parts.{AreParts}
-use Rattle.qm_search.specs.Pruned.{all_pruned, entry_item, pruned_from, rising}
-use Rattle.qm_search.specs.ScriptSegments.{AreOnePart, Script, all_segments}
+use Rattle.qm_search.specs.AllSegments.{listed, listed_from}
+use Rattle.qm_search.specs.Parts.{document_count}
+use Rattle.qm_search.specs.Pruned.{all_pruned, entry_item, parts_pruned, pruned_from, rising, threshold_after}
+use Rattle.qm_search.specs.ScriptSegments.{AreSegments, Script, all_segments}
 use Rattle.qm_search.specs.Text.{numbered}
-use Rattle.qm_weight.specs.Tree.{Tree, list, matches, matching, score}
+use Rattle.qm_weight.specs.Tree.{Tree, list, matching, score}
 use Rattle.qm_search.proofs.ListedSegments.{pair_item}
 use Rattle.qm_search.proofs.OverParts.{row-next}
-use Rattle.qm_search.proofs.PartListings.{items-documents}
 use Rattle.qm_search.proofs.Ranges.{map-map}
-use Rattle.qm_search.proofs.TreeParts.{score-documents}
 
 -- ---- one turn of a run
 
@@ -57,6 +57,11 @@ entries-listed tree first s =
     ap (numbered first) (map-map entry_item (λ d. scored d (score tree 1 s d)) (matching tree s))
     ∙ map-map (λ (i : ℕ × Option ℤ). (first + i.0, i.1)) (λ d. let i : ℕ × Option ℤ = (d, Some (pos (score tree 1 s d))) in i) (matching tree s)
 
+-- what a run called for in a segment, numbered over all of them
+pub run-listed : (threshold : ℤ) (tree : Tree) (first : ℕ) (s : Segment) (found : List (ℕ × ℤ)) → map pair_item found ≡ rising threshold (map entry_item (list tree 1 s)) → numbered first (map pair_item found) ≡ rising threshold (listed true tree first s)
+run-listed threshold tree first s found is =
+    ap (numbered first) is ∙ numbered-rising first threshold (map entry_item (list tree 1 s)) ∙ ap (rising threshold) (entries-listed tree first s)
+
 -- ---- a loop over segments: one more
 
 module _ (threshold : ℤ) (tree : Tree) (readers : List SegmentReader) (i : ℕ) (item : SegmentReader) (within : i < length readers) (is : item ≡ get_or readers i item) where
@@ -68,28 +73,95 @@ module _ (threshold : ℤ) (tree : Tree) (readers : List SegmentReader) (i : ℕ
       ∙ ap (λ rs. items ++ pruned_from threshold tree first (map (λ r. r.segment) rs)) (sym (row-next true tree readers i item within is))
       ∙ so_far
 
+  pub part-next : (found all : List (ℕ × Option ℤ)) (first n : ℕ) → n ≡ length item.segment.documents → found ++ parts_pruned threshold tree first (map (λ r. r.segment) (drop i readers)) ≡ all → (found ++ rising threshold (listed true tree first item.segment)) ++ parts_pruned (threshold_after threshold (rising threshold (listed true tree first item.segment))) tree (first + n) (map (λ r. r.segment) (drop (i + 1) readers)) ≡ all
+  part-next found all first n number so_far =
+      let here = rising threshold (listed true tree first item.segment) in
+      let left = threshold_after threshold here in
+      append_assoc found here (parts_pruned left tree (first + n) (map (λ r. r.segment) (drop (i + 1) readers)))
+      ∙ ap (λ k. found ++ (here ++ parts_pruned left tree (first + k) (map (λ r. r.segment) (drop (i + 1) readers)))) number
+      ∙ ap (λ rs. found ++ parts_pruned threshold tree first (map (λ r. r.segment) rs)) (sym (row-next true tree readers i item within is))
+      ∙ so_far
+
+-- ---- the threshold behind a run
+
+after-numbered : (first : ℕ) (threshold : ℤ) (items : List (ℕ × Option ℤ)) → threshold_after threshold (numbered first items) ≡ threshold_after threshold items
+after-numbered first threshold [] = refl
+after-numbered first threshold ((n, None) ∷ items) = after-numbered first threshold items
+after-numbered first threshold ((n, Some score) ∷ items) = after-numbered first score items
+
+after-last : (threshold score : ℤ) (d : ℕ) (found : List (ℕ × ℤ)) (k : ℕ) → length found ≡ k + 1 → slice_get found k ≡ Some (d, score) → threshold_after threshold (map pair_item found) ≡ score
+after-last threshold score d [] k number is = absurd (omega (arith, number))
+after-last threshold score d (p ∷ []) zero number is = ap (λ o. (unwrap_or o p).1) is
+after-last threshold score d (p ∷ []) (suc k) number is = absurd (omega (arith, number))
+after-last threshold score d (p ∷ q ∷ found) zero number is = absurd (omega (arith, number))
+after-last threshold score d (p ∷ q ∷ found) (suc k) number is = after-last p.1 score d (q ∷ found) k (omega (arith, number)) is
+
+none-found : (found : List (ℕ × ℤ)) → slice_get found (length found - 1) ≡ None → found ≡ []
+none-found [] is = refl
+none-found (p ∷ found) is =
+    let within : length (p ∷ found) - 1 < length (p ∷ found) = omega arith in
+    absurd (none-some _ (sym is ∙ slice_get-get_or (p ∷ found) (length (p ∷ found) - 1) p within))
+
+module _ (first : ℕ) (threshold : ℤ) (found : List (ℕ × ℤ)) (all : List (ℕ × Option ℤ)) (is : numbered first (map pair_item found) ≡ all) where
+  -- the score of the last one that was called for
+  pub threshold-last : (d : ℕ) (score : ℤ) → slice_get found (length found - 1) ≡ Some (d, score) → score ≡ threshold_after threshold all
+  threshold-last d score last =
+      let within = slice_get_within found (length found - 1) (d, score) last in
+      sym (after-last threshold score d found (length found - 1) (omega (arith, within)) last)
+      ∙ sym (after-numbered first threshold (map pair_item found)) ∙ ap (threshold_after threshold) is
+
+  -- none was called for
+  pub threshold-kept : slice_get found (length found - 1) ≡ None → threshold ≡ threshold_after threshold all
+  threshold-kept none = ap (λ ps. threshold_after threshold (numbered first (map pair_item ps))) (sym (none-found found none)) ∙ ap (threshold_after threshold) is
+
 -- ---- the open segment in parts
 
-module _ (threshold : ℤ) (tree : Tree) where
-  -- a segment and one of its schema with its documents list the same
-  listed-documents : (first : ℕ) (s t : Segment) → s.schema ≡ t.schema → s.documents ≡ t.documents → listed true tree first s ≡ listed true tree first t
-  listed-documents first s t schema documents =
-      items-documents tree (λ n s d. let i : ℕ × Option ℤ = (n, Some (pos (score tree 1 s d))) in i)
-      (λ n s t d schema documents. ap (λ k. (n, Some (pos k))) (score-documents s t schema documents tree 1 d)) first s t schema documents
+-- a run goes on behind some items at the threshold that they leave
+abbrev GoesOn : List (ℕ × Option ℤ) → ℤ → List (ℕ × Option ℤ) → Type 0
+GoesOn more threshold items = rising threshold (items ++ more) ≡ rising threshold items ++ rising (threshold_after threshold (rising threshold items)) more
 
-  pruned-few_parts : (first : ℕ) (whole : Segment) (parts : List Segment) → length parts < 2 → AreParts whole parts → pruned_from threshold tree first parts ≡ rising threshold (listed true tree first whole)
-  pruned-few_parts first whole [] few are =
-      ap (λ ds. rising threshold (map (λ d. let i : ℕ × Option ℤ = (first + d, Some (pos (score tree 1 whole d))) in i) (filter (matches tree whole) (range_with_len 0 (length ds))))) are.documents
-  pruned-few_parts first whole (p ∷ []) few are =
-      let schema : p.schema ≡ whole.schema = cc in
-      append-nil (rising threshold (listed true tree first p)) ∙ ap (rising threshold) (listed-documents first p whole schema (sym (append-nil p.documents) ∙ are.documents))
-  pruned-few_parts first whole (p ∷ q ∷ parts) few are = let none : ⊥ = omega (few, arith) in absurd none
+rising-turn : (more items : List (ℕ × Option ℤ)) (threshold score : ℤ) (n : ℕ) (b : Bool) → GoesOn more score items → GoesOn more threshold items → (if b then (n, Some score) ∷ rising score (items ++ more) else rising threshold (items ++ more)) ≡ (if b then (n, Some score) ∷ rising score items else rising threshold items) ++ rising (threshold_after threshold (if b then (n, Some score) ∷ rising score items else rising threshold items)) more
+rising-turn more items threshold score n true called passed = ap (λ l. (n, Some score) ∷ l) called
+rising-turn more items threshold score n false called passed = passed
 
-  pruned-behind : (first : ℕ) (ended parts : List Segment) (current : Segment) → length parts < 2 → AreParts current parts → pruned_from threshold tree first (ended ++ parts) ≡ pruned_from threshold tree first (ended ++ current ∷ [])
-  pruned-behind first [] parts current few are = pruned-few_parts first current parts few are ∙ sym (append-nil (rising threshold (listed true tree first current)))
-  pruned-behind first (s ∷ ended) parts current few are =
-      ap (λ l. rising threshold (listed true tree first s) ++ l) (pruned-behind (first + length s.documents) ended parts current few are)
+rising-append : (more : List (ℕ × Option ℤ)) (threshold : ℤ) (items : List (ℕ × Option ℤ)) → GoesOn more threshold items
+rising-append more threshold [] = refl
+rising-append more threshold ((n, None) ∷ items) = rising-append more threshold items
+rising-append more threshold ((n, Some score) ∷ items) =
+    rising-turn more items threshold score n (int_lt threshold score) (rising-append more score items) (rising-append more threshold items)
 
-  pub pruned-one_part : (script : Script) (segments : List Segment) → AreOnePart script segments → all_pruned threshold tree segments ≡ all_pruned threshold tree (all_segments script)
-  pruned-one_part script segments are =
-      ap (all_pruned threshold tree) are.segments.all ∙ pruned-behind 0 script.ended are.segments.parts script.current are.one are.segments.parts_of_current
+module _ (tree : Tree) where
+  parts-rising : (threshold : ℤ) (first : ℕ) (parts : List Segment) → parts_pruned threshold tree first parts ≡ rising threshold (listed_from true tree first parts)
+  parts-rising threshold first [] = refl
+  parts-rising threshold first (p ∷ parts) =
+      let here = listed true tree first p in
+      let more = listed_from true tree (first + length p.documents) parts in
+      ap (λ l. rising threshold here ++ l) (parts-rising (threshold_after threshold (rising threshold here)) (first + length p.documents) parts)
+      ∙ sym (rising-append more threshold here)
+
+  module _ (threshold : ℤ) where
+    pruned-behind : (first : ℕ) (ended : List Segment) (current : Segment) → pruned_from threshold tree first (ended ++ current ∷ []) ≡ pruned_from threshold tree first ended ++ rising threshold (listed true tree (first + document_count ended) current)
+    pruned-behind first [] current = append-nil (rising threshold (listed true tree first current)) ∙ ap (λ n. rising threshold (listed true tree n current)) (sym (add-zero first))
+    pruned-behind first (s ∷ ended) current =
+        let here = rising threshold (listed true tree first s) in
+        let count : document_count (s ∷ ended) ≡ length s.documents + document_count ended = length-append s.documents (flat_map (λ (t : Segment). t.documents) ended) in
+        let number : first + length s.documents + document_count ended ≡ first + document_count (s ∷ ended) = omega arith in
+        ap (λ l. here ++ l) (pruned-behind (first + length s.documents) ended current)
+        ∙ sym (append_assoc here (pruned_from threshold tree (first + length s.documents) ended) (rising threshold (listed true tree (first + length s.documents + document_count ended) current)))
+        ∙ ap (λ n. (here ++ pruned_from threshold tree (first + length s.documents) ended) ++ rising threshold (listed true tree n current)) number
+
+    -- the parts list what the open segment does
+    module _ (script : Script) (segments : List Segment) (are : AreSegments script segments) (same : (first : ℕ) → listed_from true tree first are.parts ≡ listed true tree first script.current) where
+      pub pruned-segments : (ended : ℕ) → ended ≡ length script.ended → all_pruned threshold tree (take ended segments) ++ parts_pruned threshold tree (document_count (take ended segments)) (drop ended segments) ≡ all_pruned threshold tree (all_segments script)
+      pruned-segments ended number =
+          let cut : take ended segments ≡ script.ended = (λ i. take (number i) (are.all i)) ∙ take-append_seam script.ended are.parts in
+          let rest : drop ended segments ≡ are.parts = (λ i. drop (number i) (are.all i)) ∙ drop-append_seam script.ended are.parts in
+          let count = document_count script.ended in
+          (λ i. all_pruned threshold tree (cut i) ++ parts_pruned threshold tree (document_count (cut i)) (rest i))
+          ∙ ap (λ l. all_pruned threshold tree script.ended ++ l) (parts-rising threshold count are.parts ∙ ap (rising threshold) (same count))
+          ∙ ap (λ n. pruned_from threshold tree 0 script.ended ++ rising threshold (listed true tree n script.current)) (sym (zero-add count))
+          ∙ sym (pruned-behind 0 script.ended script.current)
+
+-- the parts as a slice of all readers
+pub rest-taken : {X : Type 0} (n : ℕ) (xs : List X) → take (length xs - n) (drop n xs) ≡ drop n xs
+rest-taken n xs = ap (λ k. take k (drop n xs)) (sym (length-drop n xs)) ∙ take-length (drop n xs)

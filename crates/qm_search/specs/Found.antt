@@ -1,5 +1,5 @@
 -- What a query finds in several segments, by what it is asked under.
-use Rattle.std.specs.Prelude.{◌≡◌, ℕ, ℤ, List, ◌++◌, Option, String, false, map, string_bytes}
+use Rattle.std.specs.Prelude.{◌≡◌, ℕ, ℤ, List, ◌++◌, Option, String, drop, false, map, string_bytes, take}
 use Rattle.std.specs.Fmt.{decimal}
 use Rattle.std.specs.Global.{Global}
 use Rattle.qm_postings.specs.Segment.{Segment}
@@ -10,7 +10,8 @@ use Rattle.qm_query.specs.Query.{Query}
 use Rattle.qm_query.specs.declared.enable_scoring.EnableScoring.{EnableScoring}
 use Rattle.qm_search.specs.AllSegments.{all_listed}
 use Rattle.qm_search.specs.Counts.{alive_count}
-use Rattle.qm_search.specs.Pruned.{all_pruned}
+use Rattle.qm_search.specs.Parts.{document_count}
+use Rattle.qm_search.specs.Pruned.{all_pruned, parts_pruned}
 use Rattle.qm_search.specs.Under.{tree_of}
 
 -- the segments of readers
@@ -24,6 +25,12 @@ found_matches enable query segments = all_listed (is_enabled enable) (tree_of en
 -- each for which a pruned run calls, with its score, where each segment begins at this threshold
 abbrev pub found_above : ℤ → EnableScoring Searched → Query → List Segment → List (ℕ × Option ℤ)
 found_above threshold enable query segments = all_pruned threshold (tree_of enable query) segments
+
+-- the same, where the segments behind the first ones are the parts of one
+abbrev pub found_above_in_parts : ℤ → EnableScoring Searched → Query → ℕ → List Segment → List (ℕ × Option ℤ)
+found_above_in_parts threshold enable query ended segments =
+    let tree = tree_of enable query in
+    found_above threshold enable query (take ended segments) ++ parts_pruned threshold tree (document_count (take ended segments)) (drop ended segments)
 
 -- how many match that weren't deleted
 abbrev pub found_alive : List ℕ → EnableScoring Searched → Query → List Segment → ℕ

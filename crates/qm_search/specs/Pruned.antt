@@ -24,3 +24,17 @@ pruned_from threshold tree first (s ∷ ss) = rising threshold (listed true tree
 
 abbrev pub all_pruned : ℤ → Tree → List Segment → List (ℕ × Option ℤ)
 all_pruned threshold tree segments = pruned_from threshold tree 0 segments
+
+-- the threshold behind what was listed from a threshold on: the score of the last of it
+abbrev pub threshold_after : ℤ → List (ℕ × Option ℤ) → ℤ
+threshold_after threshold [] = threshold
+threshold_after threshold ((n, None) ∷ items) = threshold_after threshold items
+threshold_after threshold ((n, Some score) ∷ items) = threshold_after score items
+
+-- what is listed of a segment that is kept in parts, from the number of its first document on: each part goes on
+-- at the threshold that the one before it left
+abbrev pub parts_pruned : ℤ → Tree → ℕ → List Segment → List (ℕ × Option ℤ)
+parts_pruned threshold tree first [] = []
+parts_pruned threshold tree first (p ∷ ps) =
+    let found = rising threshold (listed true tree first p) in
+    found ++ parts_pruned (threshold_after threshold found) tree (first + length p.documents) ps

@@ -29,3 +29,7 @@ pub record IsListing (items : List (ℕ × Option ℤ)) (text : List ℕ) : Type
 abbrev pub AddsToListing : {T E : Type 0} → Result T E → List (ℕ × Option ℤ) → List ℕ → List ℕ → Type 0
 AddsToListing result more before after =
     (items : List (ℕ × Option ℤ)) → IsListing items before → OnOk result (IsListing (items ++ more) after)
+
+-- what the text listed before has these behind it
+abbrev pub ListsMore : List (ℕ × Option ℤ) → List ℕ → List ℕ → Type 0
+ListsMore more before after = (items : List (ℕ × Option ℤ)) → IsListing items before → IsListing (items ++ more) after

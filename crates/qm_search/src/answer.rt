@@ -200,8 +200,7 @@ fn list_scores(
     }
 }
 
-// Answers a line that lists those of them for which a pruned run calls. The open segment is built as one
-// part, so that one run goes through all of it.
+// Answers a line that lists those of them for which a pruned run calls.
 #[tactic(auto, using(crate::proofs::States::is_state))]
 fn list_above(
     alloc: Global,
@@ -215,12 +214,13 @@ fn list_above(
     ensures unchanged { OnOk result (state corpus.new ≡ state corpus.old) }
 {
     match build_query(alloc, spelled) {
-        Ok(query) => match corpus.build_scored_segments(alloc, true) {
+        Ok(query) => match corpus.build_scored_segments(alloc, has_prefix(spelled)) {
             Ok(()) => {
                 let enable = EnableScoring::enabled_from_searcher(corpus.searcher());
                 let written = write_pruned(
                     alloc,
                     corpus.segments(),
+                    corpus.ended(),
                     enable,
                     &query,
                     threshold,

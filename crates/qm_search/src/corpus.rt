@@ -1,6 +1,6 @@
 //! The documents of a script, and the weights of its words.
 
-ghost use Rattle.std.specs.Prelude.{◌≡◌, Some, true, ◌≤◌, ◌*◌, ◌⊎◌, IfErr, IfOk, IsErr, IsOkUnless, IsSome, OnErr, OnOk, length, map, nat_abs, string_bytes};
+ghost use Rattle.std.specs.Prelude.{◌≡◌, ◌+◌, Some, true, ◌≤◌, ◌*◌, ◌⊎◌, IfErr, IfOk, IsErr, IsOkUnless, IsSome, OnErr, OnOk, length, map, nat_abs, string_bytes};
 ghost use Rattle.std.specs.List.Sorted.{IsNonDecreasing};
 ghost use Rattle.std.specs.Option.{ForSome};
 ghost use Rattle.qm_docset.specs.declared.numbers.TheConstants.{TERMINATED};
@@ -162,6 +162,13 @@ impl Corpus {
         ensures few { document_count (map (λ r. r.segment) result.now) ≤ MAX_SEGMENTS * TERMINATED }
     {
         self.documents.segments()
+    }
+
+    /// How many segments were ended: the segments behind these are the parts of the open one.
+    pub(crate) fn ended(&self) -> usize
+        ensures { length (all_segments (script self.now.documents)) ≡ result + 1 }
+    {
+        self.documents.ended()
     }
 
     /// The numbers of the deleted documents over all segments.

@@ -1,30 +1,28 @@
 //! The documents that a query matches in all segments, written one after another.
 
-ghost use Rattle.std.specs.Prelude.{◌≡◌, ◌≤◌, ◌*◌, ◌∷◌, [], None, Some, IfErr, IsTrue, OnOk, length, map, string_bytes, true};
+ghost use Rattle.std.specs.Prelude.{◌≡◌, ◌≤◌, ◌*◌, ◌+◌, ◌∷◌, [], None, Some, IfErr, IsOkUnless, IsTrue, OnOk, false, length, map, string_bytes, true};
 ghost use Rattle.qm_docset.specs.declared.numbers.TheConstants.{TERMINATED};
 ghost use Rattle.qm_query.specs.Query.{query_of};
 ghost use Rattle.qm_search.specs.AllSegments.{all_listed, listed};
 ghost use Rattle.qm_search.specs.Found.{found_matches, segments_of};
 ghost use Rattle.qm_search.specs.Parts.{document_count};
-ghost use Rattle.qm_search.specs.Text.{AddsToListing, IsListing, numbered};
+ghost use Rattle.qm_search.specs.Text.{AddsToListing, IsListing, ListsMore, numbered};
 ghost use Rattle.qm_search.specs.Under.{IsListingRefusal};
 ghost use Rattle.qm_search.specs.declared.corpus.TheConstants.{MAX_SEGMENTS};
 ghost use Rattle.qm_weight.specs.Scorers.{IsRefusalOf};
 ghost use Rattle.qm_weight.specs.Tree.{is_scoring};
 ghost use Rattle.qm_weight.specs.Weights.{tree_of};
 
-use qm_combine::{EmptyScorer, scores_left};
-use qm_docset::{DocId, Score, documents_left};
+use qm_docset::{DocId, Score};
 use qm_postings::{Searcher, SegmentReader};
 use qm_query::{AnyQuery, EnableScoring, Query};
 use qm_schema::QueryError;
-use qm_scorer::AnyScorer;
 use qm_weight::{AnyWeight, Weight};
 use std::alloc::{AllocError, Global};
 
 /// Writes the documents that the query matches at the end of the text, joined by one space, and
 /// numbered over all segments; each with its score where scoring is on. The query's weight is built
-/// once, and a scorer of it for each segment.
+/// once, and run over each segment; no list of documents is made.
 ///
 /// Refused as the weight and the scorers are. What a refused call has written is of no use.
 pub(crate) fn write_matches(
@@ -80,15 +78,115 @@ fn write_segment(
     ensures listed { AddsToListing result (listed is_scored (tree_of weight.now) first segment.now.segment) (string_bytes text.old) (string_bytes text.new) }
     ensures refused { IfErr result (IsRefusalOf (tree_of weight.now) 1) }
 {
-    let scorer: AnyScorer<EmptyScorer> = weight.scorer(alloc, segment, 1)?;
     if is_scored {
-        let found = scores_left(alloc, scorer)?;
-        write_scores(text, first, found.as_slice())?;
-        Ok(())
+        write_scored(alloc, segment, weight, first, text)
     } else {
-        let found = documents_left(alloc, scorer)?;
-        write_documents(text, first, found.as_slice())?;
+        write_unscored(alloc, segment, weight, first, text)
+    }
+}
+
+// Writes the documents of a segment with their scores.
+fn write_scored(
+    alloc: Global,
+    segment: &SegmentReader,
+    weight: &AnyWeight,
+    first: u64,
+    text: &mut String,
+) -> Result<(), QueryError>
+    requires few { first ≤ MAX_SEGMENTS * TERMINATED }
+    requires scoring { IsTrue (is_scoring (tree_of weight.now)) }
+    ensures listed { AddsToListing result (listed true (tree_of weight.now) first segment.now.segment) (string_bytes text.old) (string_bytes text.new) }
+    ensures refused { IfErr result (IsRefusalOf (tree_of weight.now) 1) }
+{
+    let mut listing = Listing::new(alloc, first, text);
+    weight.for_each(
+        alloc,
+        segment,
+        &mut |document, score| listing.add_score(document, score),
+    )?;
+    listing.finish(text)
+}
+
+// Writes the documents of a segment alone.
+fn write_unscored(
+    alloc: Global,
+    segment: &SegmentReader,
+    weight: &AnyWeight,
+    first: u64,
+    text: &mut String,
+) -> Result<(), QueryError>
+    requires few { first ≤ MAX_SEGMENTS * TERMINATED }
+    ensures listed { AddsToListing result (listed false (tree_of weight.now) first segment.now.segment) (string_bytes text.old) (string_bytes text.new) }
+    ensures refused { IfErr result (IsRefusalOf (tree_of weight.now) 1) }
+{
+    let mut listing = Listing::new(alloc, first, text);
+    weight.for_each_no_score(
+        alloc,
+        segment,
+        &mut |documents| { listing.add_documents(documents) },
+    )?;
+    listing.finish(text)
+}
+
+/// What the run over a segment has written so far.
+#[derive(Drop)]
+struct Listing {
+    text: String,
+    // the number of the segment's first document
+    first: u64,
+    // whether memory was refused; then the text is of no use
+    is_refused: bool,
+    ghost few: { first ≤ MAX_SEGMENTS * TERMINATED },
+}
+
+impl Listing {
+    // Takes the text, to write behind it. It comes back by `finish`.
+    fn new(alloc: Global, first: u64, text: &mut String) -> Listing
+        requires { first ≤ MAX_SEGMENTS * TERMINATED }
+        ensures text { result.text ≡ text.old }
+        ensures first { result.first ≡ first }
+        ensures begun { result.is_refused ≡ false }
+    {
+        Listing {
+            text: std::mem::replace(text, String::new(alloc)),
+            first,
+            is_refused: false,
+        }
+    }
+
+    // Gives the text back, where no memory was refused.
+    fn finish(self, text: &mut String) -> Result<(), QueryError>
+        ensures text { OnOk result ((self.is_refused ≡ false) × (text.new ≡ self.text)) }
+        ensures refused { IsOkUnless result QueryError.Memory }
+    {
+        if self.is_refused {
+            return Err(QueryError::Memory);
+        }
+        *text = self.text;
         Ok(())
+    }
+
+    // Writes documents behind those before them.
+    fn add_documents(&mut self, documents: &[DocId])
+        ensures before { self.new.is_refused ≡ false → self.old.is_refused ≡ false }
+        ensures first { self.new.first ≡ self.old.first }
+        ensures listed { self.new.is_refused ≡ false → ListsMore (numbered self.old.first (map (λ d. (d, None)) documents.now)) (string_bytes self.old.text) (string_bytes self.new.text) }
+    {
+        if !self.is_refused {
+            self.is_refused = write_documents(&mut self.text, self.first, documents).is_err();
+        }
+    }
+
+    // Writes one with its score.
+    fn add_score(&mut self, document: DocId, score: Score)
+        ensures before { self.new.is_refused ≡ false → self.old.is_refused ≡ false }
+        ensures first { self.new.first ≡ self.old.first }
+        ensures listed { self.new.is_refused ≡ false → ListsMore ((self.old.first + document, Some score) ∷ []) (string_bytes self.old.text) (string_bytes self.new.text) }
+    {
+        if !self.is_refused {
+            let number = self.first + u64::from(document);
+            self.is_refused = write_score(&mut self.text, number, score).is_err();
+        }
     }
 }
 

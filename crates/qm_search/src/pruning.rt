@@ -1,13 +1,13 @@
 //! The documents for which a pruned run of a query calls, in all segments, written one after another.
 
-ghost use Rattle.std.specs.Prelude.{◌≡◌, ◌≤◌, ◌*◌, ◌∷◌, ◌++◌, [], Some, IfErr, IfOk, IsTrue, OnOk, false, length, map, string_bytes, true};
+ghost use Rattle.std.specs.Prelude.{◌≡◌, ◌≤◌, ◌*◌, ◌+◌, ◌∷◌, ◌++◌, [], Some, IfErr, IfOk, IsTrue, OnOk, false, length, map, string_bytes, true};
 ghost use Rattle.qm_docset.specs.declared.numbers.TheConstants.{TERMINATED};
 ghost use Rattle.qm_query.specs.EnableScoring.{is_enabled};
 ghost use Rattle.qm_query.specs.Query.{query_of};
 ghost use Rattle.qm_search.specs.AllSegments.{listed};
-ghost use Rattle.qm_search.specs.Found.{found_above, segments_of};
+ghost use Rattle.qm_search.specs.Found.{found_above_in_parts, segments_of};
 ghost use Rattle.qm_search.specs.Parts.{document_count};
-ghost use Rattle.qm_search.specs.Pruned.{all_pruned, entry_item, rising};
+ghost use Rattle.qm_search.specs.Pruned.{all_pruned, entry_item, parts_pruned, rising, threshold_after};
 ghost use Rattle.qm_search.specs.Text.{AddsToListing, IsListing};
 ghost use Rattle.qm_search.specs.Under.{IsListingRefusal};
 ghost use Rattle.qm_search.specs.declared.corpus.TheConstants.{MAX_SEGMENTS};
@@ -25,38 +25,43 @@ use std::alloc::Global;
 
 /// Writes the documents for which a pruned run calls, whose calls answer their scores, at the end of the
 /// text, joined by one space, and numbered over all segments; each with its score. Each segment begins
-/// at the threshold. The query's weight is built once.
+/// at the threshold: the first `ended` of these, and behind them the one that the others are parts of,
+/// each of which goes on at the threshold that the one before it left. The query's weight is built once.
 ///
 /// Refused as the weight and the scorers are. What a refused call has written is of no use.
 pub(crate) fn write_pruned(
     alloc: Global,
     segments: &[SegmentReader],
+    ended: usize,
     enable_scoring: EnableScoring<'_, Searcher>,
     query: &AnyQuery,
     threshold: Score,
     text: &mut String,
 ) -> Result<(), QueryError>
+    requires some { ended ≤ length segments.now }
     requires few { document_count (map (λ r. r.segment) segments.now) ≤ MAX_SEGMENTS * TERMINATED }
     requires empty { length (string_bytes text.old) ≡ 0 }
     requires scoring { is_enabled enable_scoring ≡ true }
-    ensures listed { OnOk result (IsListing (found_above threshold enable_scoring.entry (query_of query.now) (segments_of segments.now)) (string_bytes text.new)) }
+    ensures listed { OnOk result (IsListing (found_above_in_parts threshold enable_scoring.entry (query_of query.now) ended (segments_of segments.now)) (string_bytes text.new)) }
     ensures refused { IfErr result (IsListingRefusal enable_scoring.entry (query_of query.now)) }
 {
     let weight = query.weight(alloc, enable_scoring)?;
-    write_runs(alloc, segments, &weight, threshold, text)
+    let first = write_runs(alloc, &segments[..ended], &weight, threshold, text)?;
+    write_parts(alloc, &segments[ended..], &weight, threshold, first, text)
 }
 
-// Writes what the runs of the weight call for in the segments.
+// Writes what the runs of the weight call for in the segments, and answers how many documents these have.
 fn write_runs(
     alloc: Global,
     segments: &[SegmentReader],
     weight: &AnyWeight,
     threshold: Score,
     text: &mut String,
-) -> Result<(), QueryError>
+) -> Result<u64, QueryError>
     requires few { document_count (map (λ r. r.segment) segments.now) ≤ MAX_SEGMENTS * TERMINATED }
     requires empty { length (string_bytes text.old) ≡ 0 }
     requires scoring { IsTrue (is_scoring (tree_of weight.now)) }
+    ensures counted { IfOk result (λ number. number ≡ document_count (map (λ r. r.segment) segments.now)) }
     ensures listed { OnOk result (IsListing (all_pruned threshold (tree_of weight.now) (map (λ r. r.segment) segments.now)) (string_bytes text.new)) }
     ensures refused { IfErr result (IsRefusalOf (tree_of weight.now) 1) }
 {
@@ -65,10 +70,35 @@ fn write_runs(
         write_run(alloc, segment, weight, threshold, first, text)?;
         first += u64::from(segment.max_doc());
     }
+    Ok(first)
+}
+
+// Writes what one run of the weight calls for in the parts of a segment, whose first document has this
+// number.
+fn write_parts(
+    alloc: Global,
+    parts: &[SegmentReader],
+    weight: &AnyWeight,
+    threshold: Score,
+    first: u64,
+    text: &mut String,
+) -> Result<(), QueryError>
+    requires few { first + document_count (map (λ r. r.segment) parts.now) ≤ MAX_SEGMENTS * TERMINATED }
+    requires scoring { IsTrue (is_scoring (tree_of weight.now)) }
+    ensures listed { AddsToListing result (parts_pruned threshold (tree_of weight.now) first (map (λ r. r.segment) parts.now)) (string_bytes text.old) (string_bytes text.new) }
+    ensures refused { IfErr result (IsRefusalOf (tree_of weight.now) 1) }
+{
+    let mut next = first;
+    let mut left = threshold;
+    for part in parts {
+        left = write_run(alloc, part, weight, left, next, text)?;
+        next += u64::from(part.max_doc());
+    }
     Ok(())
 }
 
-// Writes what a run calls for in one segment, whose first document has this number.
+// Writes what a run calls for in one segment, whose first document has this number, and answers the
+// threshold behind it.
 fn write_run(
     alloc: Global,
     segment: &SegmentReader,
@@ -76,15 +106,19 @@ fn write_run(
     threshold: Score,
     first: u64,
     text: &mut String,
-) -> Result<(), QueryError>
+) -> Result<Score, QueryError>
     requires few { first ≤ MAX_SEGMENTS * TERMINATED }
     requires scoring { IsTrue (is_scoring (tree_of weight.now)) }
+    ensures left { IfOk result (λ left. left ≡ threshold_after threshold (rising threshold (listed true (tree_of weight.now) first segment.now.segment))) }
     ensures listed { AddsToListing result (rising threshold (listed true (tree_of weight.now) first segment.now.segment)) (string_bytes text.old) (string_bytes text.new) }
     ensures refused { IfErr result (IsRefusalOf (tree_of weight.now) 1) }
 {
     let found = rising_scores(alloc, segment, weight, threshold)?;
     write_scores(text, first, found.as_slice())?;
-    Ok(())
+    match found.as_slice().last() {
+        Some((_, score)) => Ok(*score),
+        None => Ok(threshold),
+    }
 }
 
 // What a run calls for in one segment.

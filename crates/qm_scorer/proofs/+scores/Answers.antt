@@ -38,12 +38,12 @@ use Rattle.qm_scorer.specs.declared.group_node.GroupNode.{GroupNode, size-GroupN
 use Rattle.qm_scorer.specs.declared.group_node.Shape.{Shape}
 use Rattle.qm_scorer.specs.declared.group_node.GroupNode as gq
 use Rattle.qm_scorer.specs.declared.intersection_node.IntersectionNode.{size_is-IntersectionNode}
-use Rattle.qm_scorer.proofs.Depth.{most-set, size-members, size-others}
+use Rattle.qm_scorer.proofs.Depth.{most-set, same-All, same-BitSet, same-Empty, same-Own, same-Phrase, same-PhrasePrefix, same-Term, size-members, size-others}
 use Rattle.qm_scorer.proofs.GroupScores.{group-kept, group-score, room-next}
 use Rattle.qm_scorer.proofs.IntersectionArms.{lent-here, lent-together, lent-trees}
 use Rattle.qm_scorer.proofs.Opened.{opened-Disjunction, opened-Union}
 use Rattle.qm_scorer.proofs.Heads.{boost-fits, tree-head, tree-here}
-use Rattle.qm_scorer.proofs.ScoreArms.{asked-Boost, asked-Const, asked-Exclude, asked-RequiredOptional, same-All, same-BitSet, same-Empty, same-Own, same-Phrase, same-PhrasePrefix, same-Term, score_fits, scored-Boost, scored-Const, scored-Disjunction, scored-Exclude, scored-Intersection, scored-RequiredOptional, scored-Union, scored-as, scored-leaf}
+use Rattle.qm_scorer.proofs.ScoreArms.{asked-Boost, asked-Const, asked-Exclude, asked-RequiredOptional, score_fits, scored-Boost, scored-Const, scored-Disjunction, scored-Exclude, scored-Intersection, scored-RequiredOptional, scored-Union, scored-as, scored-leaf}
 use Rattle.qm_scorer.proofs.+scores.Goals as goal
 use Rattle.qm_scorer.proofs.+scores.Goals.{group_node::score_group-else-doc_tree-doc, group_node::score_group-then-doc_tree-doc}
 

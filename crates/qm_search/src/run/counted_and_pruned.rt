@@ -44,7 +44,7 @@ fn counts_documents_that_were_not_deleted(rt: HostRuntime) {
     }
 }
 
-const PRUNED: [(&[u8], &[u8]); 3] = [
+const PRUNED: [(&[u8], &[u8]); 4] = [
     // 333, 400, 500 and 500 in the first segment, 400 and 500 in the second; a deleted one too
     (
         b"doc a b\ndoc a a b\ndoc a\ndoc a a\nsegment\ndoc a a b\ndoc a\ndelete 0\nprune -9223372036854775808 term a\nprune 333 term a\nprune 400 term a\nprune 500 term a\n",
@@ -59,6 +59,11 @@ const PRUNED: [(&[u8], &[u8]); 3] = [
     (
         b"doc a b\nscores all\ndoc a\nscores all\ndoc a a b\nprune 0 term a\nprune 333 prefix 5 2 a b\n",
         b"0:1\n0:1 1:1\n0:333 1:500\n\n",
+    ),
+    // 250 and 333, nothing, 333, nothing and 400, searched after each, so that the segment is kept in parts
+    (
+        b"doc a b b\ncount term c\ndoc a b\ncount term c\ndoc b\ncount term c\ndoc b\ncount term c\ndoc a b\ncount term c\ndoc b\ncount term c\ndoc a a b\nprune 0 term a\n",
+        b"0\n0\n0\n0\n0\n0\n0:250 1:333 6:400\n",
     ),
 ];
 

@@ -1,17 +1,15 @@
-use Rattle.std.proofs.Common.{◌∙◌, Err, OnOk, ap, refl, map, subst, string_bytes, w64}
+use Rattle.std.proofs.Common.{◌≡◌, ◌∙◌, ◌+◌, Err, OnOk, ap, length, sym, true, map, subst, string_bytes, w64}
 use mir.ValLaws.{to_z-of_z}
 use Rattle.std.proofs.lemmas.Result.{IfOk-weaker}
 use Rattle.qm_query.specs.Query.{query_of as built_query}
 use Rattle.qm_search.specs.Answers.{IsChangeAnswer, ListsAbove, pruned_text}
-use Rattle.qm_search.specs.Pruned.{all_pruned}
-use Rattle.qm_search.specs.ScriptSegments.{AreOnePart, Script, script}
+use Rattle.qm_search.specs.Found.{found_above_in_parts}
+use Rattle.qm_search.specs.ScriptSegments.{AreOnePart, AreSegments, Script, all_segments, script}
 use Rattle.qm_search.specs.Spelled.{query_of}
 use Rattle.qm_search.specs.State.{state}
 use Rattle.qm_search.specs.Text.{IsListing, listing_text}
-use Rattle.qm_search.specs.Under.{tree_of}
 use Rattle.qm_search.specs.Weights.{IsWeighedBy, given}
-use Rattle.qm_search.proofs.Answering.{IsForScores-refused, for_scores, listing-answer, nothing_searched, segments-answer, unbuilt-answer}
-use Rattle.qm_search.proofs.PrunedParts.{pruned-one_part}
+use Rattle.qm_search.proofs.Answering.{IsForScores-refused, above-same, for_scores, listing-answer, nothing_searched, segments-answer, unbuilt-answer}
 use Rattle.qm_search.proofs.answer.list_above.Goals as goal
 
 pub returns-clause-answer : goal.returns-clause-answer
@@ -37,8 +35,10 @@ returns-in-Ok-build_scored_segments-clause-answer c =
     let same = c.build_scored_segments.ensures.script in
     let enable = c.enabled_from_searcher-enable.result in
     let query = built_query c.in-Ok.query in
-    let one : AreOnePart s segments = subst (λ t. AreOnePart t segments) same (c.segments.ensures.whole (c.in-Ok-build_scored_segments.ensures.whole refl)) in
-    let listed = pruned-one_part threshold (tree_of enable query) s segments one in
-    let written = subst (λ t. OnOk c.write_pruned-written.result (IsListing (all_pruned t (tree_of enable query) segments) text)) (to_z-of_z w64 threshold c.ranges.threshold) c.write_pruned-written.ensures.listed in
+    let are = subst (λ t. AreSegments t segments) same c.segments.ensures.segments in
+    let one : c.has_prefix.result ≡ true → AreOnePart s segments = λ has. subst (λ t. AreOnePart t segments) same (c.segments.ensures.whole (c.in-Ok-build_scored_segments.ensures.whole has)) in
+    let ended : length (all_segments s) ≡ c.ended.result + 1 = ap (λ t. length (all_segments t)) (sym same) ∙ c.ended.ensures in
+    let listed = above-same threshold c.has_prefix.result enable s q query c.ended.result segments c.has_prefix.ensures c.in-Ok.ensures ended are one in
+    let written = subst (λ t. OnOk c.write_pruned-written.result (IsListing (found_above_in_parts t enable query c.ended.result segments) text)) (to_z-of_z w64 threshold c.ranges.threshold) c.write_pruned-written.ensures.listed in
     let fields = c.enabled_from_searcher-enable.ensures.schema ∙ c.searcher.ensures.fields ∙ ap (λ (t : Script). t.current.schema) same in
-    (c.searcher.result.now, enable, record { fields = fields; scores = c.enabled_from_searcher-enable.ensures.provider; weights = subst (λ w. IsWeighedBy (given w) c.searcher.result.now) c.build_scored_segments.ensures.weights c.searcher.ensures.weights }, listing-answer (pruned_text threshold enable s) enable s q text query (all_pruned threshold (tree_of enable query) segments) c.write_pruned-written.result c.answer_listing.result (fields ∙ c.args.corpus.now.documents.fields) c.in-Ok.ensures (ap listing_text listed) written c.write_pruned-written.ensures.refused c.answer_listing.ensures)
+    (c.searcher.result.now, enable, record { fields = fields; scores = c.enabled_from_searcher-enable.ensures.provider; weights = subst (λ w. IsWeighedBy (given w) c.searcher.result.now) c.build_scored_segments.ensures.weights c.searcher.ensures.weights }, listing-answer (pruned_text threshold enable s) enable s q text query (found_above_in_parts threshold enable query c.ended.result segments) c.write_pruned-written.result c.answer_listing.result (fields ∙ c.args.corpus.now.documents.fields) c.in-Ok.ensures (ap listing_text listed) written c.write_pruned-written.ensures.refused c.answer_listing.ensures)

@@ -1,4 +1,4 @@
-use Rattle.std.proofs.Common.{◌≡◌, ap, map, subst, sym, ◌∙◌}
+use Rattle.std.proofs.Common.{ap, map, subst, sym, ◌∙◌}
 use Rattle.qm_search.specs.Requests.{request_of}
 use Rattle.qm_search.specs.Script.{AreWords, words_request}
 use Rattle.qm_search.specs.Spelled.{Gives}
