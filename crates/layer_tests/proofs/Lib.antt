@@ -1,0 +1,2 @@
+mod OverSegments
+mod OwnPostings
