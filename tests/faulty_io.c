@@ -7,7 +7,7 @@
    FAULTY_READS=9          each read after 9 fails, with the error FAULTY_ERROR
    FAULTY_WRITE_SIZE=3000  each write takes at most 3000 bytes
    FAULTY_WRITES=4         each write after 4 fails, with the error FAULTY_ERROR
-   FAULTY_REQUEST=12       the 12th request for memory is refused, and with FAULTY_REQUESTS=1 all after it
+   FAULTY_REQUEST=12       the 12th request for memory is refused; with FAULTY_REQUESTS=1, all after too
    FAULTY_NOTES=5          notes each of these calls as a line on descriptor 5
 
    An error is the number that errno is set to. */

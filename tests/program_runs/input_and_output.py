@@ -10,10 +10,10 @@ from .whole_scripts import FIRST
 
 FOUR_LINES = b"doc a\ndocs all\nfoo\ndocs term a\n"
 
-# Two lines; the end of one, and the beginning of the next; its end; a last one. Before each piece, and
-# before the end, all lines that ended have been answered, so just this had been written.
+# Two lines; the end of one, and the beginning of the next; its end; a last one.
 PIECES = [b"doc a\ndocs all\n", b"docs te", b"rm a\nfoo\ndoc", b" b\ndocs all"]
-WRITTEN = [b"", b"0\n", b"0\n", b"0\n0\nline 4: not understood\n", b"0\n0\nline 4: not understood\n"]
+# What had been written before each of them, and before the end: the answers of all lines that had ended.
+WRITTEN = [b"", b"0\n", b"0\n", *[b"0\n0\nline 4: not understood\n"] * 2]
 TEXT_OF_PIECES = WRITTEN[-1] + b"0 1\n"
 
 
@@ -46,6 +46,7 @@ def check_pipe(program, report):
         for piece, wanted in zip(PIECES + [b""], WRITTEN):
             got += read_up_to(running.stdout, len(wanted) - len(got))
             report.expect_same(f"by a pipe, before {piece!r} is written", wanted, got)
+            # what doesn't come is not waited for again
             if got != wanted:
                 break
             running.stdin.write(piece)
@@ -107,7 +108,7 @@ def check_failed_reads(program, report):
 
 
 def long_script():
-    """A thousand documents that are listed four times, which is more than a buffer holds, and the text."""
+    """A thousand documents that are listed four times, and the text, more than a buffer holds."""
     line = b" ".join(b"%d" % document for document in range(1000)) + b"\n"
     return b"doc a\n" * 1000 + b"docs all\n" * 4, line * 4
 
@@ -125,20 +126,21 @@ def check_long_text(program, report):
 
 
 def check_failed_writes(program, report):
-    """What the writes before a failed one took is the first part of the text, and after it nothing more
-    is written or read. Where the text is written before a write would fail, all goes well."""
+    """What the writes before a failed one took is the first part of the text, and after it there is no
+    call. Where the whole text is taken before, all goes well."""
     script, text = long_script()
+    failed = Call("write failed", errno.EIO)
     for writes in range(8):
         name = f"a write that fails after {writes}"
         outcome = program.run_faulty(script, write_size=3000, writes=writes)
-        failed = calls_of(outcome, "write failed")
-        taken = [call.number for call in calls_of(outcome, "write")]
-        if failed:
-            report.expect(name, text[: sum(taken)], 3, outcome)
-            report.expect_same(f"{name}: the writes before", writes, len(taken))
-            report.expect_same(f"{name}: the last call", failed, outcome.calls[-1:])
-        else:
+        if failed not in outcome.calls:
             report.expect(name, text, 0, outcome)
+            continue
+        taken = [call.number for call in calls_of(outcome, "write")]
+        report.expect(name, text[: sum(taken)], 3, outcome)
+        report.expect_same(f"{name}: the writes before", writes, len(taken))
+        last = outcome.calls[outcome.calls.index(failed) :]
+        report.expect_same(f"{name}: the calls from it on", [failed], last)
     outcome = program.run_faulty(script, write_size=3000, writes=0)
     report.expect("no write is taken", b"", 3, outcome)
 
@@ -158,15 +160,14 @@ def check_first_error(program, report):
 
 
 def check_without_library(program, report):
-    """A folder cannot be read, and a device that is full cannot be written to. Nothing is written where
-    errors go."""
-    both = {"stdout": subprocess.PIPE, "stderr": subprocess.STDOUT}
+    """A folder cannot be read, and a device that is full cannot be written to."""
     folder = os.open("/", os.O_RDONLY)
-    with program.start(stdin=folder, **both) as running:
+    # nothing is written where errors go
+    outputs = {"stdout": subprocess.PIPE, "stderr": subprocess.STDOUT}
+    with program.start(stdin=folder, **outputs) as running:
         report.expect_same("a folder as the input", (b"", 3), ended(running))
     os.close(folder)
     with open("/dev/full", "wb") as full:
-        pipes = {"stdin": subprocess.PIPE, "stderr": subprocess.PIPE}
-        with program.start(stdout=full, **pipes) as running:
-            _, said = running.communicate(b"doc a\ndocs all\n", timeout=LIMIT)
-    report.expect_same("an output that is full", (b"", 3), (said, running.returncode))
+        with program.start(stdin=subprocess.PIPE, stdout=full) as running:
+            ended(running, b"doc a\ndocs all\n")
+    report.expect_same("an output that is full", 3, running.returncode)

@@ -3,6 +3,9 @@
 # So many bytes are read at once.
 CHUNK = 4096
 
+# Refused where `a` has the greatest weight.
+TOO_GREAT = b"scores bool 0 2 + term a + term a\n"
+
 
 def check(program, report):
     """Runs each script."""
@@ -11,9 +14,9 @@ def check(program, report):
         ("long words", *long_words()),
         ("a query of 70 words", *query_of_many_words()),
         ("a query after each of 1001 documents", *query_after_each_document()),
-        ("lines of 0 to 299 letters, ended by bytes 13 and 10", *lines_of_each_length(b"\r\n", b"\n")),
-        ("lines of 0 to 299 letters, asked for by such lines", *lines_of_each_length(b"\n", b"\r\n")),
     ]
+    for ends in [(b"\r\n", b"\n"), (b"\n", b"\r\n")]:
+        scripts.append((f"lines of 0 to 299 letters, ended by {ends}", *lines_of_each_length(*ends)))
     for name, script, text in scripts:
         report.expect(name, text, 0, program.run(script))
     for length in range(CHUNK - 4, CHUNK + 5):
@@ -23,9 +26,6 @@ def check(program, report):
     report.expect("far lines", b"line 300: not understood\nline 303: refused 9\n", 2, far)
     check_levels(program, report)
     check_answers_of_line_12(program, report)
-
-
-TOO_GREAT = b"scores bool 0 2 + term a + term a\n"
 
 
 def long_documents():
@@ -63,8 +63,8 @@ def query_after_each_document():
 
 
 def lines_of_each_length(end, end_of_query):
-    """Documents of one word of 1 to 299 letters, before them an empty line and an empty document, so
-    that lines end at each place of a chunk; and a query for each, the last without an end."""
+    """An empty line, an empty document, and documents of one word of 1 to 299 letters: many chunks. A
+    query for each, the last without an end."""
     script = end + b"doc" + end
     script += b"".join(b"doc " + b"x" * length + end for length in range(1, 300))
     queries = [b"docs term " + b"x" * length for length in range(1, 300)]
@@ -73,7 +73,7 @@ def lines_of_each_length(end, end_of_query):
 
 
 def line_around_a_chunk(length):
-    """A document whose line ends at so many bytes, with bytes 13 and 10; and a query for its word."""
+    """A document whose line ends at so many bytes, with bytes 13 and 10, and queries for its word."""
     word = b"x" * (length - len(b"doc \r\n"))
     return b"doc " + word + b"\r\ndocs term " + word + b"\ndocs term " + word[1:] + b"\n", b"0\n\n"
 

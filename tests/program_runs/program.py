@@ -8,20 +8,23 @@ from typing import NamedTuple
 LIMIT = 20
 
 
+class NeverEnded(Exception):
+    """A run took too long, and was ended."""
+
+
 class Call(NamedTuple):
-    """A call that the library noted: "read", "write", "read interrupted", "read failed", "write failed"
-    or "request refused", with its bytes or its error."""
+    """A call that the library noted, with its bytes or its error: "read", "write", "read interrupted",
+    "read failed", "write failed" or "request refused"."""
 
     what: str
     number: int
 
 
 class Outcome(NamedTuple):
-    """How a run ended: what it wrote, its exit status, and the calls that the library noted. A run that
-    never ends has no status."""
+    """How a run ended: what it wrote, its exit status, and the calls that the library noted."""
 
     text: bytes
-    status: int | None
+    status: int
     calls: list
 
 
@@ -59,22 +62,22 @@ class Program:
         with open(os.memfd_create("script"), "r+b") as given:
             given.write(script)
             given.seek(0)
-            running = self.start(
-                stdin=given, stdout=subprocess.PIPE, env=environment, pass_fds=noted
-            )
+            # nothing is wanted where errors go
+            both = {"stdout": subprocess.PIPE, "stderr": subprocess.STDOUT}
+            running = self.start(stdin=given, **both, env=environment, pass_fds=noted)
         with running:
             text, status = ended(running)
         return Outcome(text, status, _calls(notes) if noted else [])
 
 
-def ended(running):
+def ended(running, script=None):
     """What the run writes until it ends, and its status."""
     try:
-        text, _ = running.communicate(timeout=LIMIT)
-        return text, running.returncode
+        text, _ = running.communicate(script, timeout=LIMIT)
     except subprocess.TimeoutExpired:
         running.kill()
-        return running.communicate()[0], None
+        raise NeverEnded from None
+    return text, running.returncode
 
 
 def _calls(notes):

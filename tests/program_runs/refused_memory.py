@@ -41,24 +41,22 @@ def check(program, report):
 
 def check_each(program, report):
     """Refuses each request in turn, until a run has no request left to be refused."""
-    refused = set()
+    refused = []
     for number in range(1, MANY):
         outcome = program.run_faulty(SCRIPT, request=number)
         if not calls_of(outcome, "request refused"):
             report.expect("no request is refused", TEXT, 0, outcome)
             report.expect_same("some requests are refused", True, number > 5)
-            report.expect_same("each query is refused", set(REFUSED), refused)
+            report.expect_same("the queries that are refused", list(REFUSED), sorted(set(refused)))
             return
-        refused |= {line for line, text in REFUSED.items() if text == outcome.text}
-        is_right = is_ended(outcome) or outcome.text in REFUSED.values() and outcome.status == 1
+        refused += [line for line, text in REFUSED.items() if text == outcome.text]
+        # later requests are later lines', so the lines before the query last refused were answered
+        answered = list(ANSWERS).index(refused[-1]) if refused else 0
+        is_ended = outcome.status == 3 and outcome.text in ENDED[answered:]
+        is_right = is_ended or outcome.status == 1 and outcome.text in REFUSED.values()
         wanted = outcome if is_right else "whole first lines and status 3, or one query refused and 1"
         report.expect_same(f"request {number} is refused", wanted, outcome)
     report.expect_same("the requests of a run", f"fewer than {MANY}", "as many")
-
-
-def is_ended(outcome):
-    """Whether the run ended early, and had written whole lines from the first on."""
-    return outcome.status == 3 and outcome.text in ENDED
 
 
 def check_all_after(program, report):
@@ -71,5 +69,5 @@ def check_all_after(program, report):
         are_right = all(line in either for line, either in zip(lines, EITHER))
         is_whole = len(lines) == len(EITHER) and outcome.text != TEXT
         is_right = are_right and (outcome.status == 3 or outcome.status == 1 and is_whole)
-        wanted = outcome if is_right else "answers and refusals, and status 3, or 1 where all are there"
+        wanted = outcome if is_right else "answers and refusals with status 3, or all with 1"
         report.expect_same(f"requests from {number} on are refused", wanted, outcome)
