@@ -141,6 +141,7 @@ def check_failed_writes(program, report):
         report.expect_same(f"{name}: the writes before", writes, len(taken))
         last = outcome.calls[outcome.calls.index(failed) :]
         report.expect_same(f"{name}: the calls from it on", [failed], last)
+    # here at least one fails
     outcome = program.run_faulty(script, write_size=3000, writes=0)
     report.expect("no write is taken", b"", 3, outcome)
 
