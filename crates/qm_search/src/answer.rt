@@ -242,26 +242,3 @@ fn answer_listing(listed: Result<(), QueryError>) -> Answer
         Err(error) => Answer::Refused(error.number()),
     }
 }
-
-#[cfg(test)]
-mod tests {
-    use super::*;
-    use std::test::Fail;
-
-    #[test]
-    fn writes_answers(rt: HostRuntime) -> Result<(), Fail> {
-        let cases = [
-            (Answer::Silence, 0, ""),
-            (Answer::Listing, 0, "0 7\n"),
-            (Answer::Refused(13), 1, "line 12: refused 13\n"),
-            (Answer::NotUnderstood, 2, "line 12: not understood\n"),
-        ];
-        for (answer, status, expected) in cases {
-            let mut text = String::from_str(rt.alloc(), "0 7")?;
-            answer.finish(12, &mut text)?;
-            assert_eq!(rt; answer.status(), status);
-            assert_eq!(rt; text.as_str(), expected);
-        }
-        Ok(())
-    }
-}

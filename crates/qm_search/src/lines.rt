@@ -147,35 +147,3 @@ fn drop_carriage_return(line: &mut Vec<u8>)
         line.truncate(line.len() - 1);
     }
 }
-
-#[cfg(test)]
-mod tests {
-    use super::*;
-    use std::test::Fail;
-
-    #[test]
-    fn reads_lines_across_chunks(rt: HostRuntime) -> Result<(), Fail> {
-        let mut text = Vec::new(rt.alloc());
-        // lines of 0 to 299 letters, each ended by bytes 13 and 10: many chunks
-        for len in 0..300 {
-            for _ in 0..len {
-                text.push(b'x')?;
-            }
-            text.extend_from_slice(b"\r\n")?;
-        }
-        text.push(b'y')?;
-        let mut input = text.as_slice();
-        let mut lines = Lines::new();
-        let mut line = Vec::new(rt.alloc());
-        for len in 0..300 {
-            assert!(rt; lines.next_line(&mut input, &mut line)?);
-            assert_eq!(rt; line.len(), len);
-            assert!(rt; line.iter().all(|b| *b == b'x'));
-        }
-        assert!(rt; lines.next_line(&mut input, &mut line)?);
-        assert_eq!(rt; line.as_slice(), b"y".as_slice());
-        assert!(rt; !lines.next_line(&mut input, &mut line)?);
-        assert!(rt; !lines.next_line(&mut input, &mut line)?);
-        Ok(())
-    }
-}

@@ -234,25 +234,3 @@ fn write_score(text: &mut String, document: u64, score: Score) -> Result<(), All
     }
     write!(text, "{document}:{score}")
 }
-
-#[cfg(test)]
-mod tests {
-    use super::*;
-    use std::test::Fail;
-
-    #[test]
-    fn writes_documents_and_scores(rt: HostRuntime) -> Result<(), Fail> {
-        let mut text = String::new(rt.alloc());
-        write_documents(&mut text, 0, &[0, 7])?;
-        write_scores(
-            &mut text,
-            4294967296,
-            &[(0, 5), (2147483646, 9223372036854775807)],
-        )?;
-        assert_eq!(rt;
-            text.as_str(),
-            "0 7 4294967296:5 6442450942:9223372036854775807"
-        );
-        Ok(())
-    }
-}

@@ -145,16 +145,3 @@ fn flush<W: Write>(output: &mut W) -> Result<(), RunError>
         Err(_) => Err(RunError::Write),
     }
 }
-
-#[cfg(test)]
-mod counted_and_pruned;
-#[cfg(test)]
-mod cut_lines;
-#[cfg(test)]
-mod fakes;
-#[cfg(test)]
-mod known_input;
-#[cfg(test)]
-mod refused_memory;
-#[cfg(test)]
-mod tests;

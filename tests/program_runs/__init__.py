@@ -1,0 +1,1 @@
+"""The runs of the program `qm_search`, by what they show."""

@@ -1,0 +1,41 @@
+"""What was wanted of the runs and what came: each difference is printed, and counted."""
+
+# So much of a long value is shown, from a little before the first difference on.
+SHOWN = 200
+
+
+class Report:
+    """Counts the differences."""
+
+    def __init__(self):
+        self.failed = 0
+
+    def expect(self, name, text, status, outcome):
+        """The run of this name wrote just this text, and ended with this status."""
+        self.expect_same(name, (text, status), (outcome.text, outcome.status))
+
+    def expect_same(self, name, wanted, got):
+        """What a run of this name is known by is just as wanted."""
+        if wanted != got:
+            self.failed += 1
+            print(f"program runs: {name}")
+            print(f"  wanted {_shown(wanted, got)}")
+            print(f"  got    {_shown(got, wanted)}")
+
+    def close(self, runs):
+        """Prints how many runs went as wanted, or what failed of them, and gives the exit status."""
+        if self.failed:
+            print(f"program runs: {self.failed} failed")
+            return 1
+        print(f"program runs: {runs} as wanted")
+        return 0
+
+
+def _shown(value, other):
+    shown, beside = repr(value), repr(other)
+    same = 0
+    while same < min(len(shown), len(beside)) and shown[same] == beside[same]:
+        same += 1
+    start = max(0, same - SHOWN // 2) if len(shown) > SHOWN else 0
+    cut = shown[start : start + SHOWN]
+    return ("..." if start else "") + cut + ("..." if start + SHOWN < len(shown) else "")
