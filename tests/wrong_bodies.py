@@ -1,0 +1,145 @@
+#!/usr/bin/env python3
+"""Tries wrong bodies: each edit in tests/wrong_bodies/CRATE must be refused by that crate's contracts.
+
+    python3 tests/wrong_bodies.py [--built] [CRATE..]
+
+An edit has the form of those in must-fail/, which `rt ci` tries. But that proves the whole crate for its
+first edit, and goes over the whole of it for each other one; here what an edit changes is checked alone,
+with what it calls: what its line `checked: PATH` names, as `rt check --only PATH` takes it. Beside the edits
+of a crate, one of these paths is checked in the crate as it stands, and must be proved. Libraries are built
+where they have changed; with --built they are taken as `rt ci` has left them. Called by .ci/run after
+`rt ci`. The exit status is 1 where an edit is not refused. RT_JOBS says how many are tried at once.
+"""
+
+import importlib.machinery
+import importlib.util
+import os
+import re
+import shutil
+import sys
+import tempfile
+import threading
+import time
+from concurrent.futures import ThreadPoolExecutor
+
+ROOT = os.path.join(os.path.dirname(os.path.abspath(__file__)), "..")
+EDITS = "tests/wrong_bodies"
+# what a check takes at most, in bytes
+ROOM = 2_500_000_000
+
+
+def load_kit():
+    """The toolchain's command `rt`, as a module: how it reads an edit and checks a crate with it."""
+    path = os.path.realpath(shutil.which("rt"))
+    sys.dont_write_bytecode = True
+    sys.path.insert(0, os.path.dirname(path))
+    loader = importlib.machinery.SourceFileLoader("kit", path)
+    kit = importlib.util.module_from_spec(importlib.util.spec_from_loader("kit", loader))
+    loader.exec_module(kit)
+    return kit
+
+
+def checked_path(text):
+    """What is checked of a crate with this edit, as its line says."""
+    named = re.search(r"^checked: (\S+)$", text, re.M)
+    return named[1] if named else None
+
+
+def has_library(crate, is_after_ci):
+    """Whether the crate's library is there for those above it. What `rt ci` builds bears no stamp, and
+    where it found a library of the session's own it has put that back, which may be old."""
+    if os.path.exists(f"{os.path.dirname(crate.rlib)}/stamp"):
+        return crate.is_built()
+    return is_after_ci and os.path.exists(crate.rlib)
+
+
+def check(kit, crate, texts, path, kept):
+    """Checks this part of a copy of the crate with these texts in place of its own, over what earlier
+    checks have kept: whether all of it is proved, or None where the check came to no such answer, and
+    what it printed."""
+    ran = kit.checked(crate, texts, ["--jobs", "1", "--only", path], kept)
+    lines = ran.stdout.rstrip("\n").split("\n")
+    answer = re.fullmatch(r"only=(\d+) proved=(\d+)", lines[-1])
+    if not answer or answer[1] == "0" or ran.returncode not in (0, 1):
+        return None, lines
+    return ran.returncode == 0 and answer[1] == answer[2], lines
+
+
+def try_edit(kit, crate, text, kept):
+    """Whether the crate is refused with this edit, and what to say of it."""
+    texts, why = kit.edited(text, crate.folder)
+    path = checked_path(text)
+    if why or not path:
+        return False, f"BAD EDIT: {why or 'it has no line checked: PATH'}"
+    is_proved, lines = check(kit, crate, texts, path, kept)
+    if is_proved:
+        return False, f"NOT REFUSED: {path} is still proved"
+    unread = next((it for it in lines if kit.unread(it, texts)), None)
+    if is_proved is None or unread:
+        return False, f"BAD EDIT: no contract was tried: {unread or lines[-1]}"
+    told = [it for it in lines if re.match(r"\S+:\d+:\d+: error", it)]
+    by_name = r"(\./)?proofs/.*(has no field|is not in scope|has no `|was not admitted)"
+    if told and all(re.match(by_name, it) for it in told):
+        return False, f"BAD EDIT: refused only by a name that a proof lost: {told[0]}"
+    refused = [it for it in lines if it.endswith(": not proved")]
+    return True, f"refused: {', '.join(refused)}; {told[0] if told else ''}"[:240]
+
+
+def try_as_it_stands(kit, crate, text, kept):
+    """The same for the crate without this edit, which must be proved."""
+    is_proved, lines = check(kit, crate, {}, checked_path(text) or "", kept)
+    return bool(is_proved), "proved" if is_proved else f"NOT PROVED: {lines[-1]}"
+
+
+def try_crate(kit, crate, printing):
+    """Tries the crate's edits one after another, and at last the crate as it stands; answers how many
+    went as wanted, and how many did not."""
+    counts = [0, 0]
+    folder = f"{EDITS}/{crate.name}"
+    with tempfile.TemporaryDirectory(prefix="wrong-bodies-") as kept:
+        tries = [(name, try_edit) for name in sorted(os.listdir(folder))]
+        for name, call in [*tries, (tries[0][0], try_as_it_stands)]:
+            with open(f"{folder}/{name}", encoding="utf-8") as it:
+                text = it.read()
+            start = time.monotonic()
+            is_well, said = call(kit, crate, text, kept)
+            counts[not is_well] += 1
+            what = name if call is try_edit else "as it stands"
+            with printing:
+                print(f"wrong body {crate.name}/{what} ({time.monotonic() - start:.0f} s): {said}", flush=True)
+    return counts
+
+
+def try_crates(kit, crates):
+    """Tries the crates' edits, as many crates at once as there are processors and memory for, those with
+    the most edits first."""
+    fixed = os.environ.get("RT_JOBS", "")
+    lanes = int(fixed) if fixed.isdigit() else min(kit.processors(), int(0.85 * kit.free() / ROOM))
+    crates = sorted(crates, key=lambda it: -len(os.listdir(f"{EDITS}/{it.name}")))
+    printing = threading.Lock()
+    with ThreadPoolExecutor(max(lanes, 1)) as pool:
+        counts = list(pool.map(lambda it: try_crate(kit, it, printing), crates))
+    return [sum(it) for it in zip(*counts)]
+
+
+def main(words):
+    os.chdir(ROOT)
+    kit = load_kit()
+    # its first call sets a signal's handler, which only the main thread may
+    kit.rtlib.guarded()
+    names = [it for it in words if it != "--built"] or sorted(os.listdir(EDITS))
+    crates = [it for it in kit.rtlib.crates_below(os.getcwd()) if it.name in names]
+    if len(crates) != len(names):
+        print(f"wrong bodies: no such crate among {' '.join(names)}")
+        return 1
+    below = {it.name: it for crate in crates for it in crate.below()}
+    lacking = [it for it in below.values() if not has_library(it, "--built" in words)]
+    if any(it.build_rlib(["--jobs", "1"], anew=False) for it in lacking):
+        return 1
+    wanted, failed = try_crates(kit, crates)
+    print(f"wrong bodies: {wanted} as wanted, {failed} not")
+    return 1 if failed else 0
+
+
+if __name__ == "__main__":
+    sys.exit(main(sys.argv[1:]))
