@@ -37,3 +37,6 @@ pub use score_combiner::ScoreCombiner;
 pub use scorer::Scorer;
 pub use sum_combiner::SumCombiner;
 pub use union::BufferedUnionScorer;
+
+#[cfg(test)]
+mod tests;

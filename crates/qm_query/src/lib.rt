@@ -38,3 +38,6 @@ pub use phrase_query::PhraseQuery;
 pub use query::{Query, QueryClone};
 pub use scorers::query_scorer;
 pub use term_query::TermQuery;
+
+#[cfg(test)]
+mod tests;

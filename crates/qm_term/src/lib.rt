@@ -11,3 +11,6 @@ mod term_scorer;
 pub use bm25::Bm25Weight;
 pub use explanation::Explanation;
 pub use term_scorer::TermScorer;
+
+#[cfg(test)]
+mod tests;

@@ -1,2 +1,0 @@
-mod OverSegments
-mod OwnPostings

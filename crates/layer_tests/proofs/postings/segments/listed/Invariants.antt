@@ -1,5 +1,0 @@
-use Rattle.qm_postings.specs.SegmentPostings.{IsPostings}
-use Rattle.layer_tests.proofs.postings.segments.listed.Given as goal
-
-abbrev pub invariant-loop : goal.invariant-loop
-invariant-loop l = IsPostings l.postings

@@ -1,4 +1,0 @@
-use Rattle.layer_tests.proofs.scorer.groups.+nested.Given as goal
-
-abbrev pub decreases-nested : goal.decreases-nested
-decreases-nested g l = l.depth
