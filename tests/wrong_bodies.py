@@ -1,14 +1,15 @@
 #!/usr/bin/env python3
 """Tries wrong bodies: each edit in tests/wrong_bodies/CRATE must be refused by that crate's contracts.
 
-    python3 tests/wrong_bodies.py [--built] [CRATE..]
+    python3 tests/wrong_bodies.py [--further] [--built] [CRATE..]
 
 An edit has the form of those in must-fail/, which `rt ci` tries. But that proves the whole crate for its
 first edit, and goes over the whole of it for each other one; here what an edit changes is checked alone,
 with what it calls: what its line `checked: PATH` names, as `rt check --only PATH` takes it. Beside the edits
 of a crate, one of these paths is checked in the crate as it stands, and must be proved. Libraries are built
 where they have changed; with --built they are taken as `rt ci` has left them. Called by .ci/run after
-`rt ci`. The exit status is 1 where an edit is not refused. RT_JOBS says how many are tried at once.
+`rt ci`, but for the edits in tests/further_wrong_bodies, which --further tries in place of the others. The
+exit status is 1 where an edit is not refused. RT_JOBS says how many crates are gone through at once.
 """
 
 import importlib.machinery
@@ -23,7 +24,7 @@ import time
 from concurrent.futures import ThreadPoolExecutor
 
 ROOT = os.path.join(os.path.dirname(os.path.abspath(__file__)), "..")
-EDITS = "tests/wrong_bodies"
+EDITS, FURTHER = "tests/wrong_bodies", "tests/further_wrong_bodies"
 # what a check takes at most, in bytes
 ROOM = 2_500_000_000
 
@@ -77,12 +78,17 @@ def try_edit(kit, crate, text, kept):
     unread = next((it for it in lines if kit.unread(it, texts)), None)
     if is_proved is None or unread:
         return False, f"BAD EDIT: no contract was tried: {unread or lines[-1]}"
-    told = [it for it in lines if re.match(r"\S+:\d+:\d+: error", it)]
+    told = refusal(lines)
+    return bool(told), f"refused: {told[:240]}" if told else f"BAD EDIT: no contract refused it: {lines[0]}"
+
+
+def refusal(lines):
+    """Where a check says that a contract is not met, which is more than that a proof lost a name."""
     by_name = r"(\./)?proofs/.*(has no field|is not in scope|has no `|was not admitted)"
-    if told and all(re.match(by_name, it) for it in told):
-        return False, f"BAD EDIT: refused only by a name that a proof lost: {told[0]}"
-    refused = [it for it in lines if it.endswith(": not proved")]
-    return True, f"refused: {', '.join(refused)}; {told[0] if told else ''}"[:240]
+    errors = [it for it in lines if re.match(r"\S+:\d+:\d+: error", it) and not re.match(by_name, it)]
+    notes = [it for it in lines if re.match(r"note: \S+:\d+:\d+: it is not proved that ", it)]
+    unproved = [it for it in lines if re.match(r"fn \S+: no proof: .* did not prove ", it)]
+    return next(iter([*errors, *notes, *unproved]), "")
 
 
 def try_as_it_stands(kit, crate, text, kept):
@@ -91,11 +97,11 @@ def try_as_it_stands(kit, crate, text, kept):
     return bool(is_proved), "proved" if is_proved else f"NOT PROVED: {lines[-1]}"
 
 
-def try_crate(kit, crate, printing):
+def try_crate(kit, crate, edits, printing):
     """Tries the crate's edits one after another, and at last the crate as it stands; answers how many
     went as wanted, and how many did not."""
     counts = [0, 0]
-    folder = f"{EDITS}/{crate.name}"
+    folder = f"{edits}/{crate.name}"
     with tempfile.TemporaryDirectory(prefix="wrong-bodies-") as kept:
         tries = [(name, try_edit) for name in sorted(os.listdir(folder))]
         for name, call in [*tries, (tries[0][0], try_as_it_stands)]:
@@ -110,15 +116,15 @@ def try_crate(kit, crate, printing):
     return counts
 
 
-def try_crates(kit, crates):
+def try_crates(kit, crates, edits):
     """Tries the crates' edits, as many crates at once as there are processors and memory for, those with
     the most edits first."""
     fixed = os.environ.get("RT_JOBS", "")
     lanes = int(fixed) if fixed.isdigit() else min(kit.processors(), int(0.85 * kit.free() / ROOM))
-    crates = sorted(crates, key=lambda it: -len(os.listdir(f"{EDITS}/{it.name}")))
+    crates = sorted(crates, key=lambda it: -len(os.listdir(f"{edits}/{it.name}")))
     printing = threading.Lock()
     with ThreadPoolExecutor(max(lanes, 1)) as pool:
-        counts = list(pool.map(lambda it: try_crate(kit, it, printing), crates))
+        counts = list(pool.map(lambda it: try_crate(kit, it, edits, printing), crates))
     return [sum(it) for it in zip(*counts)]
 
 
@@ -127,7 +133,8 @@ def main(words):
     kit = load_kit()
     # its first call sets a signal's handler, which only the main thread may
     kit.rtlib.guarded()
-    names = [it for it in words if it != "--built"] or sorted(os.listdir(EDITS))
+    edits = FURTHER if "--further" in words else EDITS
+    names = [it for it in words if not it.startswith("--")] or sorted(os.listdir(edits))
     crates = [it for it in kit.rtlib.crates_below(os.getcwd()) if it.name in names]
     if len(crates) != len(names):
         print(f"wrong bodies: no such crate among {' '.join(names)}")
@@ -136,7 +143,7 @@ def main(words):
     lacking = [it for it in below.values() if not has_library(it, "--built" in words)]
     if any(it.build_rlib(["--jobs", "1"], anew=False) for it in lacking):
         return 1
-    wanted, failed = try_crates(kit, crates)
+    wanted, failed = try_crates(kit, crates, edits)
     print(f"wrong bodies: {wanted} as wanted, {failed} not")
     return 1 if failed else 0
 

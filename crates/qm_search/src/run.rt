@@ -5,6 +5,8 @@ ghost use Rattle.std.specs.Io.KnownBytes.{Appends, Keeps};
 ghost use Rattle.qm_search.specs.Runs.{AnswersLine, IsReadAs, IsRun, output};
 ghost use Rattle.qm_search.specs.State.{state};
 
+mod in_memory;
+
 use crate::answer::answer_command;
 use crate::corpus::Corpus;
 use crate::lines::Lines;
