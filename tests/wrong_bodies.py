@@ -60,10 +60,10 @@ def check(kit, crate, texts, path, kept):
     what it printed."""
     ran = kit.checked(crate, texts, ["--jobs", "1", "--only", path], kept)
     lines = ran.stdout.rstrip("\n").split("\n")
-    answer = re.fullmatch(r"only=(\d+) proved=(\d+)", lines[-1])
+    answer = re.fullmatch(r"only=(\d+) proved=\d+", lines[-1])
     if not answer or answer[1] == "0" or ran.returncode not in (0, 1):
         return None, lines
-    return ran.returncode == 0 and answer[1] == answer[2], lines
+    return ran.returncode == 0, lines
 
 
 def try_edit(kit, crate, text, kept):
@@ -111,8 +111,9 @@ def try_crate(kit, crate, edits, printing):
             is_well, said = call(kit, crate, text, kept)
             counts[not is_well] += 1
             what = name if call is try_edit else "as it stands"
+            seconds = f"{time.monotonic() - start:.0f} s"
             with printing:
-                print(f"wrong body {crate.name}/{what} ({time.monotonic() - start:.0f} s): {said}", flush=True)
+                print(f"wrong body {crate.name}/{what} ({seconds}): {said}", flush=True)
     return counts
 
 
