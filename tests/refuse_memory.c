@@ -1,7 +1,7 @@
-// Preloaded under a test binary, this refuses the requests for memory that the test names. It is a
+// Preloaded under a program of cases, this refuses the requests for memory that a case names. It is a
 // tool of the tests: no crate knows of it.
 //
-// A test says what to refuse by a request that no allocator can grant, of 2^61 + n bytes: the n-th
+// A case says what to refuse by a request that no allocator can grant, of 2^61 + n bytes: the n-th
 // request from then on is refused, or none where n is 0. With 2^60 added, all requests after that
 // one are refused too. Without this library such a request just fails.
 #include <errno.h>

@@ -1,19 +1,24 @@
 #!/usr/bin/env python3
 """Tries wrong bodies: each edit in tests/wrong_bodies/CRATE must be refused by that crate's contracts.
 
-    python3 tests/wrong_bodies.py [--further] [--built] [CRATE..]
+    python3 tests/wrong_bodies.py [--built] [--anew] [--write] [--said FOLDER] [CRATE..]
 
-An edit has the form of those in must-fail/, which `rt ci` tries. But that proves the whole crate for its
-first edit, and goes over the whole of it for each other one; here what an edit changes is checked alone,
-with what it calls: what its line `checked: PATH` names, as `rt check --only PATH` takes it. Beside the edits
-of a crate, one of these paths is checked in the crate as it stands, and must be proved. Libraries are built
-where they have changed; with --built they are taken as `rt ci` has left them. Called by .ci/run after
-`rt ci`, but for the edits in tests/further_wrong_bodies, which --further tries in place of the others. The
-exit status is 1 where an edit is not refused. RT_JOBS says how many crates are gone through at once.
+wrong_edit.py says what an edit is. A function's proof stands on the contracts of what it calls and not on
+their bodies, so edits of different functions are tried in one check. A batch has at most one edit of a
+function, and of a cycle of functions, which have one proof. An edit counts only where the check says of its
+own function that it is not proved and shows which goal fails; that a function only calls another which is
+not proved, or that a proof only lost a name, does not count. What a batch leaves undecided so is tried once
+more, and at last alone. First the crate as it stands must be proved for these functions; each check of a
+batch begins with the work that this one kept.
+
+What was refused is kept in ~/.cache/birchagain/wrong_bodies, or in the folder that WRONG_BODIES_KEPT names,
+by the sums of the crate, of all crates below it, of the edit and of the toolchain, and is not tried again;
+--anew tries all. Libraries are built where they have changed; with --built they are taken as `rt ci` has left
+them. --write writes the lines `refused by:` anew from what the checks say, and --said keeps what they wrote.
+RT_JOBS says how many processors are used. The exit status is 1 where an edit is not refused.
 """
 
-import importlib.machinery
-import importlib.util
+import hashlib
 import os
 import re
 import shutil
@@ -23,128 +28,268 @@ import threading
 import time
 from concurrent.futures import ThreadPoolExecutor
 
-ROOT = os.path.join(os.path.dirname(os.path.abspath(__file__)), "..")
-EDITS, FURTHER = "tests/wrong_bodies", "tests/further_wrong_bodies"
+sys.dont_write_bytecode = True
+HERE = os.path.dirname(os.path.abspath(__file__))
+sys.path.insert(0, HERE)
+
+import kit  # noqa: E402
+from refusals import Verdict  # noqa: E402
+from wrong_edit import BadEdit, Edit, batches_of  # noqa: E402
+
+EDITS = f"{HERE}/wrong_bodies"
 # what a check takes at most, in bytes
-ROOM = 2_500_000_000
+ROOM = 3_000_000_000
+PRINTING = threading.Lock()
 
 
-def load_kit():
-    """The toolchain's command `rt`, as a module: how it reads an edit and checks a crate with it."""
-    path = os.path.realpath(shutil.which("rt"))
-    sys.dont_write_bytecode = True
-    sys.path.insert(0, os.path.dirname(path))
-    loader = importlib.machinery.SourceFileLoader("kit", path)
-    kit = importlib.util.module_from_spec(importlib.util.spec_from_loader("kit", loader))
-    loader.exec_module(kit)
-    return kit
+class Kept:
+    """What was refused before: a file for each edit, named by the sums of all that its refusal hangs on."""
+
+    def __init__(self, crate, anew):
+        at = os.environ.get("WRONG_BODIES_KEPT") or os.path.expanduser("~/.cache/birchagain/wrong_bodies")
+        self.folder, self.crate, self.sum, self.anew = at, crate, crate.sum(), anew
+
+    def file(self, edit):
+        return f"{self.folder}/{hashlib.sha256(f'{self.sum} {edit.text}'.encode()).hexdigest()}"
+
+    def has(self, edit):
+        return not self.anew and os.path.isfile(self.file(edit))
+
+    def is_current(self):
+        """Whether nobody has changed the crate since."""
+        return self.sum == self.crate.sum()
+
+    def keep(self, edit):
+        os.makedirs(self.folder, exist_ok=True)
+        with open(self.file(edit), "w", encoding="utf-8") as it:
+            it.write(f"{self.crate.name}/{edit.name}\n")
 
 
-def checked_path(text):
-    """What is checked of a crate with this edit, as its line says."""
-    named = re.search(r"^checked: (\S+)$", text, re.M)
-    return named[1] if named else None
+class Lanes:
+    """The processors, shared by the crates that are still being tried."""
+
+    def __init__(self):
+        fixed = os.environ.get("RT_JOBS", "")
+        here = len(os.sched_getaffinity(0))
+        self.count = max(1, int(fixed) if fixed.isdigit() else min(here, free_memory() // ROOM))
+        self.crates = 0
+
+    def done(self):
+        self.crates -= 1
+
+    def jobs(self):
+        """How many jobs a check gets: more than one where fewer crates are left than processors."""
+        return max(1, self.count // max(self.crates, 1))
 
 
-def has_library(crate, is_after_ci):
-    """Whether the crate's library is there for those above it. What `rt ci` builds bears no stamp, and
-    where it found a library of the session's own it has put that back, which may be old."""
-    if os.path.exists(f"{os.path.dirname(crate.rlib)}/stamp"):
-        return crate.is_built()
-    return is_after_ci and os.path.exists(crate.rlib)
+class Trial:
+    """The edits of one crate: how many went as wanted, and how many did not."""
 
+    def __init__(self, crate, options, lanes):
+        self.crate, self.options, self.lanes = crate, options, lanes
+        self.kept, self.counts = Kept(crate, "--anew" in options), [0, 0]
+        self.left = self.edits_left()
 
-def check(kit, crate, texts, path, kept):
-    """Checks this part of a copy of the crate with these texts in place of its own, over what earlier
-    checks have kept: whether all of it is proved, or None where the check came to no such answer, and
-    what it printed."""
-    ran = kit.checked(crate, texts, ["--jobs", "1", "--only", path], kept)
-    lines = ran.stdout.rstrip("\n").split("\n")
-    answer = re.fullmatch(r"only=(\d+) proved=\d+", lines[-1])
-    if not answer or answer[1] == "0" or ran.returncode not in (0, 1):
-        return None, lines
-    return ran.returncode == 0, lines
+    def tell(self, name, is_well, said, how="not tried"):
+        self.counts[not is_well] += 1
+        with PRINTING:
+            print(f"wrong body {self.crate.name}/{name} ({how}): {' '.join(said.split())}", flush=True)
 
+    def run(self):
+        """Tries the edits that are left."""
+        with tempfile.TemporaryDirectory(prefix="wrong-bodies-") as room:
+            self.try_all(self.left, room)
+        self.lanes.done()
 
-def try_edit(kit, crate, text, kept):
-    """Whether the crate is refused with this edit, and what to say of it."""
-    texts, why = kit.edited(text, crate.folder)
-    path = checked_path(text)
-    if why or not path:
-        return False, f"BAD EDIT: {why or 'it has no line checked: PATH'}"
-    is_proved, lines = check(kit, crate, texts, path, kept)
-    if is_proved:
-        return False, f"NOT REFUSED: {path} is still proved"
-    unread = next((it for it in lines if kit.unread(it, texts)), None)
-    if is_proved is None or unread:
-        return False, f"BAD EDIT: no contract was tried: {unread or lines[-1]}"
-    told = refusal(lines)
-    return bool(told), f"refused: {told[:240]}" if told else f"BAD EDIT: no contract refused it: {lines[0]}"
+    def edits_left(self):
+        """The edits that were not refused before."""
+        left = []
+        for edit in self.edits():
+            if self.kept.has(edit):
+                self.tell(edit.name, True, f"refused before by {edit.refused_by}", "kept")
+            else:
+                left.append(edit)
+        return left
 
-
-def refusal(lines):
-    """Where a check says that a contract is not met, which is more than that a proof lost a name."""
-    by_name = r"(\./)?proofs/.*(has no field|is not in scope|has no `|was not admitted)"
-    errors = [it for it in lines if re.match(r"\S+:\d+:\d+: error", it) and not re.match(by_name, it)]
-    notes = [it for it in lines if re.match(r"note: \S+:\d+:\d+: it is not proved that ", it)]
-    unproved = [it for it in lines if re.match(r"fn \S+: no proof: .* did not prove ", it)]
-    return next(iter([*errors, *notes, *unproved]), "")
-
-
-def try_as_it_stands(kit, crate, text, kept):
-    """The same for the crate without this edit, which must be proved."""
-    is_proved, lines = check(kit, crate, {}, checked_path(text) or "", kept)
-    return bool(is_proved), "proved" if is_proved else f"NOT PROVED: {lines[-1]}"
-
-
-def try_crate(kit, crate, edits, printing):
-    """Tries the crate's edits one after another, and at last the crate as it stands; answers how many
-    went as wanted, and how many did not."""
-    counts = [0, 0]
-    folder = f"{edits}/{crate.name}"
-    with tempfile.TemporaryDirectory(prefix="wrong-bodies-") as kept:
-        tries = [(name, try_edit) for name in sorted(os.listdir(folder))]
-        for name, call in [*tries, (tries[0][0], try_as_it_stands)]:
+    def edits(self):
+        """The crate's edits that can be tried."""
+        folder = f"{EDITS}/{self.crate.name}"
+        for name in sorted(os.listdir(folder)):
             with open(f"{folder}/{name}", encoding="utf-8") as it:
                 text = it.read()
-            start = time.monotonic()
-            is_well, said = call(kit, crate, text, kept)
-            counts[not is_well] += 1
-            what = name if call is try_edit else "as it stands"
-            seconds = f"{time.monotonic() - start:.0f} s"
-            with printing:
-                print(f"wrong body {crate.name}/{what} ({seconds}): {said}", flush=True)
-    return counts
+            try:
+                edit = Edit(self.crate, name, text)
+                if not edit.refused_by and "--write" not in self.options:
+                    raise BadEdit("it has no line refused by:")
+                yield edit
+            except BadEdit as why:
+                self.tell(name, False, f"BAD EDIT: {why}")
+
+    def try_all(self, edits, room):
+        """Checks the crate as it stands, then the edits in batches, and at last alone what two batches left."""
+        seed = f"{room}/seed"
+        linked(kit.kept_work(self.crate), seed)
+        left, undecided = self.proved_before(edits, seed), []
+        while left:
+            batch, texts = batches_of(self.crate, left)[0]
+            again = self.try_batch(batch, texts, seed, room)
+            # what a batch does not decide shares a later one
+            left = [it for it in left if it not in batch] + [it for it in again if it not in undecided]
+            undecided += again
+        for edit in dict.fromkeys(it for it in undecided if undecided.count(it) > 1):
+            self.try_batch([edit], edit.apply(self.crate, {}), seed, room)
+
+    def proved_before(self, edits, seed):
+        """Those of the edits whose functions are proved in the crate as it stands: all or none, but for those
+        that name no function."""
+        if not edits:
+            return []
+        start = time.monotonic()
+        status, lines = self.check("as it stands", edits, {}, seed)
+        unknown = re.search(r"has no function `(\S+)`", lines[-1])
+        if unknown and any(it.path == unknown[1] for it in edits):
+            for edit in edits:
+                if edit.path == unknown[1]:
+                    self.tell(edit.name, False, f"BAD EDIT: {lines[-1]}")
+            return self.proved_before([it for it in edits if it.path != unknown[1]], seed)
+        if status != 0:
+            for edit in edits:
+                self.tell(edit.name, False, f"the crate as it stands is not proved: {lines[-1]}")
+            return []
+        with PRINTING:
+            print(f"{self.crate.name} as it stands ({time.monotonic() - start:.0f} s): proved", flush=True)
+        return edits
+
+    def try_batch(self, batch, texts, seed, room):
+        """Tries these edits in one check, and returns those that it leaves undecided."""
+        start, over, left = time.monotonic(), f"{room}/over", []
+        linked(seed, over)
+        status, lines = self.check(batch[0].name, batch, texts, over)
+        shutil.rmtree(over)
+        # (whoever changes the crate while it is checked has it checked again)
+        is_kept = self.kept.is_current()
+        how = f"{time.monotonic() - start:.0f} s, {f'one of {len(batch)}' if len(batch) > 1 else 'alone'}"
+        for edit in batch:
+            verdict = Verdict(self.crate, edit, lines)
+            refusal = verdict.refusal() if status is not None else None
+            if refusal:
+                self.settle(edit, *refusal, how, is_kept)
+            elif len(batch) > 1 and (status is not None or self.is_read(edit, seed)):
+                left.append(edit)
+            elif status is not None:
+                self.tell(edit.name, False, verdict.why_not(), how)
+            elif len(batch) == 1:
+                self.tell(edit.name, False, f"BAD EDIT: it did not reach the prover: {' '.join(lines)[:300]}", how)
+        return left
+
+    def is_read(self, edit, seed):
+        """Whether the crate with this edit alone is one that can be checked, as a batch with it was not."""
+        status, lines = self.check(edit.name, [], edit.apply(self.crate, {}), seed)
+        if status != 0:
+            self.tell(edit.name, False, f"BAD EDIT: it does not reach the prover: {' '.join(lines)[:300]}")
+        return status == 0
+
+    def settle(self, edit, words, message, how, is_kept):
+        """Says by what an edit is refused, and keeps it."""
+        if "--write" in self.options:
+            rest = re.sub(r"^refused by: .*\n", "", edit.text, flags=re.M)
+            edit.text = re.sub(r"^(checked: .*\n)", rf"\1refused by: {words[0]}\n", rest, count=1, flags=re.M)
+            edit.refused_by = words[0]
+            with open(f"{EDITS}/{self.crate.name}/{edit.name}", "w", encoding="utf-8") as it:
+                it.write(edit.text)
+        if is_kept:
+            self.kept.keep(edit)
+        if edit.refused_by in words:
+            said = edit.refused_by
+        else:
+            said = f"{words[0]} (and not, as its line says, by {edit.refused_by})"
+        self.tell(edit.name, True, f"refused by {said}: {message[:160]}", how)
+
+    def check(self, name, edits, texts, kept):
+        """Checks the functions of these edits in a copy of the crate with these texts in place of its own:
+        the status, or None where the check came to no answer, and its lines. Of no edit, it reads the crate."""
+        with tempfile.TemporaryDirectory(prefix="wrong-bodies-") as room:
+            for path in self.crate.files():
+                os.makedirs(os.path.dirname(f"{room}/{path}"), exist_ok=True)
+                with open(f"{room}/{path}", "w", encoding="utf-8") as it:
+                    it.write(texts.get(path) or self.crate.read(path))
+            paths = sorted({it.path for it in edits}) or [""]
+            status, lines = kit.check(self.crate, room, kept, paths, self.lanes.jobs())
+        said = option(self.options, "--said")
+        if said:
+            os.makedirs(said, exist_ok=True)
+            with open(f"{said}/{self.crate.name} {name} {len(edits)}", "w", encoding="utf-8") as it:
+                it.write("\n".join(lines))
+        is_answer = re.fullmatch(r"only=\d+ proved=\d+", lines[-1]) and status in (0, 1)
+        return (status if is_answer else None), lines
 
 
-def try_crates(kit, crates, edits):
-    """Tries the crates' edits, as many crates at once as there are processors and memory for, those with
-    the most edits first."""
-    fixed = os.environ.get("RT_JOBS", "")
-    lanes = int(fixed) if fixed.isdigit() else min(kit.processors(), int(0.85 * kit.free() / ROOM))
-    crates = sorted(crates, key=lambda it: -len(os.listdir(f"{edits}/{it.name}")))
-    printing = threading.Lock()
-    with ThreadPoolExecutor(max(lanes, 1)) as pool:
-        counts = list(pool.map(lambda it: try_crate(kit, it, edits, printing), crates))
-    return [sum(it) for it in zip(*counts)]
+def linked(folder, to):
+    """Makes a second folder of the same files, where there is the first: a check replaces a file and never
+    writes into one."""
+    def link(one, other):
+        try:
+            os.link(one, other)
+        except FileNotFoundError:
+            pass  # (a check that runs there has just replaced it)
+        except OSError:
+            shutil.copyfile(one, other)
+
+    if os.path.isdir(folder):
+        shutil.copytree(folder, to, copy_function=link)
+    else:
+        os.makedirs(to)
+
+
+def free_memory():
+    """The free memory in bytes, under the limit of the control group too."""
+    with open("/proc/meminfo", encoding="utf-8") as it:
+        found = 1024 * int(re.search(r"MemAvailable:\s+(\d+)", it.read())[1])
+    try:
+        with open("/sys/fs/cgroup/memory.max", encoding="utf-8") as limit:
+            most = int(limit.read())
+        with open("/sys/fs/cgroup/memory.stat", encoding="utf-8") as it:
+            return min(found, most - int(re.search(r"anon (\d+)", it.read())[1]))
+    except (OSError, ValueError):
+        return found  # (there is no such group, or it has no limit)
+
+
+def option(words, name):
+    """The word after this one."""
+    return words[words.index(name) + 1] if name in words else None
+
+
+def has_libraries(crates, is_after_ci, jobs):
+    """Has all libraries below these crates built. What `rt ci` leaves bears no stamp, and is only taken where
+    all of them come from it: where it found a library of whoever works here it has put that back, which may
+    be old and fits no other."""
+    below = {it.name: it for crate in crates for it in crate.below()}.values()
+    if is_after_ci and all(os.path.isdir(it.rlib) and not kit.has_stamp(it) for it in below):
+        return True
+    return all(kit.build_library(it, jobs) for it in below)
+
+
+def size(crate):
+    """About how long the crate takes: its text, and more for each crate below."""
+    return (1 + len(crate.below())) * sum(len(crate.read(it)) for it in crate.files())
 
 
 def main(words):
-    os.chdir(ROOT)
-    kit = load_kit()
-    # its first call sets a signal's handler, which only the main thread may
-    kit.rtlib.guarded()
-    edits = FURTHER if "--further" in words else EDITS
-    names = [it for it in words if not it.startswith("--")] or sorted(os.listdir(edits))
-    crates = [it for it in kit.rtlib.crates_below(os.getcwd()) if it.name in names]
-    if len(crates) != len(names):
+    said = option(words, "--said")
+    names = [it for it in words if not it.startswith("--") and it != said] or sorted(os.listdir(EDITS))
+    known = kit.crates_of(os.path.dirname(HERE))
+    if not {*names} <= {*known}:
         print(f"wrong bodies: no such crate among {' '.join(names)}")
         return 1
-    below = {it.name: it for crate in crates for it in crate.below()}
-    lacking = [it for it in below.values() if not has_library(it, "--built" in words)]
-    if any(it.build_rlib(["--jobs", "1"], anew=False) for it in lacking):
+    lanes = Lanes()
+    trials = [Trial(known[it], words, lanes) for it in names]
+    waiting = sorted((it for it in trials if it.left), key=lambda it: size(it.crate), reverse=True)
+    if not has_libraries([it.crate for it in waiting], "--built" in words, lanes.count):
         return 1
-    wanted, failed = try_crates(kit, crates, edits)
+    lanes.crates = len(waiting)
+    with ThreadPoolExecutor(lanes.count) as pool:
+        list(pool.map(Trial.run, waiting))
+    wanted, failed = (sum(it) for it in zip(*(it.counts for it in trials)))
     print(f"wrong bodies: {wanted} as wanted, {failed} not")
     return 1 if failed else 0
 

@@ -37,6 +37,3 @@ pub use score_combiner::ScoreCombiner;
 pub use scorer::Scorer;
 pub use sum_combiner::SumCombiner;
 pub use union::BufferedUnionScorer;
-
-#[cfg(test)]
-mod tests;

@@ -30,6 +30,3 @@ pub use numbers::{COLLECT_BLOCK_BUFFER_LEN, DocId, Score, TERMINATED};
 pub use steps::seek_by_steps;
 pub use tiny_set::TinySet;
 pub use vec_docset::VecDocSet;
-
-#[cfg(test)]
-mod tests;

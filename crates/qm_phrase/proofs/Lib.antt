@@ -11,8 +11,6 @@ pub mod PhraseLists
 pub mod PrefixEntries
 pub mod HandedIn
 mod PrefixEnds
-mod OverSegments
-pub mod OwnPostings
 pub mod SortedNumbers
 pub mod UnitedMembers
 pub mod UnitedLists

@@ -24,6 +24,3 @@ pub use phrase_scorer::PhraseScorer;
 pub use postings_with_offset::PostingsWithOffset;
 pub use prefix::prefix_end;
 pub use union::{BitSetPostingUnion, SimpleUnion};
-
-#[cfg(test)]
-mod tests;

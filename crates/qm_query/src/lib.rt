@@ -38,6 +38,3 @@ pub use phrase_query::PhraseQuery;
 pub use query::{Query, QueryClone};
 pub use scorers::query_scorer;
 pub use term_query::TermQuery;
-
-#[cfg(test)]
-mod tests;

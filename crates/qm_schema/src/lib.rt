@@ -16,6 +16,3 @@ pub use field::Field;
 pub use occur::Occur;
 pub use schema::{FieldEntry, IndexRecordOption, Schema, SchemaBuilder};
 pub use term::Term;
-
-#[cfg(test)]
-mod tests;

@@ -26,6 +26,3 @@ pub use group_builders::{at_least, intersect_scorers, union};
 pub use group_node::{GroupNode, Shape};
 pub use intersection_node::IntersectionNode;
 pub use optional_node::OptionalNode;
-
-#[cfg(test)]
-mod tests;

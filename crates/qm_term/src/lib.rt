@@ -11,6 +11,3 @@ mod term_scorer;
 pub use bm25::Bm25Weight;
 pub use explanation::Explanation;
 pub use term_scorer::TermScorer;
-
-#[cfg(test)]
-mod tests;

@@ -1,5 +1,4 @@
 pub mod SliceSteps
-mod WorkedTrees
 pub mod Leaves
 mod Listings
 mod Phrases

@@ -1,0 +1,98 @@
+//! Rows played on what answers with a text.
+
+use crate::fault::Fault;
+use crate::memory::{Memory, end_refusals, is_heard};
+use crate::report::Report;
+use crate::row::Row;
+use qm_schema::QueryError;
+use std::alloc::Global;
+
+// how many requests for memory a call may make
+const MOST_REQUESTS: u32 = 1000;
+
+/// What rows are asked of.
+pub trait Asker {
+    /// Makes the call that words name, with some requests for memory refused in that call and no other,
+    /// and writes what it answered behind the text.
+    fn ask(
+        &mut self,
+        alloc: Global,
+        call: &str,
+        memory: Memory,
+        text: &mut String,
+    ) -> Result<(), Fault>;
+}
+
+/// Plays rows. A row `refused each CALL` is made again and again, with the first of its requests for
+/// memory refused, then the second, until none is; each time it must be refused for want of memory
+/// before it has said anything. Behind a row `takes no memory` calls are made with every request refused.
+pub fn play_asked<A: Asker>(
+    alloc: Global,
+    asker: &mut A,
+    rows: &[Row<'_>],
+    report: &mut Report,
+) -> Result<(), Fault> {
+    let mut memory = Memory::Ample;
+    for row in rows {
+        if row.call == "takes no memory" {
+            report.compare(
+                row.line,
+                row.wanted,
+                if is_heard(alloc) { "" } else { "unheard" },
+            )?;
+            memory = Memory::None;
+        } else if row.is_refused {
+            play_refused(alloc, asker, row, report)?;
+        } else {
+            play_row(alloc, asker, row, memory, report)?;
+        }
+    }
+    Ok(())
+}
+
+// Plays one row.
+fn play_row<A: Asker>(
+    alloc: Global,
+    asker: &mut A,
+    row: &Row<'_>,
+    memory: Memory,
+    report: &mut Report,
+) -> Result<(), Fault> {
+    let answer = asker.ask(alloc, row.call, memory, &mut report.got);
+    end_refusals(alloc);
+    take(row, answer, report)
+}
+
+// Takes what a row was answered.
+fn take(row: &Row<'_>, answer: Result<(), Fault>, report: &mut Report) -> Result<(), Fault> {
+    match answer {
+        Ok(()) => Ok(report.take(row)?),
+        Err(Fault::Refused(error)) => Ok(report.refused(row, error)?),
+        Err(Fault::NotUnderstood) => Ok(report.wrong(row.line, "not understood")?),
+        Err(Fault::NotAllowed) => Ok(report.wrong(row.line, "not allowed")?),
+        Err(Fault::Memory) => Err(Fault::Memory),
+    }
+}
+
+// Plays a row with each of its requests for memory refused in turn.
+fn play_refused<A: Asker>(
+    alloc: Global,
+    asker: &mut A,
+    row: &Row<'_>,
+    report: &mut Report,
+) -> Result<(), Fault> {
+    for number in 1..MOST_REQUESTS {
+        let answer = asker.ask(alloc, row.call, Memory::Refused(number), &mut report.got);
+        end_refusals(alloc);
+        if answer != Err(Fault::Refused(QueryError::Memory)) {
+            if number == 1 {
+                return Ok(report.wrong(row.line, "no request for memory was refused")?);
+            }
+            return take(row, answer, report);
+        }
+        if !report.got.as_str().is_empty() {
+            return Ok(report.wrong(row.line, "a refused call that said something before")?);
+        }
+    }
+    Ok(report.wrong(row.line, "refused without an end")?)
+}

@@ -1,0 +1,61 @@
+//! Calls on a scorer.
+
+use crate::words::read_document;
+use qm_docset::DocId;
+
+/// A call on a scorer, by its word.
+#[derive(Clone, Copy, Debug, PartialEq, Eq)]
+pub enum Call {
+    Doc,
+    Advance,
+    Seek(DocId),
+    SeekDanger(DocId),
+    Fill,
+    Count,
+    Total,
+    Score,
+    /// all that is left, each document with its score
+    Scores,
+    MaxScore,
+    Hint,
+    Cost,
+    Moves,
+    MovesOfFirst,
+    MovesOfOthers,
+    /// all requests for memory are refused from here on
+    TakesNoMemory,
+    /// Words that name no call.
+    NotUnderstood,
+}
+
+/// The call that words name.
+pub fn read_call(text: &str) -> Call {
+    match text {
+        "doc" => Call::Doc,
+        "advance" => Call::Advance,
+        "fill" => Call::Fill,
+        "count" => Call::Count,
+        "total" => Call::Total,
+        "score" => Call::Score,
+        "scores" => Call::Scores,
+        "max_score" => Call::MaxScore,
+        "hint" => Call::Hint,
+        "cost" => Call::Cost,
+        "moves" => Call::Moves,
+        "moves of first" => Call::MovesOfFirst,
+        "moves of others" => Call::MovesOfOthers,
+        "takes no memory" => Call::TakesNoMemory,
+        _ => read_seek(text),
+    }
+}
+
+fn read_seek(text: &str) -> Call {
+    let Some((name, target)) = text.split_once(' ') else {
+        return Call::NotUnderstood;
+    };
+    match read_document(target) {
+        Some(target) if name == "seek" => Call::Seek(target),
+        Some(target) if name == "seek_danger" => Call::SeekDanger(target),
+        _ => Call::NotUnderstood,
+    }
+}

@@ -1,0 +1,142 @@
+//! A file of cases.
+
+use crate::block::{Block, Player};
+use crate::fault::Fault;
+use crate::memory::{Memory, end_refusals, is_heard};
+use crate::report::Report;
+use crate::row::{Row, read_row};
+use crate::words::{behind, words_of};
+use qm_schema::QueryError;
+use std::alloc::Global;
+
+// how many requests for memory a block may make
+const MOST_REQUESTS: u32 = 1000;
+
+/// Plays the blocks of a text. A line that begins with a space is a row of the block above it, a line
+/// `file NAME` begins a file, and `#` a comment.
+pub fn play_cases<P: Player>(
+    alloc: Global,
+    player: &mut P,
+    text: &str,
+    report: &mut Report,
+) -> Result<(), Fault> {
+    let mut rows: Vec<Row<'_>> = Vec::new(alloc);
+    let mut head = "";
+    let mut head_line = 0;
+    // the rows are those below the head, as far as they were read
+    for (line, text) in (1..u64::MAX).zip(text.lines()) {
+        if text.trim_start().starts_with('#') {
+            continue;
+        }
+        if text.starts_with(' ') {
+            rows.push(read_row(line, text))?;
+        } else if !text.is_empty() {
+            play_head(alloc, player, head_line, head, &rows, report)?;
+            rows.clear();
+            head = text;
+            head_line = line;
+        }
+    }
+    play_head(alloc, player, head_line, head, &rows, report)?;
+    Ok(report.finish()?)
+}
+
+// Plays a block, or begins a file; none stands above the first.
+fn play_head<P: Player>(
+    alloc: Global,
+    player: &mut P,
+    line: u64,
+    head: &str,
+    rows: &[Row<'_>],
+    report: &mut Report,
+) -> Result<(), Fault> {
+    if let Some(name) = head.strip_prefix("file ") {
+        return Ok(report.begin_file(line, name)?);
+    }
+    let row = read_row(line, head);
+    let words = words_of(alloc, row.call)?;
+    let (words, memory) = if row.is_refused {
+        (words.as_slice(), Memory::Refused(1))
+    } else if row.call.starts_with("takes no memory ") {
+        (behind(&words, 3), Memory::None)
+    } else {
+        (words.as_slice(), Memory::Ample)
+    };
+    let block = Block {
+        line,
+        words,
+        rows,
+        memory,
+    };
+    if words.is_empty() && rows.is_empty() {
+        return Ok(());
+    }
+    if memory == Memory::None && !is_heard(alloc) {
+        report.wrong(line, "no refusal of memory is heard")?;
+    }
+    let played = if row.is_refused {
+        play_refused(alloc, player, block, report)
+    } else {
+        play_once(alloc, player, block, report)
+    };
+    end(&row, rows.len(), played, report)
+}
+
+// Plays a block once.
+fn play_once<P: Player>(
+    alloc: Global,
+    player: &mut P,
+    block: Block<'_>,
+    report: &mut Report,
+) -> Result<(), Fault> {
+    let played = player.play(alloc, block, report);
+    end_refusals(alloc);
+    played
+}
+
+// Plays a block again and again, with the first request for memory refused as its thing is made, then
+// the second, until none is.
+fn play_refused<P: Player>(
+    alloc: Global,
+    player: &mut P,
+    block: Block<'_>,
+    report: &mut Report,
+) -> Result<(), Fault> {
+    for number in 1..MOST_REQUESTS {
+        let memory = Memory::Refused(number);
+        let played = play_once(alloc, player, Block { memory, ..block }, report);
+        if played != Err(Fault::Refused(QueryError::Memory)) {
+            if number == 1 {
+                report.wrong(block.line, "no request for memory was refused")?;
+            }
+            return played;
+        }
+    }
+    Err(Fault::Refused(QueryError::Memory))
+}
+
+// Takes what came of a block of so many rows.
+fn end(
+    head: &Row<'_>,
+    rows: usize,
+    played: Result<(), Fault>,
+    report: &mut Report,
+) -> Result<(), Fault> {
+    let is_to_be_made = head.wanted.is_empty();
+    match played {
+        Err(Fault::Memory) => return Err(Fault::Memory),
+        Err(Fault::NotUnderstood) => report.wrong(head.line, "not understood")?,
+        Err(Fault::NotAllowed) => report.wrong(head.line, "not allowed")?,
+        Err(Fault::Refused(error)) => report.refused(head, error)?,
+        Ok(()) => {
+            if !is_to_be_made {
+                report.compare(head.line, head.wanted, "made")?;
+            }
+        }
+    }
+    // rows that nothing answered
+    if is_to_be_made == (rows == 0) {
+        report.wrong(head.line, "rows that are not played, or none")?;
+    }
+    Ok(())
+}

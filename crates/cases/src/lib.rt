@@ -1,0 +1,32 @@
+//! What programs of cases have in common: files of blocks and rows, cursors of the cases' own, what
+//! plays rows on any scorer, and the report. `docs/CASES.md` has the language.
+#![tactic(auto)]
+
+mod answer;
+mod asked;
+mod block;
+mod call;
+mod documents;
+mod fault;
+mod file;
+mod leaf;
+mod memory;
+mod moves;
+mod play;
+mod report;
+mod row;
+mod words;
+
+pub use answer::{write_document, write_space};
+pub use asked::{Asker, play_asked};
+pub use block::{Block, Player};
+pub use documents::read_documents;
+pub use fault::Fault;
+pub use file::play_cases;
+pub use leaf::{Leaf, read_leaf, read_leaves};
+pub use memory::{Memory, end_refusals};
+pub use moves::Moves;
+pub use play::{Desk, play_scores};
+pub use report::Report;
+pub use row::Row;
+pub use words::{behind, number, read_document, score, word, words_of};

@@ -1,0 +1,42 @@
+//! Memory that is refused. `tests/refuse_memory.c`, where it is preloaded, hears a request of an
+//! impossible size; without it such a request just fails, and nothing is refused.
+
+use std::alloc::Global;
+
+/// Which requests for memory are refused as a call is made.
+#[derive(Clone, Copy, Debug, PartialEq, Eq)]
+pub enum Memory {
+    Ample,
+    /// The request of this number, counted from 1.
+    Refused(u32),
+    /// The first request, and all behind it.
+    None,
+}
+
+impl Memory {
+    /// From now on these requests are refused.
+    pub fn begin(self, alloc: Global) {
+        match self {
+            Memory::Ample => refuse(alloc, 0),
+            Memory::Refused(number) => refuse(alloc, number as usize),
+            Memory::None => refuse(alloc, (1 << 60) + 1),
+        }
+    }
+}
+
+/// From now on no request is refused.
+pub fn end_refusals(alloc: Global) {
+    refuse(alloc, 0);
+}
+
+/// Whether a refusal is heard.
+pub fn is_heard(alloc: Global) -> bool {
+    Memory::Refused(1).begin(alloc);
+    let is_refused = Vec::<u8>::with_capacity(alloc, 1).is_err();
+    end_refusals(alloc);
+    is_refused
+}
+
+fn refuse(alloc: Global, which: usize) {
+    let _ = Vec::<u8>::with_capacity(alloc, (1usize << 61) | which);
+}

@@ -1,0 +1,2 @@
+mod EntriesBelow
+mod MoreTerms

@@ -1,0 +1,139 @@
+//! Rows on a cursor.
+
+ghost use Rattle.std.specs.Prelude.{IsTrue};
+ghost use Rattle.qm_docset.specs.Lists.{IsPlaced};
+
+use crate::moved::{Moved, make_move, read_move};
+use cases::{Fault, Memory, Report, Row, end_refusals};
+use qm_docset::{AliveBitSet, COLLECT_BLOCK_BUFFER_LEN, DocSet};
+use qm_schema::QueryError;
+use std::alloc::Global;
+
+// how many requests for memory a call may make
+const MOST_REQUESTS: u32 = 1000;
+
+/// A cursor that has calls of its own besides those of every cursor.
+pub trait Played: DocSet {
+    /// Makes a call of its own, where it is placed, with some requests for memory refused meanwhile, and
+    /// writes what it answered.
+    fn ask(
+        &mut self,
+        alloc: Global,
+        call: &str,
+        memory: Memory,
+        text: &mut String,
+    ) -> Result<(), Fault>
+        requires valid { Self.valid self.old }
+        requires placed { Self.placed self.old }
+        ensures valid { Self.valid self.new }
+        ensures placed { Self.placed self.new };
+}
+
+/// Plays rows on a cursor that is placed. Behind a row `takes no memory` every request for memory is
+/// refused.
+pub fn play_cursor<C: Played>(
+    alloc: Global,
+    alive: &AliveBitSet,
+    cursor: &mut C,
+    rows: &[Row<'_>],
+    report: &mut Report,
+) -> Result<(), Fault>
+    requires { IsPlaced C.DocSet cursor.old }
+{
+    let mut memory = Memory::Ample;
+    let mut placed = true;
+    // the cursor is one all the time, and stands on its first document where `placed` says so
+    for row in rows {
+        if row.call == "takes no memory" {
+            let heard = if is_heard(alloc) { "" } else { "unheard" };
+            report.compare(row.line, row.wanted, heard)?;
+            memory = Memory::None;
+        } else if row.is_refused {
+            play_refused(alloc, alive, cursor, &mut placed, row, report)?;
+        } else {
+            let text = &mut report.got;
+            let answer = ask(alloc, alive, cursor, &mut placed, row.call, memory, text);
+            take(row, answer, report)?;
+        }
+    }
+    Ok(())
+}
+
+// Whether a refusal of memory is heard.
+fn is_heard(alloc: Global) -> bool {
+    Memory::Refused(1).begin(alloc);
+    let is_refused = Vec::<u8>::with_capacity(alloc, 1).is_err();
+    end_refusals(alloc);
+    is_refused
+}
+
+// Plays a row with each of its requests for memory refused in turn.
+fn play_refused<C: Played>(
+    alloc: Global,
+    alive: &AliveBitSet,
+    cursor: &mut C,
+    placed: &mut bool,
+    row: &Row<'_>,
+    report: &mut Report,
+) -> Result<(), Fault>
+    requires valid { C.valid cursor.old }
+    requires placed { IsTrue placed.old → C.placed cursor.old }
+    ensures valid { C.valid cursor.new }
+    ensures placed { IsTrue placed.new → C.placed cursor.new }
+{
+    // the cursor is as it was
+    for number in 1..MOST_REQUESTS {
+        let memory = Memory::Refused(number);
+        let text = &mut report.got;
+        let answer = ask(alloc, alive, cursor, placed, row.call, memory, text);
+        if answer != Err(Fault::Refused(QueryError::Memory)) {
+            if number == 1 {
+                return Ok(report.wrong(row.line, "no request for memory was refused")?);
+            }
+            return take(row, answer, report);
+        }
+    }
+    Ok(report.wrong(row.line, "refused without an end")?)
+}
+
+// Makes one call, with some requests for memory refused meanwhile, and writes what it answered.
+fn ask<C: Played>(
+    alloc: Global,
+    alive: &AliveBitSet,
+    cursor: &mut C,
+    placed: &mut bool,
+    call: &str,
+    memory: Memory,
+    text: &mut String,
+) -> Result<(), Fault>
+    requires valid { C.valid cursor.old }
+    requires placed { IsTrue placed.old → C.placed cursor.old }
+    ensures valid { C.valid cursor.new }
+    ensures placed { IsTrue placed.new → C.placed cursor.new }
+{
+    let mut buffer = [0; COLLECT_BLOCK_BUFFER_LEN];
+    if let Some(call) = read_move(call) {
+        memory.begin(alloc);
+        let moved = make_move(alive, cursor, call, placed, &mut buffer);
+        end_refusals(alloc);
+        return match moved {
+            Moved::NotAllowed => Err(Fault::NotAllowed),
+            _ => Ok(moved.write(&buffer, text)?),
+        };
+    }
+    if !*placed {
+        return Err(Fault::NotAllowed);
+    }
+    cursor.ask(alloc, call, memory, text)
+}
+
+/// Takes what a row was answered.
+pub fn take(row: &Row<'_>, answer: Result<(), Fault>, report: &mut Report) -> Result<(), Fault> {
+    match answer {
+        Ok(()) => Ok(report.take(row)?),
+        Err(Fault::Refused(error)) => Ok(report.refused(row, error)?),
+        Err(Fault::NotUnderstood) => Ok(report.wrong(row.line, "not understood")?),
+        Err(Fault::NotAllowed) => Ok(report.wrong(row.line, "not allowed")?),
+        Err(Fault::Memory) => Err(Fault::Memory),
+    }
+}

@@ -1,0 +1,172 @@
+//! A segment that is being made.
+
+ghost use Rattle.std.specs.Prelude.{◌≤◌, length};
+
+use crate::spelled::{cut, read_field, read_number, read_numbers, read_term, read_text};
+use cases::{Asker, Fault, Memory, end_refusals, read_document};
+use qm_postings::{PlainDoc, SegmentBuilder, SegmentReader};
+use qm_schema::{Field, Schema};
+use std::alloc::{AllocError, Global};
+use std::mem;
+
+/// Makes a segment, document by document.
+#[derive(Drop)]
+pub struct Maker<'s> {
+    schema: &'s Schema,
+    builder: SegmentBuilder,
+    count: u32,
+    // the document that is made part by part
+    document: PlainDoc,
+    ghost counted: { count ≤ length builder.documents },
+}
+
+impl<'s> Maker<'s> {
+    /// A segment in blocks of so many postings. Some requests for memory are refused as it is begun.
+    pub fn new(
+        alloc: Global,
+        schema: &'s Schema,
+        block_len: u32,
+        memory: Memory,
+    ) -> Result<Maker<'s>, Fault> {
+        memory.begin(alloc);
+        let builder = SegmentBuilder::new(alloc, schema, block_len);
+        end_refusals(alloc);
+        Ok(Maker {
+            schema,
+            builder: builder?,
+            count: 0,
+            document: PlainDoc::new(alloc),
+        })
+    }
+
+    /// The segment of all documents that were added. Some requests for memory are refused meanwhile.
+    pub fn finish(self, alloc: Global, memory: Memory) -> Result<SegmentReader, Fault> {
+        memory.begin(alloc);
+        let built = self.builder.build(alloc);
+        end_refusals(alloc);
+        Ok(built?)
+    }
+
+    // Adds a document, and writes its number.
+    fn add(
+        &mut self,
+        alloc: Global,
+        document: PlainDoc,
+        memory: Memory,
+        text: &mut String,
+    ) -> Result<(), Fault> {
+        memory.begin(alloc);
+        let added = self.builder.add_document(document);
+        end_refusals(alloc);
+        let doc = added?;
+        self.count = doc.saturating_add(1);
+        Ok(write!(text, "{doc}")?)
+    }
+
+    // The document of the texts `NAME: WORDS ; NAME: WORDS`, or of the words of the first field.
+    fn read_whole(&self, alloc: Global, spelled: &str) -> Result<PlainDoc, Fault> {
+        let mut document = PlainDoc::new(alloc);
+        for part in spelled.split(';') {
+            let (field, words) = match part.split_once(':') {
+                Some((name, words)) => (read_field(self.schema, name.trim())?, words.trim()),
+                None => (Field::from_field_id(0), part.trim()),
+            };
+            let text = read_text(alloc, words)?;
+            document.add_text(alloc, field, text.as_str())?;
+        }
+        Ok(document)
+    }
+
+    // A text of a field.
+    fn add_text(&mut self, alloc: Global, spelled: &str, memory: Memory) -> Result<(), Fault> {
+        let (name, rest) = cut(spelled);
+        let field = read_field(self.schema, name)?;
+        let text = read_text(alloc, rest)?;
+        memory.begin(alloc);
+        let added = self.document.add_text(alloc, field, text.as_str());
+        end_refusals(alloc);
+        Ok(added?)
+    }
+
+    // A text of a field: so many numbers from 0 up, each less what is left of it by another number.
+    fn add_numbers(&mut self, alloc: Global, spelled: &str) -> Result<(), Fault> {
+        let (name, rest) = cut(spelled);
+        let (count, terms) = cut(rest);
+        let text = numbers_text(alloc, read_number(count)?, read_number(terms)?)?;
+        let field = read_field(self.schema, name)?;
+        Ok(self.document.add_text(alloc, field, text.as_str())?)
+    }
+
+    // A term of a field at positions.
+    fn add_term(&mut self, alloc: Global, spelled: &str, memory: Memory) -> Result<(), Fault> {
+        let (name, rest) = cut(spelled);
+        let (word, places) = cut(rest);
+        let term = read_term(alloc, read_field(self.schema, name)?, word)?;
+        let positions = read_numbers(alloc, places)?;
+        memory.begin(alloc);
+        let added = self.document.add_term(term, positions);
+        end_refusals(alloc);
+        Ok(added?)
+    }
+
+    // The length id of a field.
+    fn set_length(&mut self, alloc: Global, spelled: &str, memory: Memory) -> Result<(), Fault> {
+        let (name, id) = cut(spelled);
+        let field = read_field(self.schema, name)?;
+        let id = id.parse::<u8>().map_err(|_| Fault::NotUnderstood)?;
+        memory.begin(alloc);
+        let set = self.document.set_length(field, id);
+        end_refusals(alloc);
+        Ok(set?)
+    }
+
+    // Deletes a document that was added.
+    fn delete(&mut self, alloc: Global, spelled: &str, memory: Memory) -> Result<(), Fault> {
+        let doc = read_document(spelled).ok_or(Fault::NotUnderstood)?;
+        if doc >= self.count {
+            return Err(Fault::NotAllowed);
+        }
+        memory.begin(alloc);
+        let deleted = self.builder.delete(doc);
+        end_refusals(alloc);
+        Ok(deleted?)
+    }
+}
+
+impl<'s> Asker for Maker<'s> {
+    fn ask(
+        &mut self,
+        alloc: Global,
+        call: &str,
+        memory: Memory,
+        text: &mut String,
+    ) -> Result<(), Fault> {
+        let (name, rest) = cut(call);
+        match name {
+            // these were read before
+            "field" | "blocks" => Ok(()),
+            "doc" => {
+                let document = self.read_whole(alloc, rest)?;
+                self.add(alloc, document, memory, text)
+            }
+            "add" => {
+                let document = mem::replace(&mut self.document, PlainDoc::new(alloc));
+                self.add(alloc, document, memory, text)
+            }
+            "text" => self.add_text(alloc, rest, memory),
+            "numbers" => self.add_numbers(alloc, rest),
+            "term" => self.add_term(alloc, rest, memory),
+            "length" => self.set_length(alloc, rest, memory),
+            "delete" => self.delete(alloc, rest, memory),
+            _ => Err(Fault::NotUnderstood),
+        }
+    }
+}
+
+fn numbers_text(alloc: Global, count: u32, terms: u32) -> Result<String, AllocError> {
+    let mut text = String::new(alloc);
+    for number in 0..count {
+        write!(text, "{} ", number % terms.max(1))?;
+    }
+    Ok(text)
+}

@@ -1,0 +1,178 @@
+//! Moves of a cursor.
+
+ghost use Rattle.std.specs.Prelude.{IsTrue};
+ghost use Rattle.qm_docset.specs.Lists.{IsPlaced};
+
+use crate::spelled::cut;
+use cases::{read_document, write_document, write_space};
+use qm_docset::{
+    AliveBitSet, COLLECT_BLOCK_BUFFER_LEN, DocId, DocSet, SeekDangerResult, TERMINATED,
+};
+use std::alloc::AllocError;
+
+/// A call that every cursor has.
+#[derive(Clone, Copy, Debug)]
+pub enum Move {
+    Doc,
+    Advance,
+    Seek(DocId),
+    SeekDanger(DocId),
+    Fill,
+    Count,
+    Total,
+    Hint,
+    Cost,
+}
+
+/// What a call answered.
+#[derive(Clone, Copy, Debug)]
+pub enum Moved {
+    Document(DocId),
+    Found,
+    Below(DocId),
+    /// So many documents stand in the buffer.
+    Filled(usize),
+    Number(u64),
+    /// The call asks for what does not hold.
+    NotAllowed,
+}
+
+/// The call that words name, where every cursor has it.
+pub fn read_move(call: &str) -> Option<Move> {
+    match call {
+        "doc" => Some(Move::Doc),
+        "advance" => Some(Move::Advance),
+        "fill" => Some(Move::Fill),
+        "count" => Some(Move::Count),
+        "total" => Some(Move::Total),
+        "hint" => Some(Move::Hint),
+        "cost" => Some(Move::Cost),
+        _ => read_seek(call),
+    }
+}
+
+fn read_seek(call: &str) -> Option<Move> {
+    let (name, target) = cut(call);
+    let target = read_document(target)?;
+    match name {
+        "seek" => Some(Move::Seek(target)),
+        "seek_danger" => Some(Move::SeekDanger(target)),
+        _ => None,
+    }
+}
+
+/// Makes a call, where the cursor is placed if the call asks for that.
+pub fn make_move<C: DocSet>(
+    alive: &AliveBitSet,
+    cursor: &mut C,
+    call: Move,
+    placed: &mut bool,
+    buffer: &mut [DocId; COLLECT_BLOCK_BUFFER_LEN],
+) -> Moved
+    requires valid { C.valid cursor.old }
+    requires placed { IsTrue placed.old → C.placed cursor.old }
+    ensures valid { C.valid cursor.new }
+    ensures placed { IsTrue placed.new → C.placed cursor.new }
+{
+    match call {
+        Move::Seek(target) => seek(cursor, target, placed),
+        Move::SeekDanger(target) => seek_danger(cursor, target, placed),
+        Move::Hint => Moved::Number(u64::from(cursor.size_hint())),
+        Move::Cost => Moved::Number(cursor.cost()),
+        _ => {
+            if *placed {
+                move_placed(alive, cursor, call, buffer)
+            } else {
+                Moved::NotAllowed
+            }
+        }
+    }
+}
+
+fn seek<C: DocSet>(cursor: &mut C, target: DocId, placed: &mut bool) -> Moved
+    requires valid { C.valid cursor.old }
+    requires placed { IsTrue placed.old → C.placed cursor.old }
+    ensures valid { C.valid cursor.new }
+    ensures placed { IsTrue placed.new → C.placed cursor.new }
+{
+    if target > TERMINATED {
+        return Moved::NotAllowed;
+    }
+    *placed = true;
+    Moved::Document(cursor.seek(target))
+}
+
+fn seek_danger<C: DocSet>(cursor: &mut C, target: DocId, placed: &mut bool) -> Moved
+    requires valid { C.valid cursor.old }
+    requires placed { IsTrue placed.old → C.placed cursor.old }
+    ensures valid { C.valid cursor.new }
+    ensures placed { IsTrue placed.new → C.placed cursor.new }
+{
+    if target > TERMINATED {
+        return Moved::NotAllowed;
+    }
+    match cursor.seek_danger(target) {
+        SeekDangerResult::Found => {
+            *placed = true;
+            Moved::Found
+        }
+        SeekDangerResult::SeekLowerBound(bound) => {
+            *placed = false;
+            Moved::Below(bound)
+        }
+    }
+}
+
+// The calls that ask for a placed cursor, and keep it so.
+fn move_placed<C: DocSet>(
+    alive: &AliveBitSet,
+    cursor: &mut C,
+    call: Move,
+    buffer: &mut [DocId; COLLECT_BLOCK_BUFFER_LEN],
+) -> Moved
+    requires { IsPlaced C.DocSet cursor.old }
+    ensures { IsPlaced C.DocSet cursor.new }
+{
+    match call {
+        Move::Doc => Moved::Document(cursor.doc()),
+        Move::Advance => Moved::Document(cursor.advance()),
+        Move::Fill => Moved::Filled(cursor.fill_buffer(buffer)),
+        Move::Count => Moved::Number(u64::from(cursor.count(alive))),
+        Move::Total => Moved::Number(u64::from(cursor.count_including_deleted())),
+        _ => Moved::NotAllowed,
+    }
+}
+
+impl Moved {
+    /// Writes what a call answered, where it was made.
+    pub fn write(
+        self,
+        buffer: &[DocId; COLLECT_BLOCK_BUFFER_LEN],
+        text: &mut String,
+    ) -> Result<(), AllocError> {
+        match self {
+            Moved::Document(doc) => write_document(doc, text),
+            Moved::Found => text.push_str("found"),
+            Moved::Below(bound) => {
+                text.push_str("below ")?;
+                write_document(bound, text)
+            }
+            Moved::Filled(count) => write_filled(buffer, count, text),
+            Moved::Number(number) => write!(text, "{number}"),
+            Moved::NotAllowed => Ok(()),
+        }
+    }
+}
+
+// Writes the first so many documents of a buffer.
+fn write_filled(
+    buffer: &[DocId; COLLECT_BLOCK_BUFFER_LEN],
+    count: usize,
+    text: &mut String,
+) -> Result<(), AllocError> {
+    for doc in buffer.iter().take(count) {
+        write_space(text)?;
+        write_document(*doc, text)?;
+    }
+    Ok(())
+}

@@ -1,0 +1,213 @@
+//! Blocks of phrases over postings of the cases' own.
+
+ghost use Rattle.std.specs.Prelude.{◌≤◌, All, IfOk, vec_len};
+ghost use Rattle.qm_docset.specs.Lists.{IsPlaced};
+
+use crate::bench::Bench;
+use crate::making::play_owned;
+use crate::member::{read_members, read_suffixes, read_terms};
+use crate::own_postings::OwnPostings;
+use crate::spelled::{read_number, read_weight_or_none};
+use cases::{Asker, Block, Fault, Memory, Report, behind, end_refusals, word, words_of};
+use qm_docset::{DocSet, TERMINATED};
+use qm_phrase::{PhrasePrefixScorer, PhraseScorer, SimpleUnion};
+use qm_postings::{FieldNormReader, Postings};
+use qm_term::Bm25Weight;
+use std::alloc::Global;
+
+/// How a phrase is scored: in documents that all have one length id.
+#[derive(Clone, Copy)]
+struct Scoring {
+    weight: Option<Bm25Weight>,
+    length_id: u8,
+}
+
+// The scoring that `ID WEIGHT` spells, behind two other words.
+fn read_scoring(words: &[&str]) -> Result<Scoring, Fault> {
+    let length_id = word(words, 2)
+        .parse::<u8>()
+        .map_err(|_| Fault::NotUnderstood)?;
+    let weight = read_weight_or_none(word(words, 3))?;
+    Ok(Scoring { weight, length_id })
+}
+
+/// Plays `phrase SLOP ID WEIGHT OFFSET:POSITIONS ..`.
+pub fn play_phrase(
+    alloc: Global,
+    bench: &Bench,
+    block: Block<'_>,
+    report: &mut Report,
+) -> Result<(), Fault> {
+    let slop = read_number(word(block.words, 1))?;
+    let scoring = read_scoring(block.words)?;
+    let terms = read_terms(alloc, behind(block.words, 4))?;
+    if terms.len() < 2 {
+        return Err(Fault::NotAllowed);
+    }
+    let scorer = make_phrase(alloc, terms, scoring, slop, TERMINATED, block.memory)?;
+    play_owned(alloc, &bench.alive, scorer, block.rows, report)
+}
+
+// The scorer of a phrase in so many documents; some requests for memory are refused as it is made.
+fn make_phrase<P: Postings>(
+    alloc: Global,
+    terms: Vec<(usize, P)>,
+    scoring: Scoring,
+    slop: u32,
+    num_docs: u32,
+    memory: Memory,
+) -> Result<PhraseScorer<'static, P>, Fault>
+    requires all { TERMINATED ≤ num_docs }
+    requires two { 2 ≤ vec_len terms }
+    requires valid { All (λ pair. P.valid pair.1) terms.items }
+    requires offsets { All (λ pair. pair.0 ≤ 4294967295) terms.items }
+    ensures { IfOk result (IsPlaced ⟦<PhraseScorer<'static, P> as DocSet>⟧) }
+{
+    let reader = FieldNormReader::constant(num_docs, scoring.length_id);
+    memory.begin(alloc);
+    let made = PhraseScorer::new(alloc, terms, scoring.weight, reader, slop);
+    end_refusals(alloc);
+    Ok(made?)
+}
+
+/// Plays `prefix OFFSET ID WEIGHT OFFSET:POSITIONS .. ; :POSITIONS ..`, the first offset that of the
+/// prefix.
+pub fn play_prefix(
+    alloc: Global,
+    bench: &Bench,
+    block: Block<'_>,
+    report: &mut Report,
+) -> Result<(), Fault> {
+    let offset = read_number(word(block.words, 1))?;
+    let scoring = read_scoring(block.words)?;
+    let (full, ends) = halves(behind(block.words, 4));
+    let terms = read_terms(alloc, full)?;
+    if terms.is_empty() {
+        return Err(Fault::NotAllowed);
+    }
+    let suffixes = read_suffixes(alloc, ends)?;
+    let scorer = make_prefix(
+        alloc,
+        terms,
+        scoring,
+        suffixes,
+        offset,
+        TERMINATED,
+        block.memory,
+    )?;
+    play_owned(alloc, &bench.alive, scorer, block.rows, report)
+}
+
+// The words before the first `;`, and those behind it.
+fn halves<'a, 'b>(words: &'b [&'a str]) -> (&'b [&'a str], &'b [&'a str]) {
+    let count = words.len();
+    let at = words
+        .iter()
+        .position(|word| *word == ";")
+        .unwrap_or(count)
+        .min(count);
+    (&words[..at], behind(words, at.saturating_add(1)))
+}
+
+// The same of a phrase prefix at this offset.
+fn make_prefix<P: Postings>(
+    alloc: Global,
+    terms: Vec<(usize, P)>,
+    scoring: Scoring,
+    suffixes: Vec<P>,
+    offset: u32,
+    num_docs: u32,
+    memory: Memory,
+) -> Result<PhrasePrefixScorer<'static, P>, Fault>
+    requires all { TERMINATED ≤ num_docs }
+    requires some { 1 ≤ vec_len terms }
+    requires valid { All (λ pair. P.valid pair.1) terms.items }
+    requires suffixes { All P.valid suffixes.items }
+    requires offsets { All (λ pair. pair.0 ≤ 4294967295) terms.items }
+    ensures { IfOk result (IsPlaced ⟦<PhrasePrefixScorer<'static, P> as DocSet>⟧) }
+{
+    let reader = FieldNormReader::constant(num_docs, scoring.length_id);
+    let offset = offset as usize;
+    memory.begin(alloc);
+    let made = PhrasePrefixScorer::new(alloc, terms, scoring.weight, reader, suffixes, offset);
+    end_refusals(alloc);
+    Ok(made?)
+}
+
+/// Plays `unionphrase SLOP ID WEIGHT OFFSET@MEMBER+MEMBER ..`.
+pub fn play_union_phrase(
+    alloc: Global,
+    bench: &Bench,
+    block: Block<'_>,
+    report: &mut Report,
+) -> Result<(), Fault> {
+    let slop = read_number(word(block.words, 1))?;
+    let scoring = read_scoring(block.words)?;
+    let terms = read_unions(alloc, behind(block.words, 4))?;
+    if terms.len() < 2 {
+        return Err(Fault::NotAllowed);
+    }
+    let scorer = make_phrase(alloc, terms, scoring, slop, TERMINATED, block.memory)?;
+    play_owned(alloc, &bench.alive, scorer, block.rows, report)
+}
+
+// Unions, each with its offset.
+fn read_unions(
+    alloc: Global,
+    words: &[&str],
+) -> Result<Vec<(usize, SimpleUnion<OwnPostings>)>, Fault>
+    ensures valid { IfOk result (λ row. All (λ pair. ⟦<SimpleUnion<OwnPostings> as DocSet>⟧.valid pair.1) row.items) }
+    ensures offsets { IfOk result (λ row. All (λ pair. pair.0 ≤ 4294967295) row.items) }
+{
+    let mut row = Vec::new(alloc);
+    // all members so far are cursors, at offsets of 32 bits
+    for spelled in words {
+        let (offset, members) = spelled.split_once('@').ok_or(Fault::NotUnderstood)?;
+        let offset = read_number(offset)?;
+        row.push((offset as usize, read_union(alloc, members)?))?;
+    }
+    Ok(row)
+}
+
+fn read_union(alloc: Global, spelled: &str) -> Result<SimpleUnion<OwnPostings>, Fault>
+    ensures { IfOk result (IsPlaced ⟦<SimpleUnion<OwnPostings> as DocSet>⟧) }
+{
+    let mut words = Vec::new(alloc);
+    for member in spelled.split('+') {
+        words.push(member)?;
+    }
+    Ok(SimpleUnion::build(read_members(alloc, &words)?))
+}
+
+/// Rows that say how many starts a phrase of this slop has, by the words `OFFSET:POSITIONS ..`.
+#[derive(Drop)]
+pub struct PhraseCountRows {
+    pub slop: u32,
+    pub weight: Bm25Weight,
+}
+
+impl Asker for PhraseCountRows {
+    fn ask(
+        &mut self,
+        alloc: Global,
+        call: &str,
+        memory: Memory,
+        text: &mut String,
+    ) -> Result<(), Fault> {
+        let terms = read_terms(alloc, &words_of(alloc, call)?)?;
+        if terms.len() < 2 {
+            return Err(Fault::NotAllowed);
+        }
+        let scoring = Scoring {
+            weight: Some(self.weight),
+            length_id: 4,
+        };
+        let scorer = make_phrase(alloc, terms, scoring, self.slop, TERMINATED, memory)?;
+        let count = if scorer.doc() < TERMINATED {
+            scorer.phrase_count()
+        } else {
+            0
+        };
+        Ok(write!(text, "{count}")?)
+    }
+}

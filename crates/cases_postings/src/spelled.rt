@@ -1,0 +1,156 @@
+//! What words of a case spell.
+
+use cases::{Fault, read_documents, score};
+use qm_docset::DocId;
+use qm_schema::{Field, IndexRecordOption, Schema, Term};
+use qm_term::Bm25Weight;
+use std::alloc::{AllocError, Global};
+use std::array;
+
+/// What stands before the first space of a text, and what stands behind it.
+pub fn cut<'a>(text: &'a str) -> (&'a str, &'a str) {
+    match text.split_once(' ') {
+        Some(parts) => parts,
+        None => (text, ""),
+    }
+}
+
+/// The numbers that a word spells, with `,` between two: `1,4`, or `0..3` for 0, 1 and 2. An empty word
+/// spells none.
+pub fn read_numbers(alloc: Global, word: &str) -> Result<Vec<DocId>, Fault> {
+    let mut parts = Vec::new(alloc);
+    if !word.is_empty() {
+        for part in word.split(',') {
+            parts.push(part)?;
+        }
+    }
+    read_documents(alloc, &parts)
+}
+
+/// The text that is spelled: what stands between quotation marks, `w*3` for `www`, else as it is.
+pub fn read_text(alloc: Global, spelled: &str) -> Result<String, AllocError> {
+    let mut text = String::new(alloc);
+    if let Some(quoted) = spelled.strip_prefix("\"") {
+        text.push_str(quoted.strip_suffix("\"").unwrap_or(quoted))?;
+        return Ok(text);
+    }
+    let Some((part, times)) = spelled.split_once('*') else {
+        text.push_str(spelled)?;
+        return Ok(text);
+    };
+    for _ in 0..times.parse::<u32>().unwrap_or(0) {
+        text.push_str(part)?;
+    }
+    Ok(text)
+}
+
+/// The term of a field that a word spells.
+pub fn read_term(alloc: Global, field: Field, spelled: &str) -> Result<Term, Fault> {
+    let text = read_text(alloc, spelled)?;
+    Ok(Term::from_field_text(alloc, field, text.as_str())?)
+}
+
+/// The field of this name, or of the number behind `#`.
+pub fn read_field(schema: &Schema, name: &str) -> Result<Field, Fault> {
+    let found = match name.strip_prefix("#") {
+        Some(number) => number.parse::<u32>().ok().map(Field::from_field_id),
+        None => schema.get_field(name),
+    };
+    found.ok_or(Fault::NotUnderstood)
+}
+
+/// The bytes that a word spells: `\x` and two digits are a byte, `""` is no byte.
+pub fn read_bytes(alloc: Global, spelled: &str) -> Result<Vec<u8>, Fault> {
+    let mut bytes = Vec::new(alloc);
+    if spelled == "\"\"" {
+        return Ok(bytes);
+    }
+    let mut is_first = true;
+    for part in spelled.split("\\x") {
+        if is_first {
+            bytes.extend_from_slice(part.as_bytes())?;
+        } else {
+            let (digits, rest) = part.split_at_checked(2).ok_or(Fault::NotUnderstood)?;
+            let byte = u8::from_str_radix(digits, 16).map_err(|_| Fault::NotUnderstood)?;
+            bytes.push(byte)?;
+            bytes.extend_from_slice(rest.as_bytes())?;
+        }
+        is_first = false;
+    }
+    Ok(bytes)
+}
+
+/// Writes bytes as they are read.
+pub fn write_bytes(bytes: &[u8], text: &mut String) -> Result<(), AllocError> {
+    if bytes.is_empty() {
+        return text.push_str("\"\"");
+    }
+    for byte in bytes {
+        if byte.is_ascii_graphic() {
+            text.push(char::from(*byte))?;
+        } else {
+            write!(text, "\\x{byte:02x}")?;
+        }
+    }
+    Ok(())
+}
+
+/// What is asked of postings.
+pub fn read_option(name: &str) -> Result<IndexRecordOption, Fault> {
+    match name {
+        "basic" => Ok(IndexRecordOption::Basic),
+        "freqs" => Ok(IndexRecordOption::WithFreqs),
+        "positions" => Ok(IndexRecordOption::WithFreqsAndPositions),
+        _ => Err(Fault::NotUnderstood),
+    }
+}
+
+/// Each length id itself.
+pub fn same_norms() -> [u32; 256] {
+    array::from_fn(|id| id as u32)
+}
+
+/// The norms that a word spells: `same`, or one for all length ids, and behind it others as `AT:NORM`.
+pub fn read_norms(spelled: &str) -> Result<[u32; 256], Fault> {
+    if spelled == "same" {
+        return Ok(same_norms());
+    }
+    let mut norms = [0; 256];
+    for part in spelled.split(',') {
+        match part.split_once(':') {
+            None => norms = [read_number(part)?; 256],
+            Some((at, norm)) => match norms.get_mut(read_number(at)? as usize) {
+                Some(slot) => *slot = read_number(norm)?,
+                None => return Err(Fault::NotUnderstood),
+            },
+        }
+    }
+    Ok(norms)
+}
+
+/// The number that a word spells.
+pub fn read_number(word: &str) -> Result<u32, Fault> {
+    word.parse::<u32>().map_err(|_| Fault::NotUnderstood)
+}
+
+/// The weight that a word spells, as `1000`, or `1000*3` under a boost. The norm of each length id is the
+/// id.
+pub fn read_weight(spelled: &str) -> Result<Bm25Weight, Fault> {
+    let (weight, boost) = match spelled.split_once('*') {
+        Some(parts) => parts,
+        None => (spelled, "1"),
+    };
+    let (Some(weight), Some(boost)) = (score(&[weight], 0), score(&[boost], 0)) else {
+        return Err(Fault::NotUnderstood);
+    };
+    Ok(Bm25Weight::new(weight, same_norms())?.boost_by(boost)?)
+}
+
+/// The weight that a word spells, and nothing for `none`.
+pub fn read_weight_or_none(spelled: &str) -> Result<Option<Bm25Weight>, Fault> {
+    if spelled == "none" {
+        Ok(None)
+    } else {
+        Ok(Some(read_weight(spelled)?))
+    }
+}

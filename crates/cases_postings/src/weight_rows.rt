@@ -1,0 +1,94 @@
+//! Rows on weights of terms.
+
+use crate::explained::write_explanation;
+use crate::spelled::read_norms;
+use cases::{Asker, Fault, Memory, end_refusals, number, score, word, words_of};
+use qm_term::Bm25Weight;
+use std::alloc::Global;
+
+/// Rows on a weight.
+#[derive(Drop)]
+pub struct WeightRows {
+    pub weight: Bm25Weight,
+}
+
+/// The weight that the words `WEIGHT NORMS` spell. Some requests for memory are refused as it is made.
+pub fn make_weight(alloc: Global, words: &[&str], memory: Memory) -> Result<Bm25Weight, Fault> {
+    let norms = read_norms(word(words, 1))?;
+    let Some(weight) = score(words, 0) else {
+        return Err(Fault::NotUnderstood);
+    };
+    memory.begin(alloc);
+    let made = Bm25Weight::new(weight, norms);
+    end_refusals(alloc);
+    Ok(made?)
+}
+
+// The length id and the frequency that stand behind the first word.
+fn read_pair(words: &[&str]) -> Result<(u8, u32), Fault> {
+    let id = word(words, 1)
+        .parse::<u8>()
+        .map_err(|_| Fault::NotUnderstood)?;
+    let frequency = number(words, 2).ok_or(Fault::NotUnderstood)?;
+    Ok((id, frequency))
+}
+
+impl WeightRows {
+    // The weight under the boost that the second word spells.
+    fn boosted(&self, alloc: Global, words: &[&str], memory: Memory) -> Result<Bm25Weight, Fault> {
+        let Some(boost) = score(words, 1) else {
+            return Err(Fault::NotUnderstood);
+        };
+        memory.begin(alloc);
+        let boosted = self.weight.boost_by(boost);
+        end_refusals(alloc);
+        Ok(boosted?)
+    }
+
+    fn explain(
+        &self,
+        alloc: Global,
+        words: &[&str],
+        memory: Memory,
+        text: &mut String,
+    ) -> Result<(), Fault> {
+        let (id, frequency) = read_pair(words)?;
+        memory.begin(alloc);
+        let explanation = self.weight.explain(alloc, id, frequency);
+        end_refusals(alloc);
+        Ok(write_explanation(&explanation?, text)?)
+    }
+}
+
+impl Asker for WeightRows {
+    fn ask(
+        &mut self,
+        alloc: Global,
+        call: &str,
+        memory: Memory,
+        text: &mut String,
+    ) -> Result<(), Fault> {
+        let words = words_of(alloc, call)?;
+        match word(&words, 0) {
+            "score" => {
+                let (id, frequency) = read_pair(&words)?;
+                memory.begin(alloc);
+                let score = self.weight.score(id, frequency);
+                end_refusals(alloc);
+                Ok(write!(text, "{score}")?)
+            }
+            "max_score" => Ok(write!(text, "{}", self.weight.max_score())?),
+            "boost" => Ok(write!(text, "{}", self.weight.boost())?),
+            "boosted" => {
+                let boosted = self.boosted(alloc, &words, memory)?;
+                Ok(write!(text, "{}", boosted.max_score())?)
+            }
+            "boost_by" => {
+                self.weight = self.boosted(alloc, &words, memory)?;
+                Ok(())
+            }
+            "explain" => self.explain(alloc, &words, memory, text),
+            _ => Err(Fault::NotUnderstood),
+        }
+    }
+}

@@ -1,0 +1,76 @@
+//! What the calls of a pruned run answer.
+
+use crate::listing::{write_next, write_score};
+use cases::Fault;
+use qm_docset::{DocId, Score};
+use std::alloc::Global;
+
+/// What a call answers.
+#[derive(Clone, Copy, Debug)]
+pub enum Reply {
+    ItsScore,
+    Number(Score),
+}
+
+/// What the calls of a pruned run have said so far, and what those to come answer.
+#[derive(Drop)]
+pub struct Pruning<'a> {
+    pub text: &'a mut String,
+    /// these in turn, and the last one again and again
+    pub replies: &'a [Reply],
+    pub last: Reply,
+    /// whether the documents are written with their scores
+    pub has_scores: bool,
+}
+
+impl<'a> Pruning<'a> {
+    /// A call for a document.
+    pub fn call(&mut self, doc: DocId, score: Score) -> Score {
+        let _ = if self.has_scores {
+            write_score(self.text, doc, score)
+        } else {
+            write_next(self.text, doc)
+        };
+        if let Some((first, rest)) = self.replies.split_first() {
+            self.last = *first;
+            self.replies = rest;
+        }
+        match self.last {
+            Reply::ItsScore => score,
+            Reply::Number(answer) => answer,
+        }
+    }
+}
+
+/// The answers of `answers A..`; none where nothing stands there.
+pub fn read_replies(alloc: Global, words: &[&str]) -> Result<Vec<Reply>, Fault> {
+    let mut replies = Vec::new(alloc);
+    for word in words {
+        replies.push(read_reply(word)?)?;
+    }
+    Ok(replies)
+}
+
+fn read_reply(word: &str) -> Result<Reply, Fault> {
+    match word {
+        "score" => Ok(Reply::ItsScore),
+        "least" => Ok(Reply::Number(Score::MIN)),
+        "greatest" => Ok(Reply::Number(Score::MAX)),
+        _ => match word.parse() {
+            Ok(answer) => Ok(Reply::Number(answer)),
+            Err(_) => Err(Fault::NotUnderstood),
+        },
+    }
+}
+
+/// The threshold that a word spells.
+pub fn read_threshold(word: &str) -> Result<Score, Fault> {
+    match word {
+        "least" => Ok(Score::MIN),
+        "greatest" => Ok(Score::MAX),
+        _ => match word.parse() {
+            Ok(threshold) => Ok(threshold),
+            Err(_) => Err(Fault::NotUnderstood),
+        },
+    }
+}

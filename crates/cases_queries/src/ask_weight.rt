@@ -1,0 +1,103 @@
+//! Rows on a weight.
+
+use crate::answers::{Pruning, Reply};
+use crate::asked::{Asked, read_asked, replies_of, threshold_of};
+use crate::explained::explain;
+use crate::phrase_counts::{write_counts, write_kind};
+use crate::runs::{run_called, run_documents, run_each, run_pruning, run_slices};
+use crate::world::World;
+use cases::{Asker, Fault, Memory, end_refusals};
+use qm_postings::SegmentReader;
+use qm_weight::{AnyWeight, Weight};
+use std::alloc::Global;
+
+/// Rows on a weight.
+#[derive(Drop)]
+pub struct WeightAsker<'a> {
+    pub world: &'a World,
+    pub weight: &'a AnyWeight,
+    /// the segment that is asked
+    pub segment: u32,
+}
+
+impl<'a> Asker for WeightAsker<'a> {
+    fn ask(
+        &mut self,
+        alloc: Global,
+        call: &str,
+        memory: Memory,
+        text: &mut String,
+    ) -> Result<(), Fault> {
+        if let Some(number) = call.strip_prefix("segment ") {
+            self.segment = read_number(number)?;
+            return Ok(());
+        }
+        let segment = self.world.segment(self.segment)?;
+        ask_weight(alloc, segment, self.weight, call, memory, text)
+    }
+}
+
+/// The number that a text spells.
+pub fn read_number(text: &str) -> Result<u32, Fault> {
+    match text.parse() {
+        Ok(number) => Ok(number),
+        Err(_) => Err(Fault::NotUnderstood),
+    }
+}
+
+/// Writes what a weight answers to a call.
+pub fn ask_weight(
+    alloc: Global,
+    segment: &SegmentReader,
+    weight: &AnyWeight,
+    call: &str,
+    memory: Memory,
+    text: &mut String,
+) -> Result<(), Fault> {
+    match read_asked(alloc, call)? {
+        Asked::Each => run_each(alloc, segment, weight, memory, text),
+        Asked::Slices => run_slices(alloc, segment, weight, memory, text),
+        Asked::Docs => run_documents(alloc, segment, weight, memory, text),
+        Asked::Called => run_called(alloc, segment, weight, memory, text),
+        Asked::Prune => prune(alloc, segment, weight, call, true, memory, text),
+        Asked::Pruned => prune(alloc, segment, weight, call, false, memory, text),
+        Asked::Count => count(alloc, segment, weight, memory, text),
+        Asked::Explain(doc) => explain(alloc, segment, weight, doc, false, memory, text),
+        Asked::Details(doc) => explain(alloc, segment, weight, doc, true, memory, text),
+        Asked::PhraseCounts => write_counts(alloc, segment, weight, text),
+        Asked::Kind => write_kind(alloc, segment, weight, memory, text),
+    }
+}
+
+fn prune(
+    alloc: Global,
+    segment: &SegmentReader,
+    weight: &AnyWeight,
+    call: &str,
+    has_scores: bool,
+    memory: Memory,
+    text: &mut String,
+) -> Result<(), Fault> {
+    let threshold = threshold_of(alloc, call)?;
+    let replies = replies_of(alloc, call)?;
+    let pruning = Pruning {
+        text,
+        replies: replies.as_slice(),
+        last: Reply::ItsScore,
+        has_scores,
+    };
+    run_pruning(alloc, segment, weight, threshold, memory, pruning)
+}
+
+fn count(
+    alloc: Global,
+    segment: &SegmentReader,
+    weight: &AnyWeight,
+    memory: Memory,
+    text: &mut String,
+) -> Result<(), Fault> {
+    memory.begin(alloc);
+    let counted = weight.count(alloc, segment);
+    end_refusals(alloc);
+    Ok(write!(text, "{}", counted?)?)
+}

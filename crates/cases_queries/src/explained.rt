@@ -1,0 +1,56 @@
+//! Explanations, of which a row has the values.
+
+use crate::world::World;
+use cases::{Fault, Memory, end_refusals, write_space};
+use qm_docset::DocId;
+use qm_postings::{DocAddress, SegmentReader};
+use qm_query::{AnyQuery, Query};
+use qm_term::Explanation;
+use qm_weight::{AnyWeight, Weight};
+use std::alloc::Global;
+
+/// The value of a weight's explanation, or those of its details.
+pub fn explain(
+    alloc: Global,
+    segment: &SegmentReader,
+    weight: &AnyWeight,
+    doc: DocId,
+    are_details: bool,
+    memory: Memory,
+    text: &mut String,
+) -> Result<(), Fault> {
+    memory.begin(alloc);
+    let explained = weight.explain(alloc, segment, doc);
+    end_refusals(alloc);
+    write_values(&explained?, are_details, text)
+}
+
+/// The value of a query's explanation.
+pub fn explain_at(
+    alloc: Global,
+    world: &World,
+    query: &AnyQuery,
+    address: DocAddress,
+    memory: Memory,
+    text: &mut String,
+) -> Result<(), Fault> {
+    memory.begin(alloc);
+    let explained = query.explain(alloc, &world.searcher, address);
+    end_refusals(alloc);
+    write_values(&explained?, false, text)
+}
+
+fn write_values(
+    explanation: &Explanation,
+    are_details: bool,
+    text: &mut String,
+) -> Result<(), Fault> {
+    if !are_details {
+        return Ok(write!(text, "{}", explanation.value())?);
+    }
+    for detail in explanation.details() {
+        write_space(text)?;
+        write!(text, "{}", detail.value())?;
+    }
+    Ok(())
+}

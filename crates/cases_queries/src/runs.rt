@@ -1,0 +1,93 @@
+//! The runs of a weight, with some requests for memory refused in the one call.
+
+use crate::answers::Pruning;
+use crate::listing::Listing;
+use cases::{Fault, Memory, end_refusals};
+use qm_docset::Score;
+use qm_postings::SegmentReader;
+use qm_weight::{AnyWeight, Weight};
+use std::alloc::Global;
+
+/// The calls of `for_each`.
+pub fn run_each(
+    alloc: Global,
+    segment: &SegmentReader,
+    weight: &AnyWeight,
+    memory: Memory,
+    text: &mut String,
+) -> Result<(), Fault> {
+    let mut listing = Listing { text };
+    memory.begin(alloc);
+    let run = weight.for_each(
+        alloc,
+        segment,
+        &mut |doc, score| listing.add_score(doc, score),
+    );
+    end_refusals(alloc);
+    Ok(run?)
+}
+
+/// The documents of the calls of `for_each`, where their scores are open.
+pub fn run_called(
+    alloc: Global,
+    segment: &SegmentReader,
+    weight: &AnyWeight,
+    memory: Memory,
+    text: &mut String,
+) -> Result<(), Fault> {
+    let mut listing = Listing { text };
+    memory.begin(alloc);
+    let run = weight.for_each(alloc, segment, &mut |doc, _score| listing.add_document(doc));
+    end_refusals(alloc);
+    Ok(run?)
+}
+
+/// How long the slices of `for_each_no_score` are.
+pub fn run_slices(
+    alloc: Global,
+    segment: &SegmentReader,
+    weight: &AnyWeight,
+    memory: Memory,
+    text: &mut String,
+) -> Result<(), Fault> {
+    let mut listing = Listing { text };
+    memory.begin(alloc);
+    let run = weight.for_each_no_score(alloc, segment, &mut |docs| listing.add_len(docs));
+    end_refusals(alloc);
+    Ok(run?)
+}
+
+/// The slices of `for_each_no_score`, joined.
+pub fn run_documents(
+    alloc: Global,
+    segment: &SegmentReader,
+    weight: &AnyWeight,
+    memory: Memory,
+    text: &mut String,
+) -> Result<(), Fault> {
+    let mut listing = Listing { text };
+    memory.begin(alloc);
+    let run = weight.for_each_no_score(alloc, segment, &mut |docs| listing.add_documents(docs));
+    end_refusals(alloc);
+    Ok(run?)
+}
+
+/// The calls of `for_each_pruning` from a threshold on.
+pub fn run_pruning(
+    alloc: Global,
+    segment: &SegmentReader,
+    weight: &AnyWeight,
+    threshold: Score,
+    memory: Memory,
+    mut pruning: Pruning<'_>,
+) -> Result<(), Fault> {
+    memory.begin(alloc);
+    let run = weight.for_each_pruning(
+        alloc,
+        threshold,
+        segment,
+        &mut |doc, score| pruning.call(doc, score),
+    );
+    end_refusals(alloc);
+    Ok(run?)
+}

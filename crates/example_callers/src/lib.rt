@@ -1,0 +1,19 @@
+//! What a user writes over this library: functions whose own contracts follow from those of the library,
+//! and from nothing else. Whoever wants to use a contract reads here how.
+#![tactic(auto)]
+
+mod best;
+mod callers;
+mod laws;
+mod library_use;
+mod query_callers;
+mod weight_callers;
+
+pub use best::{BestPairs, best_pairs};
+pub use callers::{Joined, collect_calls, collect_matches, count_calls, join_slices};
+pub use laws::{
+    Both, collect_boosted, collect_reordered, join_and_collect, join_scored_and_unscored,
+};
+pub use library_use::phrase_and_word;
+pub use query_callers::{matches, matching_documents};
+pub use weight_callers::{best_matches, join_matches};

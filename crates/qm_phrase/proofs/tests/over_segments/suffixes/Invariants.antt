@@ -1,6 +1,0 @@
-use Rattle.std.proofs.Common.{All}
-use Rattle.qm_postings.specs.SegmentPostings.{IsPostings}
-use Rattle.qm_phrase.proofs.tests.over_segments.suffixes.Given as goal
-
-abbrev pub invariant-loop-term : goal.invariant-loop-term
-invariant-loop-term l = All IsPostings l.row.items

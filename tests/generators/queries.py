@@ -1,0 +1,103 @@
+"""Cases of weights, queries and their scorers, by chance."""
+
+from generators import calls, chance, spelled
+from generators.scorers import Left
+from model import Searcher, matches, tree_of
+
+
+def weights(random):
+    """What some words weigh, and what all others do."""
+    words = random.sample(chance.WORDS, random.randint(0, 3))
+    weighed = [(word, random.choice([0, 1, 300, 500, 2000, 10**12])) for word in words]
+    return weighed, random.choice([None, 0, 1, 1000, 777])
+
+
+def on_segments(random, segments, rows):
+    """Rows on each segment, behind a row that names it."""
+    for number, segment in enumerate(segments):
+        if number > 0 or random.random() < 0.2:
+            yield f"  segment {number}"
+        yield from rows(segment)
+
+
+def worth_playing(segment, make):
+    """What is made, with its tree: of several one that matches some document near the front, where there is one."""
+    for _ in range(5):
+        made, tree = make()
+        if any(matches(tree, segment, document) for document in segment.documents[:60]):
+            break
+    return made
+
+
+def of_weight(random, segments, field, depth):
+    trees = chance.Trees(random, field)
+    tree = worth_playing(segments[0], lambda: (trees.fitting(depth),) * 2)
+    yield f"weight {spelled.weight(tree)}"
+    yield from on_segments(random, segments, lambda it: calls.of_weight(random, tree, it))
+
+
+def of_query(random, searcher, field, depth):
+    trees, segments = chance.Trees(random, field, are_queries=True), searcher.segments
+
+    def scoring(query):
+        return tree_of(query, searcher, True)
+
+    def any_query():
+        query = trees.fitting(depth, 1, scoring)
+        return query, scoring(query)
+
+    query = worth_playing(segments[0], any_query)
+    tree = scoring(query)
+    yield f"query {spelled.query(query, random)}"
+    yield from calls.of_query(random, query, tree, segments)
+    yield from on_segments(random, segments, lambda it: calls.of_weight(random, tree, it, 3, 8))
+    unscored = tree_of(query, searcher, False)
+    yield f"unscored {spelled.query(query, random)}"
+    yield from on_segments(random, segments, lambda it: calls.of_unscored(random, unscored, it))
+    yield from scorers_of_query(random, query, searcher)
+
+
+def scorers_of_query(random, query, searcher):
+    """Rows on the scorers of a query with scoring on and off."""
+    segment = searcher.segments[0]
+    for name, scoring in [("query", True), ("unscored", False)]:
+        tree = tree_of(query, searcher, scoring)
+        listed = dict(calls.kept(tree, 1, segment))
+        yield f"scorer 1 {name} {spelled.query(query, random)}"
+        yield from calls.of_scorer(random, listed, 12, segment.deleted, scoring)
+
+
+def of_scorer(random, segment, field, depth):
+    """Rows on the scorer of a weight at a boost, now and then by its scores alone."""
+    boost = chance.boost(random)
+    trees, depth = chance.Trees(random, field), depth if boost < 2**60 else 1
+    tree = worth_playing(segment, lambda: (trees.fitting(depth, boost),) * 2)
+    listed = dict(calls.kept(tree, boost, segment))
+    for _ in range(2):
+        yield f"scorer {boost} weight {spelled.weight(tree)}"
+        if random.random() < 0.2:
+            yield spelled.row("scores", spelled.pairs(Left(listed).left()))
+        else:
+            yield from calls.of_scorer(random, listed, random.choice([8, 20, 40]), segment.deleted)
+
+
+def corpus(random):
+    """Some segments over one field, with the block that makes them, and a searcher over them."""
+    field = random.choice(chance.FIELDS)
+    made = [chance.segment(random, chance.size(random), field) for _ in range(random.choice([1, 1, 2, 3]))]
+    segments, words = zip(*made)
+    weighed, default = weights(random)
+    block = spelled.given(segments, words, random.choice(chance.BLOCKS), weighed, default, field)
+    by_term = {(field.name, word): points for word, points in weighed}
+    return field, list(block), Searcher(segments, by_term, 1000 if default is None else default)
+
+
+def by_chance(random):
+    """A set of segments, and cases on them."""
+    field, block, searcher = corpus(random)
+    yield from block
+    for depth in (0, 1, 2, 2, 3):
+        yield from of_weight(random, searcher.segments, field, depth)
+        yield from of_query(random, searcher, field, depth)
+    for depth in (0, 0, 1, 1, 2, 2, 2, 3, 3):
+        yield from of_scorer(random, searcher.segments[0], field, depth)

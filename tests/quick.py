@@ -1,0 +1,43 @@
+#!/usr/bin/env python3
+"""All cases and all runs of the program, on builds of which nothing is proved: for whoever changed a body
+and wants to know within minutes. The gate is `python3 tests/gate.py`.
+
+    python3 tests/quick.py [--seed S] [--rows N]
+"""
+
+import os
+import subprocess
+import sys
+import tempfile
+from concurrent.futures import ThreadPoolExecutor
+
+sys.dont_write_bytecode = True
+
+from cases import PROGRAMS, ROOT
+
+# the programs, those first that take the longest to build
+BUILT = ["cases_queries", "qm_search", "cases_postings", "cases_cursors"]
+
+
+def build(room, name):
+    words = [sys.executable, f"{ROOT}/tests/unproved.py", name, f"{room}/{name}"]
+    return subprocess.run(words, check=False).returncode == 0
+
+
+def main(words):
+    assert {*PROGRAMS} < {*BUILT}
+    with tempfile.TemporaryDirectory() as room:
+        with ThreadPoolExecutor(os.cpu_count()) as pool:
+            if not all(pool.map(lambda name: build(room, name), BUILT)):
+                return 1
+        runs = [
+            [f"{ROOT}/tests/cases.py", "--built", room, *words],
+            [f"{ROOT}/tests/program_runs.py", f"{room}/qm_search"],
+        ]
+        failed = [subprocess.run([sys.executable, *it], check=False).returncode for it in runs]
+    print("nothing of this was proved")
+    return 1 if any(failed) else 0
+
+
+if __name__ == "__main__":
+    sys.exit(main(sys.argv[1:]))
