@@ -3,9 +3,10 @@
 
     python3 tests/gate.py
 
-`rt ci` proves all crates from nothing, tries the wrong bodies of must-fail/ and runs the programs. As soon as
-it has proved a crate, tests/wrong_bodies.py tries the others of that crate beside it, at the lowest priority,
-so that proofs wait for nothing; then tests/cases.py plays the cases, and tests/program_runs.py runs the
+`rt ci` proves all crates from nothing, but for those that an earlier run on this machine proved as they are,
+tries the wrong bodies of must-fail/ and runs the programs. As soon as it says of a crate that it is proved or
+kept, tests/wrong_bodies.py tries the others of that crate beside it, at the lowest priority, so that proofs
+wait for nothing; then tests/cases.py plays the cases, and tests/program_runs.py runs the
 program. The last line counts what passed; the exit status is 1 where anything did not. Called by .ci/run.
 """
 
@@ -25,6 +26,8 @@ COUNTED = {
     "rows": r"cases: (\d+) rows, \d+ wrong",
     "program runs": r"program runs: (\d+) as wanted",
 }
+# what `rt ci` says of a crate that it has proved, or that an earlier run on this machine had
+PROVED = re.compile(r"rt: (\w+) (?:proved|is kept: .*)")
 PRINTING = threading.Lock()
 
 
@@ -56,7 +59,7 @@ def prove(wrong_bodies, pool):
     beside = ["nice", "-n", "19", sys.executable, "tests/wrong_bodies.py", "--built"]
 
     def heard(line):
-        proved = re.fullmatch(r"rt: (\w+) proved", line)
+        proved = PROVED.fullmatch(line)
         if proved and proved[1] in waiting:
             waiting.remove(proved[1])
             tried.append(pool.submit(wrong_bodies.run, [*beside, proved[1]]))

@@ -363,6 +363,52 @@ def pruned(pairs, threshold, answers):
     return calls
 
 
+# ---- blocks
+
+
+@dataclass(frozen=True)
+class Block:
+    """So many of a term's postings: the last document, END for the last block, the least length id and the greatest
+    frequency. No block has none of them."""
+
+    last: int = END
+    least_id: int = 0
+    most: int = 0
+
+
+def blocks(postings, length):
+    """The blocks of some postings, triples of a document, a frequency and a length id."""
+    parts = [postings[at : at + length] for at in range(0, len(postings), length)]
+    return [
+        Block(END if part is parts[-1] else part[-1][0], min(it[2] for it in part), max(it[1] for it in part))
+        for part in parts
+    ]
+
+
+def looked_at(target, document, listed):
+    """The block that is looked at with a target from a document on."""
+    if document == END:
+        return Block()
+    return next(it for it in listed if it.last >= max(target, document))
+
+
+def block_bound(points, norms, block):
+    """What no document of the block scores more than."""
+    return points * block.most // (block.most + norms[block.least_id]) if block.most else 0
+
+
+def most_ticks(pairs, bounds, threshold, answers):
+    """How many documents a pruned run scores at most: those whose block is bounded above the threshold there."""
+    ticks = calls = 0
+    for doc, points in pairs:
+        ticks += bounds[doc] > threshold
+        if points > threshold:
+            answer = answers[min(calls, len(answers) - 1)]
+            threshold = points if answer == "score" else answer
+            calls += 1
+    return ticks
+
+
 def slices(tree, documents):
     """How long the slices of a run are: full ones and then a shorter one, which may be empty. A term that no document
     holds has none at all."""

@@ -12,6 +12,9 @@ more, and at last alone. First the crate as it stands must be proved for these f
 batch begins with the work that this one kept. Right behind `rt ci`, which has proved it, the first batch goes
 without that, and the others begin with the work that the first one kept.
 
+An edit whose line says `refused by: the compiler, CODE` must not reach the prover: it is tried alone, and the
+check must end with that error.
+
 What was refused is kept in ~/.cache/birchagain/wrong_bodies, or in the folder that WRONG_BODIES_KEPT names,
 by the sums of the crate, of all crates below it, of the edit and of the toolchain, and is not tried again;
 --anew tries all. Libraries are built where they have changed; with --built they are taken as `rt ci` has left
@@ -35,7 +38,7 @@ sys.path.insert(0, HERE)
 
 import kit  # noqa: E402
 from refusals import Verdict  # noqa: E402
-from wrong_edit import BadEdit, Edit, batches_of  # noqa: E402
+from wrong_edit import COMPILER, BadEdit, Edit, batches_of  # noqa: E402
 
 EDITS = f"{HERE}/wrong_bodies"
 # what a check takes at most, in bytes
@@ -129,8 +132,23 @@ class Trial:
             except BadEdit as why:
                 self.tell(name, False, f"BAD EDIT: {why}")
 
+    def try_text(self, edit):
+        """Checks an edit that the compiler must refuse."""
+        start = time.monotonic()
+        with tempfile.TemporaryDirectory(prefix="wrong-bodies-") as kept:
+            _, lines = self.check(edit.name, [edit], edit.apply(self.crate, {}), kept)
+        how, code = f"{time.monotonic() - start:.0f} s, alone", edit.refused_by.removeprefix(COMPILER)
+        said = next((it for it in lines if f"error[{code}]" in it), None)
+        if said and self.kept.is_current():
+            self.kept.keep(edit)
+        self.tell(edit.name, said is not None, said or f"the compiler does not say {code}: {lines[-1]}", how)
+
     def try_all(self, edits, room):
         """Checks the crate as it stands, then the edits in batches, and at last alone what two batches left."""
+        for edit in edits:
+            if edit.is_of_compiler():
+                self.try_text(edit)
+        edits = [it for it in edits if not it.is_of_compiler()]
         seed = f"{room}/seed"
         linked(kit.kept_work(self.crate), seed)
         left, undecided = edits if "--built" in self.options else self.proved_before(edits, seed), []

@@ -13,6 +13,8 @@ file exactly once; there may be several pairs of `old` and `new`, and a `file` b
 
 import re
 
+# what an edit is refused by that the compiler does not take, before the error's code
+COMPILER = "the compiler, "
 HEAD = re.compile(r"^ *(?:pub(?:\([^)]*\))? )?(?:const )?fn (\w+)", re.M)
 # an item at the left margin that has no body of a function in it
 BARE = re.compile(r"(?:pub(?:\([^)]*\))? )?(?:struct|enum|static|type|use|mod|ghost|const(?! fn))\b")
@@ -45,6 +47,10 @@ class Edit:
                 units.add(unit_at(file, text, old))
             texts[file] = text.replace(old, new)
         return texts
+
+    def is_of_compiler(self):
+        """Whether it must not reach the prover."""
+        return bool(self.refused_by) and self.refused_by.startswith(COMPILER)
 
     def is_of_bodies(self):
         """Whether it changes functions alone, and no type or number that others use."""

@@ -4,8 +4,26 @@ segment."""
 import itertools
 
 from generators import calls, chance, spelled
+from generators.scorers import Left
 from generators.spelled import row
-from model import MOST_STARTS, Phrase, Prefix, Term, phrase_count, prefix_count, scored, starts
+from model import (
+    END,
+    GREATEST,
+    LEAST,
+    MOST_STARTS,
+    Phrase,
+    Prefix,
+    Term,
+    block_bound,
+    blocks,
+    looked_at,
+    most_ticks,
+    phrase_count,
+    prefix_count,
+    pruned,
+    scored,
+    starts,
+)
 
 # the document of postings that are spelled without one
 DOCUMENT = 6
@@ -203,6 +221,149 @@ class Frequent(calls.Player):
         return row("scores", spelled.pairs((doc, known[0]) for doc, known in self.left.take()))
 
 
+class Looking:
+    """Moves over postings, and looks at blocks before and after them; `told` tells of the block looked at. Behind a
+    seek that does not find its target nothing is asked: it may have changed the block."""
+
+    def __init__(self, random, left, listed, told):
+        self.random, self.left, self.blocks, self.told = random, left, listed, told
+
+    def rows(self, count):
+        target = 0
+        for _ in range(count):
+            yield from self.looked(target)
+            move = self.random.choice(["look", "look", "advance", "seek", "fill", "danger"])
+            target = self.target()
+            if move == "look":
+                yield row(f"seek_block {spelled.document(target)}")
+            else:
+                yield self.moved(move, target)
+                target = 0
+        yield from self.looked(target)
+
+    def looked(self, target):
+        block = looked_at(target, self.left.doc(), self.blocks)
+        yield row("last_doc_in_block", spelled.document(block.last))
+        yield from (row(call, answer) for call, answer in self.told(block) if self.left.doc() != END)
+        yield row("doc", spelled.document(self.left.doc()))
+
+    def target(self):
+        last = self.left.pairs[-1][0] if self.left.pairs else 3
+        near = self.left.doc() if self.left.doc() != END else last
+        return self.random.choice([END, self.random.randint(0, last + 2), near + self.random.randint(0, 9)])
+
+    def moved(self, move, target):
+        if move == "advance":
+            return row("advance", spelled.document(self.left.advance()))
+        if move == "fill" and self.random.random() < 0.3:
+            return row("fill", spelled.documents(self.left.fill()))
+        if move == "danger" and self.left.doc() != END:
+            target = self.random.choice(self.left.left()[:9])[0]
+            self.left.seek(target)
+            return row(f"seek_danger {target}", "found")
+        return row(f"seek {spelled.document(target)}", spelled.document(self.left.seek(target)))
+
+
+def told_of_postings(block):
+    return [("block_least_fieldnorm_id", block.least_id), ("block_max_term_freq", block.most)]
+
+
+def single_runs(random, pairs, listed, points, norms):
+    """Runs over a term's scorer: their calls, and how many documents they score at most in how many turns."""
+    bounds = {doc: block_bound(points, norms, looked_at(0, doc, listed)) for doc, _ in pairs}
+    near = [points for _, points in pairs] + list(bounds.values()) or [0]
+    for _ in range(3):
+        threshold = random.choice([LEAST, -1, random.choice(near), random.choice(near) - 1, GREATEST])
+        answers = random.choice([["score"], ["score"], [LEAST], random.choices(near, k=random.randint(1, 5))])
+        said = "" if answers == ["score"] else f" answers {' '.join(calls.SPELLED_ANSWERS.get(it, str(it)) for it in answers)}"
+        run = f"{calls.SPELLED_ANSWERS.get(threshold, threshold)}{said}"
+        yield row(f"single {run}", spelled.pairs(pruned(pairs, threshold, answers)))
+        ticks = most_ticks(pairs, bounds, threshold, answers)
+        yield row(f"bounded {ticks} {ticks + len(listed)} {run}", "true")
+
+
+# lists of no document, one, a block, one more, and several, each with lengths and frequencies that differ
+SMALL_LISTS = [[], [0], [2, 3], [0, 1, 2], [1, 2, 5, 6, 7], [0, 2, 3, 4, 7, 8, 9], list(range(13))]
+CALLS_AFTER_A_LOOK = ("doc", "advance", "seek", "seek_danger", "fill", "total", "freq")
+
+
+def small_words(doc, docs):
+    """The words of a document: the term as often as its number says, where it holds it, and others."""
+    return " ".join(["a"] * (1 + doc % 3 if doc in docs else 0) + ["x"] * (doc * 5 % 4))
+
+
+def blocks_of_small_lists(asked):
+    """Each look at a block from each document on, and each call behind it, in blocks of this length."""
+    length, docs = asked
+    texts = [small_words(doc, docs) for doc in range(max(docs, default=1) + 2)]
+    yield "given"
+    yield f"  blocks {length}"
+    yield from (row(f"doc {text}".rstrip(), number) for number, text in enumerate(texts))
+    if not docs:
+        yield "segment"
+        yield row("postings body a freqs", "none")
+        return
+    held = {doc: texts[doc].split().count("a") for doc in docs}
+    listed = blocks([(doc, held[doc], len(texts[doc].split())) for doc in docs], length)
+    for start in [*docs, END]:
+        for target in [*range(len(texts) + 1), END]:
+            for call in CALLS_AFTER_A_LOOK:
+                yield from looked_once(Left(held), listed, start, target, call)
+
+
+def looked_once(left, listed, start, target, call):
+    """Postings that stand on a document, look at a block with a target, and are then called."""
+    yield "postings body a freqs"
+    yield row(f"seek {spelled.document(start)}", spelled.document(left.seek(start)))
+    yield row(f"seek_block {spelled.document(target)}")
+    yield from looking(left.doc(), looked_at(target, left.doc(), listed))
+    answer = {"doc": left.doc, "advance": left.advance}.get(call)
+    if answer:
+        yield row(call, spelled.document(answer()))
+    elif call == "seek":
+        yield row(f"seek {spelled.document(target)}", spelled.document(left.seek(target)))
+    elif call == "seek_danger" and left.doc() != END:
+        yield row(f"seek_danger {left.left()[-1][0]}", "found")
+        left.seek(left.left()[-1][0])
+    elif call == "fill":
+        yield row("fill", spelled.documents(left.fill()))
+    elif call == "total":
+        yield row("total", len(left.take()))
+    elif call == "freq" and left.doc() != END:
+        yield row("freq", left.score())
+    is_same = call in ("doc", "freq") or (call == "seek_danger" and start == END)
+    yield from looking(left.doc(), looked_at(target if is_same else 0, left.doc(), listed))
+
+
+def looking(document, block):
+    """What the block looked at answers."""
+    yield row("last_doc_in_block", spelled.document(block.last))
+    yield row("block_max_term_freq", block.most)
+    if document != END:
+        yield row("block_least_fieldnorm_id", block.least_id)
+    yield row("doc", spelled.document(document))
+
+
+def of_blocks(random, segment, field, term, length):
+    """The blocks of a term's postings, of its scorer, and runs over it."""
+    option = random.choice(["basic", "freqs", "positions"])
+    points, is_counted = random.choice([0, 1, 1000, 10**12]), option != "basic"
+    held = [(doc, it) for doc, it in enumerate(segment.documents) if it.holds(term)]
+    listed = blocks([(doc, it.frequency(term, is_counted), it.length_id(field.name)) for doc, it in held], length)
+    yield f"postings {field.name} {term[1]} {option}"
+    yield from Looking(random, Left(dict(held)), listed, told_of_postings).rows(12)
+    scores = dict(scored(Term(term, points, is_counted), 1, segment))
+    yield f"termscorer {term[1]} {points} {option}"
+
+    def told(block):
+        return [("block_max_score", block_bound(points, segment.norms, block))]
+
+    yield from Looking(random, Left(scores), listed, told).rows(12)
+    yield f"termscorer {term[1]} {points} {option}"
+    yield "  takes no memory"
+    yield from single_runs(random, sorted(scores.items()), listed, points, segment.norms)
+
+
 def of_term(random, segment, field, term):
     """The postings of a term and its scorer, read with each option."""
     option = random.choice(["basic", "freqs", "positions"])
@@ -256,9 +417,11 @@ def by_chance(random):
 def by_segment(random):
     field = random.choice(chance.FIELDS)
     segment, words = chance.segment(random, chance.size(random), field)
-    yield from given(segment, words, random.choice(chance.BLOCKS), field)
+    length = random.choice(chance.BLOCKS)
+    yield from given(segment, words, length, field)
     for term in random.sample(segment.terms, min(5, len(segment.terms))):
         yield from of_term(random, segment, field, term)
+        yield from of_blocks(random, segment, field, term, length)
     # length ids are read of a field that keeps lengths
     if field == chance.BODY and segment.terms:
         for _ in range(5):

@@ -106,7 +106,7 @@ def sent(random):
     yield row("documents_left", spelled.documents(doc for doc, _ in pairs))
     yield row("scores_left", spelled.pairs(pairs))
     yield row("scores_left count", len(pairs))
-    for call in ("seek", "seek_by_steps", "seek_if_below"):
+    for call in ("seek", "seek_by_steps"):
         target = random.randrange(310)
         ahead = [doc for doc, _ in pairs if doc >= target] + [END, END]
         yield row(f"{call} {target}", f"{spelled.document(ahead[0])} then {spelled.document(ahead[1])}")
@@ -129,7 +129,6 @@ def members(random):
     yield row("least_document", spelled.document(min((doc for it in lists for doc in it), default=END)))
     for target in random.sample(range(62), 6):
         least = spelled.document(min((doc for it in lists for doc in it if doc >= target), default=END))
-        yield row(f"seek_all {target}", least)
         yield row(f"seek_below {target}", least)
         if all(target in it for it in lists):
             yield row(f"seek_each {target}", "found")

@@ -14,6 +14,8 @@ def check(program, report):
         ("long words", *long_words()),
         ("a query of 70 words", *query_of_many_words()),
         ("a query after each of 1001 documents", *query_after_each_document()),
+        ("7000 excluded words", *query_of_many_exclusions()),
+        ("an answer of more than a megabyte", *answer_of_a_megabyte()),
     ]
     for ends in [(b"\r\n", b"\n"), (b"\n", b"\r\n")]:
         scripts.append((f"lines of 0 to 299 letters, ended by {ends}", *lines_of_each_length(*ends)))
@@ -51,6 +53,21 @@ def query_of_many_words():
     script = b"doc%b\ndoc w0 w1\ndocs bool 0 70%b\nscores bool 0 70%b\n" % (words, clauses, clauses)
     # 70 * (1000 / 71)
     return script, b"0\n0:980\n"
+
+
+def query_of_many_exclusions():
+    """What is left of three documents without those that hold one of 7000 words."""
+    clauses = b"".join(b" - term w%d" % i for i in range(7000))
+    query = b"bool 0 7001 + all%b\n" % clauses
+    return b"doc w0\ndoc other\ndoc x w6999\ndocs %bcount %b" % (query, query), b"1\n1\n"
+
+
+def answer_of_a_megabyte():
+    """200,000 documents, all of which a query finds."""
+    count = 200_000
+    text = b" ".join(b"%d" % document for document in range(count)) + b"\n"
+    assert len(text) > 1_000_000
+    return b"doc a\n" * count + b"docs term a\n", text
 
 
 def query_after_each_document():

@@ -29,14 +29,24 @@ REFUSED = {line: text_without(line) for line in ANSWERS}
 # What may be written for each query.
 EITHER = [(answer, b"line %d: refused 13\n" % line) for line, answer in ANSWERS.items()]
 
+# Scripts whose last line lists a text of each of many lengths, among them those that fill the room that
+# the text has taken: there the end of the line needs the last request.
+NUMBERS = [b"9" * digits for digits in range(1, 19)]
+LISTINGS = [
+    *[b"doc a\nscores const %b all\n" % number for number in NUMBERS],
+    *[b"doc a\nprune 0 const %b all\n" % number for number in NUMBERS],
+    *[b"doc a\n" * documents + b"docs all\n" for documents in range(1, 33)],
+]
+
 # What a run may write that ended where it was refused one: whole lines, from the first on.
 ENDED = [b"".join(list(ANSWERS.values())[:count]) for count in range(len(ANSWERS) + 1)]
 
 
 def check(program, report):
-    """Refuses each request in turn, alone, and then with all requests after it."""
+    """Refuses each request in turn, alone, and then with all requests after it; and the last ones."""
     check_each(program, report)
     check_all_after(program, report)
+    check_last(program, report)
 
 
 def check_each(program, report):
@@ -71,3 +81,24 @@ def check_all_after(program, report):
         is_right = are_right and (outcome.status == 3 or outcome.status == 1 and is_whole)
         wanted = outcome if is_right else "answers and refusals with status 3, or all with 1"
         report.expect_same(f"requests from {number} on are refused", wanted, outcome)
+
+
+def check_last(program, report):
+    """Refuses the last request that a run makes, which is made for the answer of its last line."""
+    for script in LISTINGS:
+        outcome = last_refused(program, script)
+        text = b"line %d: refused 13\n" % script.count(b"\n")
+        report.expect(f"the last request of {script[-40:]!r} is refused", text, 1, outcome)
+
+
+def last_refused(program, script):
+    """The run whose last request alone is refused: it is the greatest number that is refused at all."""
+    refused, least, most = None, 1, MANY
+    while least < most:
+        number = (least + most) // 2
+        outcome = program.run_faulty(script, request=number)
+        if calls_of(outcome, "request refused"):
+            refused, least = outcome, number + 1
+        else:
+            most = number
+    return refused

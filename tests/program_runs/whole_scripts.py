@@ -4,6 +4,11 @@
 document, over that and the document's words, rounded down. The sums stand above the rows.
 """
 
+import os
+
+HERE = os.path.dirname(os.path.abspath(__file__))
+EXAMPLES = os.path.join(HERE, "..", "..", "examples")
+
 FIRST = b"doc a b\ndoc a c\ndoc a b c\ndoc b\ndocs bool 0 2 + term a + term b\n"
 
 # (name, script, text, status)
@@ -250,6 +255,21 @@ COUNTED = [
 ]
 
 PRUNED = [
+    # a block of 128 documents of two words reaches 333
+    (
+        "a block that reaches the threshold and is not above it",
+        b"doc a x\n" * 128 + b"doc a\nprune 400 term a\nprune 333 term a\n",
+        b"128:500\n128:500\n",
+        0,
+    ),
+    # 900 * 1 / 3 = 300 and 1500 * 1 / 3 = 500; 500 + 700 thousandths of 300 = 710; 300 + 500 = 800
+    (
+        "two words, by the maximum and by the sum",
+        b"doc a b\nweight a 900\nweight b 1500\nscores max 700 2 term a term b\n"
+        b"prune 750 max 700 2 term a term b\nprune 750 bool 0 2 ? term a ? term b\n",
+        b"0:710\n\n0:800\n",
+        0,
+    ),
     # 333, 400, 500 and 500 in the first segment, 400 and 500 in the second; a deleted one too
     (
         "pruned runs over two segments",
@@ -373,8 +393,23 @@ STATUSES = [
     ),
 ]
 
+# The scripts of examples/, with what README says that they print.
+SHOWN = [
+    ("first.txt", b"0 2\n", 0),
+    ("weights.txt", b"0 1 2\n0:499 2:525\n0:166 2:125\n2\n1:500\n\n", 0),
+    (
+        "refusals.txt",
+        b"line 2: refused 1\nline 3: refused 8\nline 5: refused 9\nline 6: not understood\n"
+        b"line 7: not understood\n0\n",
+        2,
+    ),
+]
+
 
 def check(program, report):
     """Runs each script."""
     for name, script, text, status in LISTED + COUNTED + PRUNED + CUT + STATUSES:
         report.expect(name, text, status, program.run(script))
+    for name, text, status in SHOWN:
+        with open(os.path.join(EXAMPLES, name), "rb") as it:
+            report.expect(f"examples/{name}", text, status, program.run(it.read()))

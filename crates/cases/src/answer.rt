@@ -62,6 +62,18 @@ pub fn write_space(text: &mut String) -> Result<(), AllocError> {
     }
 }
 
+/// Writes a document behind what stands there.
+pub fn write_next(text: &mut String, doc: DocId) -> Result<(), AllocError> {
+    write_space(text)?;
+    write_document(doc, text)
+}
+
+/// Writes a document with a number behind what stands there.
+pub fn write_score(text: &mut String, doc: DocId, score: Score) -> Result<(), AllocError> {
+    write_next(text, doc)?;
+    write!(text, ":{score}")
+}
+
 // Writes the first so many documents of a buffer.
 fn write_documents(
     buffer: &[DocId; COLLECT_BLOCK_BUFFER_LEN],

@@ -8,7 +8,7 @@ use cases::{
     Asker, Block, Fault, Memory, Moves, Report, behind, end_refusals, number, play_asked,
     read_document, read_leaf, word, write_document, write_space,
 };
-use qm_combine::{AllScorer, ConstScorer, Scorer, scores_left, seek_if_below};
+use qm_combine::{AllScorer, ConstScorer, Scorer, scores_left};
 use qm_docset::{DocId, DocSet, Score, TERMINATED, VecDocSet, documents_left, seek_by_steps};
 use qm_schema::QueryError;
 use std::alloc::Global;
@@ -134,7 +134,6 @@ fn seek_by_name<S: Scorer>(scorer: &mut S, name: &str, target: DocId) -> Option<
     let doc = match name {
         "seek" => scorer.seek(target),
         "seek_by_steps" => seek_by_steps(scorer, target),
-        "seek_if_below" => seek_if_below(scorer, target),
         _ => return None,
     };
     Some((doc, scorer.advance()))

@@ -9,7 +9,7 @@ use cases::{
     Asker, Block, Fault, Leaf, Memory, Moves, Report, behind, end_refusals, play_asked,
     read_document, read_leaves, word, write_space,
 };
-use qm_combine::{Scorer, by_cost, least_document, seek_all, seek_below, seek_each, sum_of_bounds};
+use qm_combine::{Scorer, by_cost, least_document, seek_below, seek_each, sum_of_bounds};
 use qm_docset::{DocId, DocSet, SeekDangerResult, TERMINATED};
 use qm_schema::QueryError;
 use std::alloc::Global;
@@ -136,7 +136,6 @@ fn ask_leaves<'a>(leaves: &mut [Leaf<'a>], call: &str) -> Answer
         return Answer::NotAllowed;
     }
     match name {
-        "seek_all" => Answer::Document(seek_all(leaves, target)),
         "seek_below" => Answer::Document(seek_below(leaves, target)),
         "seek_each" => ask_each(leaves, target),
         _ => Answer::NotUnderstood,

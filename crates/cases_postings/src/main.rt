@@ -3,6 +3,7 @@
 #![tactic(auto)]
 
 mod bench;
+mod blocks;
 mod cursor;
 mod explained;
 mod given;

@@ -72,9 +72,20 @@ impl<'s> Maker<'s> {
                 None => (Field::from_field_id(0), part.trim()),
             };
             let text = read_text(alloc, words)?;
-            document.add_text(alloc, field, text.as_str())?;
+            document.add_text(field, text.as_str())?;
         }
         Ok(document)
+    }
+
+    // So many documents of the same texts: `N TEXTS`. Writes the number of the last one.
+    fn add_alike(&mut self, alloc: Global, spelled: &str, text: &mut String) -> Result<(), Fault> {
+        let (count, texts) = cut(spelled);
+        for _ in 0..read_number(count)? {
+            text.clear();
+            let document = self.read_whole(alloc, texts)?;
+            self.add(alloc, document, Memory::Ample, text)?;
+        }
+        Ok(())
     }
 
     // A text of a field.
@@ -83,7 +94,7 @@ impl<'s> Maker<'s> {
         let field = read_field(self.schema, name)?;
         let text = read_text(alloc, rest)?;
         memory.begin(alloc);
-        let added = self.document.add_text(alloc, field, text.as_str());
+        let added = self.document.add_text(field, text.as_str());
         end_refusals(alloc);
         Ok(added?)
     }
@@ -94,7 +105,7 @@ impl<'s> Maker<'s> {
         let (count, terms) = cut(rest);
         let text = numbers_text(alloc, read_number(count)?, read_number(terms)?)?;
         let field = read_field(self.schema, name)?;
-        Ok(self.document.add_text(alloc, field, text.as_str())?)
+        Ok(self.document.add_text(field, text.as_str())?)
     }
 
     // A term of a field at positions.
@@ -149,6 +160,7 @@ impl<'s> Asker for Maker<'s> {
                 let document = self.read_whole(alloc, rest)?;
                 self.add(alloc, document, memory, text)
             }
+            "docs" => self.add_alike(alloc, rest, text),
             "add" => {
                 let document = mem::replace(&mut self.document, PlainDoc::new(alloc));
                 self.add(alloc, document, memory, text)

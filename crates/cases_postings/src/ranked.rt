@@ -5,6 +5,7 @@ ghost use Rattle.qm_docset.specs.Entry.{head_document};
 ghost use Rattle.qm_docset.specs.Lists.{IsPlaced};
 ghost use Rattle.qm_term.specs.TermScorer.{IsTermScorer, scored_left};
 
+use crate::blocks::ask_scored_blocks;
 use crate::cursor::Played;
 use crate::explained::write_explanation;
 use crate::segment_rows::reading_name;
@@ -83,7 +84,10 @@ impl<'a> Played for TermScorer<'a> {
             }
             _ => match call.strip_prefix("copy ") {
                 Some(call) => ask_copy(alloc, self, call, memory, text),
-                None => ask_scorer(alloc, self, call, memory, text),
+                None => match ask_scored_blocks(alloc, self, call, memory, text) {
+                    Some(answer) => answer,
+                    None => ask_scorer(alloc, self, call, memory, text),
+                },
             },
         }
     }

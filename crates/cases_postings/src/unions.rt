@@ -4,6 +4,7 @@ ghost use Rattle.std.specs.Prelude.{IfOk};
 ghost use Rattle.qm_docset.specs.Lists.{IsPlaced};
 
 use crate::bench::Bench;
+use crate::blocks::ask_blocks;
 use crate::cursor::Played;
 use crate::making::play_owned;
 use crate::member::{read_member, read_members};
@@ -117,7 +118,10 @@ impl<'a> Played for SegmentPostings<'a> {
         if call == "reading" {
             return Ok(text.push_str(reading_name(self.freq_reading_option()))?);
         }
-        ask_postings(alloc, self, call, memory, text)
+        match ask_blocks(alloc, self, call, memory, text) {
+            Some(answer) => answer,
+            None => ask_postings(alloc, self, call, memory, text),
+        }
     }
 }
 

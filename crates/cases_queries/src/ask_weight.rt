@@ -1,12 +1,11 @@
 //! Rows on a weight.
 
-use crate::answers::{Pruning, Reply};
-use crate::asked::{Asked, read_asked, replies_of, threshold_of};
+use crate::asked::{Asked, read_asked};
 use crate::explained::explain;
 use crate::phrase_counts::{write_counts, write_kind};
 use crate::runs::{run_called, run_documents, run_each, run_pruning, run_slices};
 use crate::world::World;
-use cases::{Asker, Fault, Memory, end_refusals};
+use cases::{Asker, Fault, Memory, Pruning, Reply, end_refusals, replies_of, threshold_of};
 use qm_postings::SegmentReader;
 use qm_weight::{AnyWeight, Weight};
 use std::alloc::Global;

@@ -1,9 +1,8 @@
 //! What a row asks of a weight.
 
-use crate::answers::{Reply, read_replies, read_threshold};
 use crate::given::first_word;
-use cases::{Fault, behind, number, word, words_of};
-use qm_docset::{DocId, Score};
+use cases::{Fault, number, words_of};
+use qm_docset::DocId;
 use std::alloc::Global;
 
 /// What a row asks of a weight.
@@ -43,21 +42,6 @@ pub fn read_asked(alloc: Global, call: &str) -> Result<Asked, Fault> {
         ("kind", _) => Ok(Asked::Kind),
         ("explain", Some(doc)) => Ok(Asked::Explain(doc)),
         ("details", Some(doc)) => Ok(Asked::Details(doc)),
-        _ => Err(Fault::NotUnderstood),
-    }
-}
-
-/// The threshold of `prune T ..`.
-pub fn threshold_of(alloc: Global, call: &str) -> Result<Score, Fault> {
-    let words = words_of(alloc, call)?;
-    read_threshold(word(&words, 1))
-}
-
-/// The answers of `prune T answers A..`; none where they are not given.
-pub fn replies_of(alloc: Global, call: &str) -> Result<Vec<Reply>, Fault> {
-    let words = words_of(alloc, call)?;
-    match word(&words, 2) {
-        "" | "answers" => read_replies(alloc, behind(&words, 3)),
         _ => Err(Fault::NotUnderstood),
     }
 }

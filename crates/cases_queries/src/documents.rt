@@ -144,7 +144,7 @@ fn add_text(
         text.push_str(word)?;
         text.push(' ')?;
     }
-    Ok(document.add_text(alloc, field, text.as_str())?)
+    Ok(document.add_text(field, text.as_str())?)
 }
 
 // Adds the documents of `docs N WORDS`, where a word `W/K` stands in those alone whose number is a

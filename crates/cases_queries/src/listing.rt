@@ -1,6 +1,6 @@
 //! What the calls of a run say, as a text.
 
-use cases::{write_document, write_space};
+use cases::{write_next, write_score, write_space};
 use qm_docset::{DocId, Score};
 use qm_schema::Term;
 use std::alloc::AllocError;
@@ -41,21 +41,9 @@ impl<'a> Listing<'a> {
     }
 }
 
-/// Writes a document with a number.
-pub fn write_score(text: &mut String, doc: DocId, score: Score) -> Result<(), AllocError> {
-    write_next(text, doc)?;
-    write!(text, ":{score}")
-}
-
 fn write_len(text: &mut String, len: usize) -> Result<(), AllocError> {
     write_space(text)?;
     write!(text, "{len}")
-}
-
-/// Writes a document.
-pub fn write_next(text: &mut String, doc: DocId) -> Result<(), AllocError> {
-    write_space(text)?;
-    write_document(doc, text)
 }
 
 fn write_wanted(text: &mut String, term: &Term, is_wanted: bool) -> Result<(), AllocError> {

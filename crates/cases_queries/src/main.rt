@@ -3,7 +3,6 @@
 #![tactic(auto)]
 
 mod alive;
-mod answers;
 mod ask_query;
 mod ask_scoring;
 mod ask_weight;

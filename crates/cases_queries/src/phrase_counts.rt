@@ -3,8 +3,7 @@
 ghost use Rattle.qm_docset.specs.Lists.{IsPlaced};
 
 use crate::kinds::kind_of_scorer;
-use crate::listing::write_score;
-use cases::{Fault, Memory, end_refusals};
+use cases::{Fault, Memory, end_refusals, write_score};
 use qm_combine::EmptyScorer;
 use qm_docset::{DocSet, TERMINATED};
 use qm_phrase::{PhrasePrefixScorer, PhraseScorer};

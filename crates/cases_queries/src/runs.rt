@@ -1,8 +1,7 @@
 //! The runs of a weight, with some requests for memory refused in the one call.
 
-use crate::answers::Pruning;
 use crate::listing::Listing;
-use cases::{Fault, Memory, end_refusals};
+use cases::{Fault, Memory, Pruning, end_refusals};
 use qm_docset::Score;
 use qm_postings::SegmentReader;
 use qm_weight::{AnyWeight, Weight};

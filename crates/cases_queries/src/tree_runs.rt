@@ -2,11 +2,10 @@
 
 ghost use Rattle.qm_docset.specs.Lists.{IsPlaced};
 
-use crate::answers::{Pruning, Reply};
-use crate::asked::{Asked, read_asked, replies_of, threshold_of};
+use crate::asked::{Asked, read_asked};
 use crate::listing::Listing;
 use crate::tree::{Source, Tree, read_tree};
-use cases::{Asker, Fault, Leaf, Memory, end_refusals};
+use cases::{Asker, Fault, Leaf, Memory, Pruning, Reply, end_refusals, replies_of, threshold_of};
 use qm_docset::{COLLECT_BLOCK_BUFFER_LEN, DocId, DocSet, Score};
 use qm_scorer::AnyScorer;
 use qm_weight::{for_each_docset_buffered, for_each_pruning_scorer, for_each_scorer};

@@ -6,7 +6,9 @@ mod best;
 mod callers;
 mod laws;
 mod library_use;
+mod phrase_callers;
 mod query_callers;
+mod term_callers;
 mod weight_callers;
 
 pub use best::{BestPairs, best_pairs};
@@ -15,5 +17,7 @@ pub use laws::{
     Both, collect_boosted, collect_reordered, join_and_collect, join_scored_and_unscored,
 };
 pub use library_use::phrase_and_word;
-pub use query_callers::{matches, matching_documents};
+pub use phrase_callers::{count_behind_buffer, positions_behind_buffer, scored_phrase};
+pub use query_callers::{best_document, matches, matching_documents};
+pub use term_callers::{best_of_term, end_of_block};
 pub use weight_callers::{best_matches, join_matches};

@@ -1,8 +1,14 @@
 //! Callers of a query: what they find is known by the contract of one call and by those of a cursor's.
 
-ghost use Rattle.std.specs.Prelude.{◌≡◌, IfOk};
+ghost use Rattle.std.specs.Prelude.{◌≡◌, IfOk, IsTrue, slice_get};
+ghost use Rattle.qm_query.specs.EnableScoring.{is_enabled};
 ghost use Rattle.qm_query.specs.QueryMatches.{AreMatches, query_matching};
+ghost use Rattle.qm_query.specs.QueryTree.{query_tree};
+ghost use Rattle.qm_weight.specs.Best.{best};
+ghost use Rattle.qm_weight.specs.Callers.{pairs};
+ghost use Rattle.qm_weight.specs.Tree.{list};
 
+use crate::weight_callers::best_matches;
 use qm_combine::{EmptyScorer, scores_left};
 use qm_docset::{DocId, Score, documents_left};
 use qm_postings::{Bm25StatisticsProvider, SegmentReader};
@@ -35,4 +41,22 @@ pub fn matches<Q: Query, P: Bm25StatisticsProvider>(
 {
     let scorer: AnyScorer<'_, EmptyScorer> = query_scorer(query, alloc, enable_scoring, reader, 1)?;
     Ok(scores_left(alloc, scorer)?)
+}
+
+/// The best of the documents of a segment that a query matches, with its score, and none where it
+/// matches none: by a pruned run, which passes over what can't be the best. Of documents with one score
+/// it is the lowest. Asks that scoring is on.
+pub fn best_document<Q: Query, P: Bm25StatisticsProvider>(
+    alloc: Global,
+    query: &Q,
+    enable_scoring: EnableScoring<'_, P>,
+    reader: &SegmentReader,
+) -> Result<Option<(DocId, Score)>, QueryError>
+    requires scoring { IsTrue (is_enabled enable_scoring) }
+    ensures { let tree = query_tree P.Bm25StatisticsProvider enable_scoring.entry (Q.query query.now) in
+        IfOk result (λ found. found ≡ slice_get (best 1 (pairs (list tree 1 reader.now.segment))) 0) }
+{
+    let weight = query.weight(alloc, enable_scoring)?;
+    let best = best_matches(alloc, &*weight, reader, 1)?;
+    Ok(best.first().copied())
 }

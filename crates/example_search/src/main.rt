@@ -76,7 +76,7 @@ fn segment_of(
     let mut segment = SegmentBuilder::new(alloc, schema, BLOCK_LEN)?;
     for text in texts {
         let mut document = PlainDoc::new(alloc);
-        document.add_text(alloc, body, text)?;
+        document.add_text(body, text)?;
         segment.add_document(document)?;
     }
     segment.build(alloc)

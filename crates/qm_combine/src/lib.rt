@@ -4,6 +4,7 @@
 
 mod all_scorer;
 mod boost_scorer;
+mod bounded_by_sum;
 mod const_scorer;
 mod disjunction;
 mod disjunction_max_combiner;
@@ -21,6 +22,7 @@ mod union;
 
 pub use all_scorer::AllScorer;
 pub use boost_scorer::BoostScorer;
+pub use bounded_by_sum::BoundedBySum;
 pub use const_scorer::ConstScorer;
 pub use disjunction::Disjunction;
 pub use disjunction_max_combiner::DisjunctionMaxCombiner;
@@ -29,9 +31,7 @@ pub use empty_scorer::EmptyScorer;
 pub use exclude::Exclude;
 pub use intersection::Intersection;
 pub use left::scores_left;
-pub use members::{
-    by_cost, least_document, seek_all, seek_below, seek_each, seek_if_below, sum_of_bounds,
-};
+pub use members::{by_cost, least_document, seek_below, seek_each, sum_of_bounds};
 pub use reqopt_scorer::RequiredOptionalScorer;
 pub use score_combiner::ScoreCombiner;
 pub use scorer::Scorer;

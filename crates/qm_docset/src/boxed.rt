@@ -11,6 +11,8 @@ impl<T: DocSet> DocSet for Box<T> {
 
     ghost limits = { λ b. T.limits b.value };
 
+    ghost keeps = { λ b c. T.keeps b.value c.value };
+
     ghost placed = { λ b. T.placed b.value };
 
     ghost valid = { λ b. T.valid b.value };

@@ -28,6 +28,8 @@ pub trait DocSet: Drop {
     ghost entries: { Self → List Entry };
     // what no call changes
     ghost limits: { Self → Limits } = { λ _. no_limits };
+    // that a cursor is as another is, in all that it keeps beside its list and limits
+    ghost keeps: { Self → Self → Type 0 } = { λ _ _. Unit {0} };
     // whether the cursor stands on its first entry
     ghost placed: { Self → Type 0 };
     // that the value is a cursor: constructors give it, and every call asks and keeps it
@@ -46,6 +48,7 @@ pub trait DocSet: Drop {
         ensures head { result ≡ head_document (entries self.new) }
         ensures entries { entries self.new ≡ drop 1 (entries self.old) }
         ensures limits { limits self.new ≡ limits self.old }
+        ensures kept { (s : Self) → keeps s self.old → keeps s self.new }
         ensures valid { valid self.new }
         ensures placed { placed self.new };
 
@@ -57,6 +60,7 @@ pub trait DocSet: Drop {
         ensures head { result ≡ head_document (entries self.new) }
         ensures entries { entries self.new ≡ from target (entries self.old) }
         ensures limits { limits self.new ≡ limits self.old }
+        ensures kept { (s : Self) → keeps s self.old → keeps s self.new }
         ensures valid { valid self.new }
         ensures placed { placed self.new };
 
@@ -71,6 +75,7 @@ pub trait DocSet: Drop {
         ensures answer { IsSeekAnswer target (entries self.new) result }
         ensures entries { entries self.new ≡ from target (entries self.old) }
         ensures limits { limits self.new ≡ limits self.old }
+        ensures kept { (s : Self) → keeps s self.old → keeps s self.new }
         ensures valid { valid self.new }
         ensures placed { OnFound result (placed self.new) }
     {
@@ -93,6 +98,7 @@ pub trait DocSet: Drop {
         ensures documents { take result buffer.new ≡ documents (take COLLECT_BLOCK_BUFFER_LEN (entries self.old)) }
         ensures entries { entries self.new ≡ drop COLLECT_BLOCK_BUFFER_LEN (entries self.old) }
         ensures limits { limits self.new ≡ limits self.old }
+        ensures kept { (s : Self) → keeps s self.old → keeps s self.new }
         ensures valid { valid self.new }
         ensures placed { placed self.new }
     {
@@ -129,6 +135,7 @@ pub trait DocSet: Drop {
         ensures count { result ≡ length (alive_entries alive.now (entries self.old)) }
         ensures entries { entries self.new ≡ [] }
         ensures limits { limits self.new ≡ limits self.old }
+        ensures kept { (s : Self) → keeps s self.old → keeps s self.new }
         ensures valid { valid self.new }
         ensures placed { placed self.new }
     {
@@ -153,6 +160,7 @@ pub trait DocSet: Drop {
         ensures count { result ≡ length (entries self.old) }
         ensures entries { entries self.new ≡ [] }
         ensures limits { limits self.new ≡ limits self.old }
+        ensures kept { (s : Self) → keeps s self.old → keeps s self.new }
         ensures valid { valid self.new }
         ensures placed { placed self.new }
     {

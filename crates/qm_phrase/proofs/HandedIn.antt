@@ -9,7 +9,7 @@ use Rattle.qm_docset.specs.GatherFacts.{entries_of-nil, entries_of-other}
 use Rattle.qm_docset.specs.Lists.{lists, bounds}
 use Rattle.qm_docset.specs.declared.docset.DocSet.{Ghosts}
 use Rattle.qm_term.specs.TermScorer.{AreCovered}
-use Rattle.qm_phrase.specs.Phrase.{phrase_entries, positions_at, shifts_of}
+use Rattle.qm_phrase.specs.Phrase.{phrase_entries, positions_at, shifts_of, starts_at}
 use Rattle.qm_phrase.specs.Places.{room_of, shift_of}
 use Rattle.qm_phrase.specs.Terms.{AreRoomy, AreTerms, term_starts}
 use Rattle.qm_phrase.specs.declared.places.Places.{Places}
@@ -78,3 +78,12 @@ module _ {P : Type 0} (D : Ghosts P) where
       let all : lists D members ≡ map (λ pair. D.entries pair.1) items = ap (map D.entries) is ∙ map_twice D.entries postings_of items in
       let each : map shift_of places ≡ shifts_of (map offset items) = shifts ∙ sym (map_twice (λ n. fold max 0 (map offset items) - n) offset items) in
       ap (λ s. phrase_entries points slop s (lists D members)) each ∙ ap (phrase_entries points slop (shifts_of (map offset items))) all
+
+  -- so does the number of starts in a document
+  pub starts-split : (slop d : ℕ) (items : List (ℕ × P)) (members : List P) (places : List Places) → members ≡ map (λ pair. pair.1) items → map shift_of places ≡ map (λ pair. fold max 0 (map (λ p. p.0) items) - pair.0) items → term_starts D slop members places d ≡ starts_at slop (shifts_of (map (λ pair. pair.0) items)) (map (λ pair. D.entries pair.1) items) d
+  starts-split slop d items members places is shifts =
+      let postings_of : ℕ × P → P = λ pair. pair.1 in
+      let offset : ℕ × P → ℕ = λ pair. pair.0 in
+      let all : lists D members ≡ map (λ pair. D.entries pair.1) items = ap (map D.entries) is ∙ map_twice D.entries postings_of items in
+      let each : map shift_of places ≡ shifts_of (map offset items) = shifts ∙ sym (map_twice (λ n. fold max 0 (map offset items) - n) offset items) in
+      ap (λ s. starts_at slop s (lists D members) d) each ∙ ap (λ ess. starts_at slop (shifts_of (map offset items)) ess d) all

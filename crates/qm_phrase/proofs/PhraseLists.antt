@@ -97,6 +97,14 @@ module _ {P : Type 0} (D : Ghosts P) where
         | inr past ↦ omega (arith, some, starts-ahead D slop target d members places new places_new moved past)
       ]
 
+  -- and is as many
+  pub moved-same : (slop target : ℕ) (members : List P) (places : List Places) (new : List P) (places_new : List Places) → AreMovedTo D slop target members places new places_new → (d : ℕ) → 0 < term_starts D slop new places_new d → term_starts D slop new places_new d ≡ term_starts D slop members places d
+  moved-same slop target members places new places_new moved d some =
+      elim (cases_lt d target) [
+        | inl before ↦ absurd (omega (arith, moved.behind d before, some))
+        | inr past ↦ starts-ahead D slop target d members places new places_new moved past
+      ]
+
 -- where a cursor stands on a document, that one is kept, and its entry is what is made of it
 pub listed-stands : (limits : Limits) (kept : ℕ → Bool) (made : ℕ → Entry) (d : ℕ) (es : List Entry) → es ≡ listed kept made → AreEntries 0 limits es → IsNamed made → d ≡ head_document es → d < TERMINATED → (kept d ≡ true) × (es ≡ made d ∷ drop 1 es)
 listed-stands limits kept made d [] is a named here below = absurd (omega arith)

@@ -78,6 +78,14 @@ gone-some target d t u gone some =
       | inr past ↦ omega (arith, gone.counts d past, some)
     ]
 
+-- and is as many
+pub gone-same : (target d : ℕ) (t u : PrefixLists) → HaveGoneOn target t u → 0 < prefix_count u d → prefix_count u d ≡ prefix_count t d
+gone-same target d t u gone some =
+    elim (cases_lt d target) [
+      | inl before ↦ absurd (omega (arith, gone.behind d before, some))
+      | inr past ↦ gone.counts d past
+    ]
+
 -- The points: without a weight, with one full term, and with two or more.
 
 pub prefix_points-none : (given : Option Bm25Weight) (several : Bool) (ids : List ℕ) (d n : ℕ) → given ≡ None → 1 ≡ prefix_points given several ids d n

@@ -24,13 +24,13 @@ module _ {P : Type 0} (D : Ghosts P) where
   abbrev pub phrase_prefix_count : PhrasePrefixScorer P → ℕ → ℕ
   phrase_prefix_count s d = prefix_count (prefix_lists s) d
 
-  -- it counts in each document what such lists have there
+  -- it counts in each document that it has left what such lists have there
   abbrev pub CountsAs : PrefixLists → PhrasePrefixScorer P → Type 0
-  CountsAs t s = (d : ℕ) → phrase_prefix_count s d ≡ prefix_count t d
+  CountsAs t s = (d : ℕ) → 0 < phrase_prefix_count s d → phrase_prefix_count s d ≡ prefix_count t d
 
-  -- from a document on two of them count the same
-  abbrev pub CountAlikeFrom : ℕ → PhrasePrefixScorer P → PhrasePrefixScorer P → Type 0
-  CountAlikeFrom low s other = (d : ℕ) → low ≤ d → phrase_prefix_count s d ≡ phrase_prefix_count other d
+  -- the same of what another counts
+  pub record PrefixAlike (s t : PhrasePrefixScorer P) : Type 0 where
+    pub counts : CountsAs (prefix_lists s) t
 
   -- its terms, and that each document with a count has a length id
   pub record IsPhrasePrefix (s : PhrasePrefixScorer P) : Type 0 where

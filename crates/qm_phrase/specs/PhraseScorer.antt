@@ -8,7 +8,7 @@ use Rattle.qm_docset.specs.declared.docset.DocSet.{Ghosts}
 use Rattle.qm_docset.specs.declared.numbers.TheConstants.{TERMINATED}
 use Rattle.qm_postings.specs.FieldNorms.{norm_ids}
 use Rattle.qm_term.specs.declared.bm25.Bm25Weight.{Bm25Weight}
-use Rattle.qm_phrase.specs.Phrase.{phrase_entries, phrase_limits, phrase_points}
+use Rattle.qm_phrase.specs.Phrase.{phrase_entries, phrase_limits, phrase_points, shifts_of, starts_at}
 use Rattle.qm_phrase.specs.Places.{shift_of}
 use Rattle.qm_phrase.specs.Terms.{AreTerms, term_starts}
 use Rattle.qm_phrase.specs.declared.phrase_scorer.PhraseScorer.{PhraseScorer}
@@ -38,6 +38,16 @@ module _ {P : Type 0} (D : Ghosts P) where
   -- whether a weight scores it
   abbrev pub is_weighted : PhraseScorer P → Bool
   is_weighted s = has_weight s.similarity_weight
+
+  -- scored by a weight as another is, it counts in each document that it has left what the other does
+  pub record CountsAlike (s t : PhraseScorer P) : Type 0 where
+    pub weighted : is_weighted t ≡ is_weighted s
+    pub counts : (d : ℕ) → 0 < phrase_starts t d → phrase_starts t d ≡ phrase_starts s d
+
+  -- scored by such a weight, it counts in each document that it has left the starts of such terms
+  pub record CountsPhrase (weight : Option Bm25Weight) (slop : ℕ) (terms : List (ℕ × P)) (s : PhraseScorer P) : Type 0 where
+    pub weighted : is_weighted s ≡ has_weight weight
+    pub counts : (d : ℕ) → 0 < phrase_starts s d → phrase_starts s d ≡ starts_at slop (shifts_of (map (λ pair. pair.0) terms)) (map (λ pair. D.entries pair.1) terms) d
 
   -- its terms, and that each document with a start has a length id
   pub record IsPhrase (s : PhraseScorer P) : Type 0 where

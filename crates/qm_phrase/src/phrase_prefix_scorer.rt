@@ -6,7 +6,7 @@ ghost use Rattle.qm_docset.specs.Cursor.{IsSeekAnswer, OnFound};
 ghost use Rattle.qm_docset.specs.Entry.{from, head_document};
 ghost use Rattle.qm_phrase.specs.PhrasePrefix.{ListsPrefix, held, lists_at};
 ghost use Rattle.qm_phrase.specs.PhrasePrefixFacts.{AreEntries-prefix};
-ghost use Rattle.qm_phrase.specs.PhrasePrefixScorer.{CountAlikeFrom, CountsAs, IsOnPhrasePrefix, IsPhrasePrefix, phrase_prefix_count, phrase_prefix_left, phrase_prefix_scorer_limits};
+ghost use Rattle.qm_phrase.specs.PhrasePrefixScorer.{PrefixAlike, CountsAs, IsOnPhrasePrefix, IsPhrasePrefix, phrase_prefix_count, phrase_prefix_left, phrase_prefix_scorer_limits};
 ghost use Rattle.qm_phrase.specs.Places.{shift_of};
 ghost use Rattle.qm_postings.specs.FieldNorms.{norm_ids};
 ghost use Rattle.qm_term.specs.TermScorer.{AreCovered};
@@ -89,7 +89,8 @@ impl<'a, P: Postings> PhrasePrefixScorer<'a, P> {
         requires valid { IsPhrasePrefix P.DocSet self.now }
         requires placed { IsOnPhrasePrefix P.DocSet self.now }
         requires here { head_document (phrase_prefix_left P.DocSet self.now) < TERMINATED }
-        ensures { result ≡ held (phrase_prefix_count P.DocSet self.now (head_document (phrase_prefix_left P.DocSet self.now))) }
+        ensures count { result ≡ held (phrase_prefix_count P.DocSet self.now (head_document (phrase_prefix_left P.DocSet self.now))) }
+        ensures some { 0 < phrase_prefix_count P.DocSet self.now (head_document (phrase_prefix_left P.DocSet self.now)) }
     {
         self.counts.prefix
     }
@@ -100,6 +101,8 @@ impl<'a, P: Postings> DocSet for PhrasePrefixScorer<'a, P> {
 
     ghost limits = { λ s. phrase_prefix_scorer_limits P.DocSet s };
 
+    ghost keeps = { λ s t. PrefixAlike P.DocSet s t };
+
     ghost placed = { λ s. IsOnPhrasePrefix P.DocSet s };
 
     ghost valid = { λ s. IsPhrasePrefix P.DocSet s };
@@ -108,45 +111,18 @@ impl<'a, P: Postings> DocSet for PhrasePrefixScorer<'a, P> {
         self.doc
     }
 
-    fn advance(&mut self) -> DocId
-        requires valid { IsPhrasePrefix P.DocSet self.old }
-        requires placed { IsOnPhrasePrefix P.DocSet self.old }
-        ensures head { result ≡ head_document (phrase_prefix_left P.DocSet self.new) }
-        ensures entries { phrase_prefix_left P.DocSet self.new ≡ drop 1 (phrase_prefix_left P.DocSet self.old) }
-        ensures limits { phrase_prefix_scorer_limits P.DocSet self.new ≡ phrase_prefix_scorer_limits P.DocSet self.old }
-        ensures valid { IsPhrasePrefix P.DocSet self.new }
-        ensures placed { IsOnPhrasePrefix P.DocSet self.new }
-        ensures counts { CountAlikeFrom P.DocSet result self.new self.old }
-    {
+    fn advance(&mut self) -> DocId {
         self.seek((self.doc + 1).min(TERMINATED))
     }
 
-    fn seek(&mut self, target: DocId) -> DocId
-        requires valid { IsPhrasePrefix P.DocSet self.old }
-        requires target { target ≤ TERMINATED }
-        ensures head { result ≡ head_document (phrase_prefix_left P.DocSet self.new) }
-        ensures entries { phrase_prefix_left P.DocSet self.new ≡ from target (phrase_prefix_left P.DocSet self.old) }
-        ensures limits { phrase_prefix_scorer_limits P.DocSet self.new ≡ phrase_prefix_scorer_limits P.DocSet self.old }
-        ensures valid { IsPhrasePrefix P.DocSet self.new }
-        ensures placed { IsOnPhrasePrefix P.DocSet self.new }
-        ensures counts { CountAlikeFrom P.DocSet target self.new self.old }
-    {
+    fn seek(&mut self, target: DocId) -> DocId {
         let (doc, counts) = self.terms.seek(target);
         self.doc = doc;
         self.counts = counts;
         doc
     }
 
-    fn seek_danger(&mut self, target: DocId) -> SeekDangerResult
-        requires valid { IsPhrasePrefix P.DocSet self.old }
-        requires target { target ≤ TERMINATED }
-        ensures answer { IsSeekAnswer target (phrase_prefix_left P.DocSet self.new) result }
-        ensures entries { phrase_prefix_left P.DocSet self.new ≡ from target (phrase_prefix_left P.DocSet self.old) }
-        ensures limits { phrase_prefix_scorer_limits P.DocSet self.new ≡ phrase_prefix_scorer_limits P.DocSet self.old }
-        ensures valid { IsPhrasePrefix P.DocSet self.new }
-        ensures placed { OnFound result (IsOnPhrasePrefix P.DocSet self.new) }
-        ensures counts { CountAlikeFrom P.DocSet target self.new self.old }
-    {
+    fn seek_danger(&mut self, target: DocId) -> SeekDangerResult {
         if target == TERMINATED {
             self.seek(TERMINATED);
             return SeekDangerResult::SeekLowerBound(TERMINATED);

@@ -1,12 +1,12 @@
 //! The documents in which the terms of a phrase stand together.
 
-ghost use Rattle.std.specs.Prelude.{◌≡◌, ◌<◌, ◌≤◌, All, IfOk, IsOkUnless, drop, true, map, min, vec_len};
+ghost use Rattle.std.specs.Prelude.{◌≡◌, ◌<◌, ◌≤◌, All, IfOk, IsOkUnless, true, map, min, vec_len};
 ghost use Rattle.qm_docset.specs.Cursor.{IsSeekAnswer, OnFound};
 ghost use Rattle.qm_docset.specs.Entry.{from, head_document};
 ghost use Rattle.qm_phrase.specs.Phrase.{ListsPhrase, count_at};
 ghost use Rattle.qm_phrase.specs.Places.{shift_of};
 ghost use Rattle.qm_phrase.specs.PhraseFacts.{AreEntries-phrase};
-ghost use Rattle.qm_phrase.specs.PhraseScorer.{IsOnPhrase, IsPhrase, has_weight, is_weighted, most_counted, phrase_left, phrase_scorer_limits, phrase_starts};
+ghost use Rattle.qm_phrase.specs.PhraseScorer.{CountsAlike, CountsPhrase, IsOnPhrase, IsPhrase, is_weighted, most_counted, phrase_left, phrase_scorer_limits, phrase_starts};
 ghost use Rattle.qm_postings.specs.FieldNorms.{norm_ids};
 ghost use Rattle.qm_term.specs.TermScorer.{AreCovered};
 
@@ -62,7 +62,7 @@ impl<'a, P: Postings> PhraseScorer<'a, P> {
         requires offsets { All (λ pair. pair.0 ≤ 4294967295) term_postings.items }
         requires covered { All (λ pair. AreCovered (norm_ids fieldnorm_reader) (P.entries pair.1)) term_postings.items }
         ensures lists { IfOk result (ListsPhrase ⟦<Self as DocSet>⟧ P.DocSet similarity_weight fieldnorm_reader.entry slop term_postings.items) }
-        ensures weighted { IfOk result (λ s. is_weighted P.DocSet s ≡ has_weight similarity_weight) }
+        ensures counts { IfOk result (CountsPhrase P.DocSet similarity_weight slop term_postings.items) }
         ensures memory { IsOkUnless result QueryError.Memory }
     {
         let greatest = greatest_offset(&term_postings);
@@ -96,7 +96,8 @@ impl<'a, P: Postings> PhraseScorer<'a, P> {
         requires valid { IsPhrase P.DocSet self.now }
         requires placed { IsOnPhrase P.DocSet self.now }
         requires here { head_document (phrase_left P.DocSet self.now) < TERMINATED }
-        ensures { is_weighted P.DocSet self.now ≡ true → result ≡ min 4294967295 (phrase_starts P.DocSet self.now (head_document (phrase_left P.DocSet self.now))) }
+        ensures count { is_weighted P.DocSet self.now ≡ true → result ≡ min 4294967295 (phrase_starts P.DocSet self.now (head_document (phrase_left P.DocSet self.now))) }
+        ensures some { 0 < phrase_starts P.DocSet self.now (head_document (phrase_left P.DocSet self.now)) }
     {
         self.phrase_count
     }
@@ -107,6 +108,8 @@ impl<'a, P: Postings> DocSet for PhraseScorer<'a, P> {
 
     ghost limits = { λ s. phrase_scorer_limits P.DocSet s };
 
+    ghost keeps = { λ s t. CountsAlike P.DocSet s t };
+
     ghost placed = { λ s. IsOnPhrase P.DocSet s };
 
     ghost valid = { λ s. IsPhrase P.DocSet s };
@@ -115,29 +118,11 @@ impl<'a, P: Postings> DocSet for PhraseScorer<'a, P> {
         self.doc
     }
 
-    fn advance(&mut self) -> DocId
-        requires valid { IsPhrase P.DocSet self.old }
-        requires placed { IsOnPhrase P.DocSet self.old }
-        ensures head { result ≡ head_document (phrase_left P.DocSet self.new) }
-        ensures entries { phrase_left P.DocSet self.new ≡ drop 1 (phrase_left P.DocSet self.old) }
-        ensures limits { phrase_scorer_limits P.DocSet self.new ≡ phrase_scorer_limits P.DocSet self.old }
-        ensures valid { IsPhrase P.DocSet self.new }
-        ensures placed { IsOnPhrase P.DocSet self.new }
-        ensures weighted { is_weighted P.DocSet self.new ≡ is_weighted P.DocSet self.old }
-    {
+    fn advance(&mut self) -> DocId {
         self.seek((self.doc + 1).min(TERMINATED))
     }
 
-    fn seek(&mut self, target: DocId) -> DocId
-        requires valid { IsPhrase P.DocSet self.old }
-        requires target { target ≤ TERMINATED }
-        ensures head { result ≡ head_document (phrase_left P.DocSet self.new) }
-        ensures entries { phrase_left P.DocSet self.new ≡ from target (phrase_left P.DocSet self.old) }
-        ensures limits { phrase_scorer_limits P.DocSet self.new ≡ phrase_scorer_limits P.DocSet self.old }
-        ensures valid { IsPhrase P.DocSet self.new }
-        ensures placed { IsOnPhrase P.DocSet self.new }
-        ensures weighted { is_weighted P.DocSet self.new ≡ is_weighted P.DocSet self.old }
-    {
+    fn seek(&mut self, target: DocId) -> DocId {
         let most = self.most();
         let (doc, count) = seek_start(&mut self.members, &mut self.places, self.slop, target, most);
         self.doc = doc;
@@ -145,16 +130,7 @@ impl<'a, P: Postings> DocSet for PhraseScorer<'a, P> {
         doc
     }
 
-    fn seek_danger(&mut self, target: DocId) -> SeekDangerResult
-        requires valid { IsPhrase P.DocSet self.old }
-        requires target { target ≤ TERMINATED }
-        ensures answer { IsSeekAnswer target (phrase_left P.DocSet self.new) result }
-        ensures entries { phrase_left P.DocSet self.new ≡ from target (phrase_left P.DocSet self.old) }
-        ensures limits { phrase_scorer_limits P.DocSet self.new ≡ phrase_scorer_limits P.DocSet self.old }
-        ensures valid { IsPhrase P.DocSet self.new }
-        ensures placed { OnFound result (IsOnPhrase P.DocSet self.new) }
-        ensures weighted { is_weighted P.DocSet self.new ≡ is_weighted P.DocSet self.old }
-    {
+    fn seek_danger(&mut self, target: DocId) -> SeekDangerResult {
         if target == TERMINATED {
             self.seek(TERMINATED);
             return SeekDangerResult::SeekLowerBound(TERMINATED);

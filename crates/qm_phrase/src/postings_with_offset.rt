@@ -3,7 +3,7 @@
 ghost use Rattle.std.specs.Prelude.{◌≡◌, ◌+◌, ◌<◌, ◌≤◌, All, drop, vec_capacity};
 ghost use Rattle.qm_docset.specs.Cursor.{IsSeekAnswer, OnFound};
 ghost use Rattle.qm_docset.specs.Entry.{from, head_document, head_positions};
-ghost use Rattle.qm_phrase.specs.PostingsWithOffset.{offset_of, postings_of};
+ghost use Rattle.qm_phrase.specs.PostingsWithOffset.{ReadsAtOffset, offset_of, postings_of};
 ghost use Rattle.qm_postings.specs.Positions.{shifted};
 
 use qm_docset::{
@@ -57,6 +57,8 @@ impl<P: Postings> DocSet for PostingsWithOffset<P> {
 
     ghost limits = { λ s. P.limits s.postings };
 
+    ghost keeps = { λ s t. ReadsAtOffset P.DocSet s t };
+
     ghost placed = { λ s. P.placed s.postings };
 
     ghost valid = { λ s. P.valid s.postings };
@@ -65,42 +67,15 @@ impl<P: Postings> DocSet for PostingsWithOffset<P> {
         self.postings.doc()
     }
 
-    fn advance(&mut self) -> DocId
-        requires valid { P.valid (postings_of self.old) }
-        requires placed { P.placed (postings_of self.old) }
-        ensures head { result ≡ head_document (P.entries (postings_of self.new)) }
-        ensures entries { P.entries (postings_of self.new) ≡ drop 1 (P.entries (postings_of self.old)) }
-        ensures limits { P.limits (postings_of self.new) ≡ P.limits (postings_of self.old) }
-        ensures valid { P.valid (postings_of self.new) }
-        ensures placed { P.placed (postings_of self.new) }
-        ensures offset { offset_of self.new ≡ offset_of self.old }
-    {
+    fn advance(&mut self) -> DocId {
         self.postings.advance()
     }
 
-    fn seek(&mut self, target: DocId) -> DocId
-        requires valid { P.valid (postings_of self.old) }
-        requires target { target ≤ TERMINATED }
-        ensures head { result ≡ head_document (P.entries (postings_of self.new)) }
-        ensures entries { P.entries (postings_of self.new) ≡ from target (P.entries (postings_of self.old)) }
-        ensures limits { P.limits (postings_of self.new) ≡ P.limits (postings_of self.old) }
-        ensures valid { P.valid (postings_of self.new) }
-        ensures placed { P.placed (postings_of self.new) }
-        ensures offset { offset_of self.new ≡ offset_of self.old }
-    {
+    fn seek(&mut self, target: DocId) -> DocId {
         self.postings.seek(target)
     }
 
-    fn seek_danger(&mut self, target: DocId) -> SeekDangerResult
-        requires valid { P.valid (postings_of self.old) }
-        requires target { target ≤ TERMINATED }
-        ensures answer { IsSeekAnswer target (P.entries (postings_of self.new)) result }
-        ensures entries { P.entries (postings_of self.new) ≡ from target (P.entries (postings_of self.old)) }
-        ensures limits { P.limits (postings_of self.new) ≡ P.limits (postings_of self.old) }
-        ensures valid { P.valid (postings_of self.new) }
-        ensures placed { OnFound result (P.placed (postings_of self.new)) }
-        ensures offset { offset_of self.new ≡ offset_of self.old }
-    {
+    fn seek_danger(&mut self, target: DocId) -> SeekDangerResult {
         self.postings.seek_danger(target)
     }
 

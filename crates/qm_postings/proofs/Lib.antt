@@ -20,6 +20,9 @@ pub mod Layouts
 pub mod Pushes
 pub mod NumberedPostings
 pub mod PositionRows
-pub mod PositionBlocks
+pub mod BlockLemmas
+pub mod BoundLemmas
+pub mod BlocksOfTerms
+pub mod BlockFrequencies
 pub mod GroupedPostings
 pub mod TermHeads

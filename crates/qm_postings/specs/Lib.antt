@@ -1,7 +1,7 @@
 pub mod Document
 pub mod Segment
 pub mod Deletions
-pub mod Index
+pub mod Kept
 pub mod LengthIds
 pub mod FieldNorms
 pub mod Reading
@@ -9,10 +9,10 @@ pub mod FieldIndex
 pub mod Stored
 pub mod StoredFacts
 pub mod TermArrays
-pub mod KeptPositions
 pub mod SegmentPostings
 pub mod Statistics
 pub mod SegmentPostingsFacts
+pub mod Blocks
 pub mod Building
 pub mod Numbering
 pub mod Grouping

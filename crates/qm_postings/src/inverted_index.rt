@@ -1,12 +1,13 @@
 //! The terms of a field, and their postings.
 
-ghost use Rattle.std.specs.Prelude.{◌≡◌, ◌≤◌, ◌+◌, [], if◌then◌else◌, drop, length, IsSome, IfSome, ◌↔◌};
+ghost use Rattle.std.specs.Prelude.{◌≡◌, ◌≤◌, ◌+◌, [], if◌then◌else◌, drop, take, length, IsSome, IfSome, ◌↔◌};
 ghost use Rattle.qm_schema.specs.Term.{TermKey, term_cmp};
 ghost use Rattle.qm_postings.specs.FieldIndex.{AreCounted, IsHeld, IsInfoOf, ListsInfo, ListsPostings, reading, shown};
-ghost use Rattle.qm_postings.specs.Index.{in_range, positions_in};
+ghost use Rattle.qm_postings.specs.Kept.{in_range, positions_in};
 ghost use Rattle.std.specs.Option.{option_copied};
 ghost use Rattle.qm_postings.specs.TermRange.{AreTermsBetween, terms_left};
-ghost use Rattle.qm_postings.specs.SegmentPostings.{postings_left, reads};
+ghost use Rattle.qm_postings.specs.Blocks.{HaveLeastIds, term_blocks};
+ghost use Rattle.qm_postings.specs.SegmentPostings.{LooksHere, postings_blocks, postings_left, reads};
 
 mod sought_term;
 mod term_order;
@@ -84,6 +85,9 @@ impl<'a> InvertedIndex<'a> {
         ensures lists { IfSome result (ListsPostings ⟦<SegmentPostings<'a> as DocSet>⟧ (shown self.now).reader.segment option term.now) }
         ensures counted { IfSome result (λ p. AreCounted (shown self.now).reader.segment option term.now.field (postings_left p)) }
         ensures reading { IfSome result (λ p. reads p ≡ reading (shown self.now).reader.segment.schema option (shown self.now).field) }
+        ensures blocks { IfSome result (λ p. postings_blocks p ≡ term_blocks (shown self.now).reader.segment option term.now) }
+        ensures looked { IfSome result LooksHere }
+        ensures ids { IfSome result (λ p. HaveLeastIds (shown self.now).reader.segment term.now.field (postings_blocks p) (postings_left p)) }
     {
         let info = self.get_term_info(term)?;
         Some(self.read_postings_from_terminfo(&info, option))
@@ -101,6 +105,9 @@ impl<'a> InvertedIndex<'a> {
         ensures lists { ListsInfo ⟦<SegmentPostings<'a> as DocSet>⟧ (shown self.now) option info.now result }
         ensures counted { AreCounted (shown self.now).reader.segment option (shown self.now).field (postings_left result) }
         ensures reading { reads result ≡ reading (shown self.now).reader.segment.schema option (shown self.now).field }
+        ensures blocks { (term : TermKey) → IsInfoOf (shown self.now) term info.now → postings_blocks result ≡ term_blocks (shown self.now).reader.segment option term }
+        ensures looked { LooksHere result }
+        ensures ids { HaveLeastIds (shown self.now).reader.segment (shown self.now).field (postings_blocks result) (postings_left result) }
     {
         let reader = self.reader;
         let entry = &reader.terms[info.ordinal];
@@ -108,7 +115,11 @@ impl<'a> InvertedIndex<'a> {
             documents: postings_part(&reader.documents, entry),
             frequencies: postings_part(&reader.frequencies, entry),
             positions: positions_asked(&reader.positions, entry, option.has_positions()),
-            blocks: blocks_from(&reader.blocks, reader.block_starts[info.ordinal]),
+            blocks: blocks_from(
+                &reader.blocks,
+                reader.block_starts[info.ordinal],
+                (entry.doc_freq as usize).div_ceil(reader.block_len as usize),
+            ),
             block_len: reader.block_len as usize,
             max_term_freq: entry.max_term_freq,
         };
@@ -160,11 +171,12 @@ fn postings_part<'a>(array: &'a [u32], entry: &TermEntry) -> &'a [u32]
     &array[entry.start..end]
 }
 
-fn blocks_from(blocks: &[BlockInfo], start: usize) -> &[BlockInfo]
-    requires { start ≤ length blocks.now }
-    ensures { result.now ≡ drop start blocks.now }
+// So many blocks from a place on.
+fn blocks_from(blocks: &[BlockInfo], start: usize, count: usize) -> &[BlockInfo]
+    requires { start + count ≤ length blocks.now }
+    ensures { result.now ≡ take count (drop start blocks.now) }
 {
-    &blocks[start..]
+    &blocks[start..start + count]
 }
 
 // The positions of a term, where they are asked for.

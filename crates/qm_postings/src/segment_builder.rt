@@ -17,9 +17,9 @@ mod columns;
 mod deletions;
 mod entering;
 mod grouping;
-mod position_blocks;
 mod position_rows;
 mod posting;
+mod term_blocks;
 mod term_numbers;
 
 use posting::Posting;
@@ -46,8 +46,8 @@ impl Model for SegmentBuilder {
     ghost use Rattle.qm_postings.specs.Building.{kept_count, posted_by};
     ghost use Rattle.qm_postings.specs.Deletions.{AreFlags, flagged};
     ghost use Rattle.qm_postings.specs.Grouping.{AreNumbered};
-    ghost use Rattle.qm_postings.specs.Index.{AreColumns, ArePosted, segment_from};
-    ghost use Rattle.qm_postings.specs.KeptPositions.{IsCounted};
+    ghost use Rattle.qm_postings.specs.Kept.{AreColumns, ArePosted, segment_from};
+    ghost use Rattle.qm_postings.specs.Kept.{IsCounted};
     ghost use Rattle.qm_postings.specs.Segment.{Segment, segment_code, without};
 
     ghost Value = { Segment };

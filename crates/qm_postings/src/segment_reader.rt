@@ -28,7 +28,7 @@ pub(crate) struct TermEntry {
 }
 
 impl Model for TermEntry {
-    ghost use Rattle.qm_postings.specs.Index.{PostingsRange, range_code};
+    ghost use Rattle.qm_postings.specs.Kept.{PostingsRange, range_code};
     ghost use Rattle.qm_postings.specs.TermHead.{IsHeadOf};
 
     ghost Value = { PostingsRange };
@@ -51,9 +51,9 @@ impl Model for TermEntry {
 ///
 /// It keeps its terms in their order, and for each a range of two arrays of all postings, one of
 /// documents and one of frequencies: 8 bytes a posting. Where a field keeps positions, its terms have
-/// a range of an array of positions too, 4 bytes a position, and for each block of `block_len`
-/// postings 8 bytes that say where its positions begin. Where documents were deleted it keeps a bit for
-/// each document.
+/// a range of an array of positions too, 4 bytes a position. The postings of a term are cut into blocks
+/// of `block_len`, and each has 24 bytes more: where it ends, what bounds its postings, and where its
+/// positions begin. Where documents were deleted it keeps a bit for each document.
 ///
 /// Contracts see it as its documents, its schema, the numbers of those that were deleted, and the terms
 /// that it has postings for.
@@ -73,11 +73,9 @@ pub struct SegmentReader {
 }
 
 impl Model for SegmentReader {
-    ghost use Rattle.std.specs.Prelude.{◌≤◌, ◌<◌, map};
-    ghost use Rattle.qm_docset.specs.declared.numbers.TheConstants.{TERMINATED};
+    ghost use Rattle.std.specs.Prelude.{map};
     ghost use Rattle.qm_postings.specs.Deletions.{IsAliveSet, left_out};
-    ghost use Rattle.qm_postings.specs.Index.{AreColumns, IsIndex, posted_of, segment_from};
-    ghost use Rattle.qm_postings.specs.KeptPositions.{HaveBlocks, HavePositions};
+    ghost use Rattle.qm_postings.specs.Kept.{IsKept, posted_of, segment_from};
     ghost use Rattle.qm_postings.specs.Reading.{Reader, reader_code};
     ghost use Rattle.qm_postings.specs.Segment.{without};
 
@@ -90,12 +88,8 @@ impl Model for SegmentReader {
       terms = map (λ e. e.term) r.terms.items;
     } };
 
-    ghost invariant = { λ r. (r.max_doc ≤ TERMINATED)
-        × IsIndex r.max_doc r.terms.items r.documents.items r.frequencies.items
-        × AreColumns r.schema r.max_doc (map (λ c. c.items) r.lengths.items)
-        × HavePositions r.schema r.terms.items r.documents.items r.frequencies.items r.positions.items
-        × HaveBlocks r.block_len r.terms.items r.frequencies.items r.block_starts.items r.blocks.items
-        × (0 < r.block_len)
+    ghost invariant = { λ r.
+        IsKept r.schema r.block_len r.max_doc r.terms.items r.documents.items r.frequencies.items r.positions.items (map (λ c. c.items) r.lengths.items) r.block_starts.items r.blocks.items
         × IsAliveSet r.max_doc r.alive };
 }
 

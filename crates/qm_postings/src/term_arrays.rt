@@ -1,7 +1,8 @@
 //! What a segment keeps of the postings of a term.
 
 ghost use Rattle.std.specs.Prelude.{◌≡◌, ◌≤◌, ◌<◌, length, sum, take};
-ghost use Rattle.qm_postings.specs.TermArrays.{ArePlaces};
+ghost use Rattle.qm_postings.specs.TermArrays.{AreArrays};
+ghost use Rattle.qm_postings.specs.declared.freq_reading_option.FreqReadingOption.{FreqReadingOption};
 
 use qm_docset::DocId;
 
@@ -9,7 +10,13 @@ use qm_docset::DocId;
 /// one may have fewer.
 #[derive(Clone, Copy, Debug)]
 pub(crate) struct BlockInfo {
-    /// How many positions the term's postings before this block have together.
+    /// Its last document, and `TERMINATED` for the last block, so that a search ends there.
+    pub(crate) last_doc: DocId,
+    /// The greatest of its frequencies.
+    pub(crate) max_term_freq: u32,
+    /// The least length id of its documents, a document whose field keeps no lengths having 1.
+    pub(crate) least_fieldnorm_id: u8,
+    /// How many positions the term's postings before this block have together, where they are kept.
     pub(crate) positions_start: usize,
 }
 
@@ -29,7 +36,8 @@ impl<'a> TermArrays<'a> {
     // Where the positions of the posting at a place begin. It is known where those of the posting at
     // the mark do, and where those of each block do; so it sums the frequencies of less than a block.
     pub(crate) fn positions_start(&self, place: usize, mark: usize, mark_start: usize) -> usize
-        requires places { ArePlaces self.now }
+        requires arrays { (reading : FreqReadingOption) × AreArrays reading self.now }
+        requires some { 0 < length self.now.positions.now }
         requires within { place < length self.now.frequencies.now }
         requires mark { mark ≤ place }
         requires start { mark_start ≡ sum (take mark self.now.frequencies.now) }

@@ -1,6 +1,6 @@
 pub mod BuilderLemmas
 pub mod ClauseWeights
+pub mod OneField
 pub mod Rows
 pub mod VisitSteps
 pub mod SearchFacts
-pub mod ScoringTrees

@@ -1,6 +1,6 @@
 -- What a query comes down to over a searcher depends on the searcher alone, and not on where the references
 -- to it lie; and no weight is refused with what an explanation alone is.
-use Rattle.std.proofs.Common.{◌≡◌, ℕ, ℤ, Bool, true, false, ◌&&◌, ◌==◌, if◌then◌else◌, List, [], ◌∷◌, Option, is_some, slice_get, Some, None, Result, Ok, Err, IfOk, IfErr, IsTrue, length, map, refl, sym, subst, ap, ◌∙◌, inl, inr}
+use Rattle.std.proofs.Common.{◌≡◌, ℕ, ℤ, Bool, true, false, ◌==◌, if◌then◌else◌, List, [], ◌∷◌, Option, is_some, slice_get, Some, None, Result, Ok, Err, IfOk, IfErr, IsTrue, length, map, refl, sym, subst, ap, ◌∙◌, inl, inr}
 use Rattle.qm_postings.specs.Reading.{Reader}
 use Rattle.qm_postings.specs.Statistics.{Searched}
 use Rattle.qm_postings.specs.Segment.{Segment}
@@ -11,7 +11,6 @@ use Rattle.qm_schema.specs.Term.{TermKey}
 use Rattle.qm_schema.specs.declared.error.QueryError.{QueryError}
 use Rattle.qm_schema.specs.declared.error.QueryError.TheVariants.{DoesNotMatch, NoPositions, NoSuchSegment, NotIndexed}
 use Rattle.qm_schema.specs.declared.occur.Occur.TheVariants.{Should}
-use Rattle.qm_term.specs.Bm25.{Weighing}
 use Rattle.qm_weight.specs.Explanations.{IsExplained, IsExplainRefusal}
 use Rattle.qm_weight.specs.Scorers.{IsRefusalOf}
 use Rattle.qm_weight.specs.Tree as tree
@@ -22,6 +21,7 @@ use Rattle.qm_query.specs.Fields.{is_served, keeps_positions, phrase_field_refus
 use Rattle.qm_query.specs.Offsets.{first_field, terms_of}
 use Rattle.qm_query.specs.Query.{Query, Subqueries, Disjuncts, all, none, term, phrase, phrase_prefix, boolean, boost, constant, disjunction_max, no_subquery, subquery, no_disjunct, disjunct}
 use Rattle.qm_query.specs.QueryTree.{clause_trees, disjunct_trees, if_scoring, leaf_weighing, query_tree, read_option}
+use Rattle.qm_query.specs.ScoringTrees.{scoring_if_enabled}
 use Rattle.qm_query.specs.Searches.{IsCountOf, IsCountRefusal, IsExplainedIn, IsExplanationOf, IsUnexplained, IsUnexplainedIn, count_in, with_scores, without_scores}
 use Rattle.qm_query.specs.WeightRefusals.{IsByProvider, IsClauseRefused, IsDisjunctRefused, IsLeafRefusal, IsPrefixByProvider, IsRefused, IsWeightRefusal}
 use Rattle.qm_query.specs.declared.enable_scoring.EnableScoring.{EnableScoring}
@@ -149,37 +149,6 @@ module _ {P : Type 0} (S : Ghosts P) (u : EnableScoring P) (asked : (terms : Lis
   weight_refusal_of_weights q error (inl memory) = subst IsOfWeights (sym memory) tt
   weight_refusal_of_weights q error (inr refused) = refusal_of_weights q error refused
 
--- ---- a searcher's own weights score
-
-prefix_scoring : (full : List Placed) (prefix : Placed) (most : ℕ) (weight : Weighing) → is_scoring (tree.phrase_prefix full prefix most (Some weight)) ≡ true
-prefix_scoring [] prefix most weight = refl
-prefix_scoring (t ∷ full) prefix most weight = refl
-
-either_scoring : (is_first : Bool) (one other : Tree) → is_scoring one ≡ true → is_scoring other ≡ true → is_scoring (if is_first then one else other) ≡ true
-either_scoring true one other first second = first
-either_scoring false one other first second = second
-
-module _ (S : Ghosts Searched) (searcher : Searched) where
-  mutual
-    scoring : (q : Query) → is_scoring (query_tree S (with_scores searcher) q) ≡ true
-    scoring all = refl
-    scoring none = refl
-    scoring (term q) = refl
-    scoring (phrase q) = refl
-    scoring (phrase_prefix q) = either_scoring (length q.terms == 0) _ _ refl (prefix_scoring (map placed_at q.terms) (placed_at q.prefix) q.max_expansions _)
-    scoring (boolean minimum clauses) = clause_scoring clauses
-    scoring (boost factor inside) = scoring inside
-    scoring (constant score inside) = scoring inside
-    scoring (disjunction_max tie_breaker disjuncts) = disjunct_scoring disjuncts
-
-    clause_scoring : (clauses : Subqueries) → clauses_scoring (clause_trees S (with_scores searcher) clauses) ≡ true
-    clause_scoring no_subquery = refl
-    clause_scoring (subquery occur query clauses) = λ i. scoring query i && clause_scoring clauses i
-
-    disjunct_scoring : (disjuncts : Disjuncts) → clauses_scoring (disjunct_trees S (with_scores searcher) disjuncts) ≡ true
-    disjunct_scoring no_disjunct = refl
-    disjunct_scoring (disjunct query disjuncts) = λ i. scoring query i && disjunct_scoring disjuncts i
-
 -- ---- counts
 
 -- two values without a provider
@@ -229,7 +198,7 @@ module _ (S : Ghosts Searched) (searcher : Searched) (q : Query) where
   explains_tree : (segment : Segment) (d : ℕ) (value : ℤ) (t : Tree) → t ≡ query_tree S (with_scores searcher) q → IsExplained t 1 segment d value → IsExplanationOf S searcher q segment d value
   explains_tree segment d value t same explained =
       let here = subst (λ u. IsExplained u 1 segment d value) same explained in
-      record { is_match = here.is_match; is_score = here.is_score (scoring S searcher q) }
+      record { is_match = here.is_match; is_score = here.is_score (scoring_if_enabled S (with_scores searcher) q refl) }
 
   unexplained_tree : (segment : Segment) (d : ℕ) (error : QueryError) → IsExplainRefusal (query_tree S (with_scores searcher) q) 1 segment d error → IsUnexplained S searcher q segment d error
   unexplained_tree segment d (DoesNotMatch e) refused = refused

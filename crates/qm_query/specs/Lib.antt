@@ -7,7 +7,9 @@ pub mod Refusals
 pub mod Query
 pub mod QueryMatches
 pub mod QueryTree
+pub mod Rescoring
 pub mod WeightRefusals
 pub mod QueryScorers
 pub mod QueryTerms
+pub mod ScoringTrees
 pub mod Searches

@@ -1,5 +1,5 @@
 -- Terms with their offsets: why some of them make no phrase, and the order that a query keeps them in.
-use Rattle.std.specs.Prelude.{ℕ, ◌==◌, nat_lt, Bool, if◌then◌else◌, List, [], ◌∷◌, Option, None, Some, IsPermutation, length, map}
+use Rattle.std.specs.Prelude.{◌≡◌, ℕ, ◌==◌, All, nat_lt, Bool, if◌then◌else◌, List, [], ◌∷◌, Option, None, Some, IsPermutation, length, map}
 use Rattle.std.specs.List.{find, list_all}
 use Rattle.std.specs.List.Sorted.{IsNonDecreasingBy, IsStableByKey}
 use Rattle.std.specs.Option.{option_map}
@@ -19,6 +19,14 @@ first_field term (x ∷ xs) = (term x).field
 
 abbrev pub are_of_one_field : {X : Type 0} → (X → TermKey) → List X → Bool
 are_of_one_field term xs = list_all (λ x. (term x).field == first_field term xs) xs
+
+-- terms with their offsets that are all of one field, this one
+abbrev pub AreOfField : ℕ → List (ℕ × TermKey) → Type 0
+AreOfField field terms = All (λ t. t.1.field ≡ field) terms
+
+-- the same, whatever the field
+abbrev pub AreOfOneField : List (ℕ × TermKey) → Type 0
+AreOfOneField terms = AreOfField (first_field (λ t. t.1) terms) terms
 
 -- the first offset above 4294967295
 abbrev pub too_large_offset : List (ℕ × TermKey) → Option ℕ

@@ -10,15 +10,19 @@ use Rattle.qm_query.specs.WeightRefusals.{IsWeightRefusal}
 use Rattle.qm_query.specs.declared.enable_scoring.EnableScoring.{EnableScoring}
 use Rattle.qm_schema.specs.declared.error.QueryError.{QueryError}
 use Rattle.qm_weight.specs.Scorers.{IsRefusalOf, IsScorerOf}
-use Rattle.qm_weight.specs.Tree.{is_scoring}
+use Rattle.qm_weight.specs.Tree.{Tree, is_scoring}
 
 -- a placed cursor over what the query means in the segment at a boost
 abbrev pub IsQueryScorer : {T P : Type 0} → Cursors T → Ghosts P → EnableScoring P → Query → ℕ → Segment → T → Type 0
 IsQueryScorer D S under query b segment s = IsScorerOf D (query_tree S under query) b segment s
 
--- with scoring on, it is on in every node of the query's tree, so that its scorer's scores are known
+-- where scoring is on, it is on in every node of a tree, so that what the tree scores is known
+abbrev pub ScoresIfEnabled : {P : Type 0} → EnableScoring P → Tree → Type 0
+ScoresIfEnabled under tree = IsTrue (is_enabled under) → IsTrue (is_scoring tree)
+
+-- .. in that of a query
 abbrev pub IsScoringIfEnabled : {P : Type 0} → Ghosts P → EnableScoring P → Query → Type 0
-IsScoringIfEnabled S under query = IsTrue (is_enabled under) → IsTrue (is_scoring (query_tree S under query))
+IsScoringIfEnabled S under query = ScoresIfEnabled under (query_tree S under query)
 
 -- a refusal of the query's weight, or of the scorer of its tree at a boost
 abbrev pub IsQueryRefusal : {P : Type 0} → Ghosts P → EnableScoring P → Query → ℕ → QueryError → Type 0

@@ -9,14 +9,14 @@ ghost use Rattle.qm_query.specs.QueryTree.{query_tree};
 ghost use Rattle.qm_query.specs.WeightRefusals.{IsWeightRefusal};
 
 use crate::any_query::AnyQuery;
-use crate::boxed::boxed;
 use crate::enable_scoring::EnableScoring;
 use crate::factor::Factor;
 use crate::query::Query;
+use crate::rescoring::{Rescoring, build_rescored};
 use qm_docset::Score;
 use qm_postings::Bm25StatisticsProvider;
 use qm_schema::{QueryError, Term};
-use qm_weight::{AnyWeight, BoostWeight};
+use qm_weight::AnyWeight;
 use std::alloc::Global;
 
 /// Matches what another query matches, and scores it at a boost, which multiplies the boost that the
@@ -67,12 +67,8 @@ impl BoostQuery {
         ensures served { IfOk result (λ _. IsTrue (is_served (schema_of enable_scoring.entry) (boost_of self.now))) }
         ensures refused { IfErr result (IsWeightRefusal P.Bm25StatisticsProvider enable_scoring.entry (boost_of self.now)) }
     {
-        let inside = (*self.underlying).build_weight(alloc, enable_scoring)?;
-        if !enable_scoring.is_scoring_enabled() {
-            return Ok(inside);
-        }
-        let weight = BoostWeight::new(inside, self.boost.score());
-        boxed(alloc, AnyWeight::Boost(weight))
+        let rescoring = Rescoring::Boost(self.boost);
+        build_rescored(&self.underlying, rescoring, alloc, enable_scoring)
     }
 
     // A call with each term that the query names; see [`Query::query_terms`].

@@ -29,7 +29,12 @@ pub enum EnableScoring<'a, P> {
     },
 }
 
+/// A copy is equal to the original. It takes no memory, so it is never refused.
 impl<'a, P> Clone for EnableScoring<'a, P> {
+    ghost is_clone = { λ scoring copy. copy ≡ scoring };
+
+    ghost is_infallible = { λ _. Unit {0} };
+
     fn clone(&self) -> Result<EnableScoring<'a, P>, AllocError> {
         Ok(*self)
     }

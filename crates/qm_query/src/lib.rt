@@ -20,6 +20,7 @@ mod offsets;
 mod phrase_prefix_query;
 mod phrase_query;
 mod query;
+mod rescoring;
 mod scorers;
 mod searches;
 mod term_query;

@@ -2,7 +2,7 @@
 
 ghost use Rattle.std.specs.Prelude.{◌≡◌, ◌≤◌, ◌⊎◌, [], ◌∷◌, ◌++◌, All, IfErr, IfOk, IsOkUnless, None, length, vec_len};
 ghost use Rattle.std.specs.List.{enumerate_from};
-ghost use Rattle.qm_query.specs.Offsets.{IsByOffset, row_refusal, terms_of, terms_refusal, with_one};
+ghost use Rattle.qm_query.specs.Offsets.{AreOfOneField, IsByOffset, row_refusal, terms_of, terms_refusal, with_one};
 ghost use Rattle.qm_query.specs.EnableScoring.{schema_of};
 ghost use Rattle.qm_query.specs.Fields.{phrase_field_refusal, term_field_refusal};
 ghost use Rattle.qm_query.specs.QueryTree.{full_prefix_tree};
@@ -35,7 +35,8 @@ const DEFAULT_MAX_EXPANSIONS: u32 = 50;
 /// alone matches the documents that hold one of these.
 ///
 /// Contracts see it as the full terms with their offsets, in the order of these, the prefix with its
-/// own, and the number of expansions.
+/// own, and the number of expansions. All of these terms are of one field, at offsets of at most
+/// 4294967295.
 #[derive(Debug, Drop)]
 pub struct PhrasePrefixQuery {
     phrase_terms: Vec<(usize, Term)>,
@@ -45,13 +46,14 @@ pub struct PhrasePrefixQuery {
 
 impl Model for PhrasePrefixQuery {
     ghost use Rattle.std.specs.Prelude.{◌≤◌, All};
+    ghost use Rattle.qm_query.specs.Offsets.{AreOfField};
     ghost use Rattle.qm_query.specs.Parts.{PrefixParts};
 
     ghost Value = { PrefixParts };
 
     ghost view = { λ q. record { terms = q.phrase_terms.items; prefix = q.prefix; max_expansions = q.max_expansions } };
 
-    ghost invariant = { λ q. All (λ t. t.0 ≤ 4294967295) q.phrase_terms.items × (q.prefix.0 ≤ 4294967295) };
+    ghost invariant = { λ q. All (λ t. t.0 ≤ 4294967295) q.phrase_terms.items × (q.prefix.0 ≤ 4294967295) × AreOfField q.prefix.1.field q.phrase_terms.items };
 }
 
 impl PhrasePrefixQuery {
@@ -105,6 +107,7 @@ impl PhrasePrefixQuery {
     fn of_sorted(mut terms: Vec<(usize, Term)>) -> PhrasePrefixQuery
         requires some { 1 ≤ vec_len terms }
         requires fit { All (λ t. t.0 ≤ 4294967295) terms.items }
+        requires field { AreOfOneField terms.items }
         ensures terms { result.terms ++ result.prefix ∷ [] ≡ terms.items }
         ensures expansions { result.max_expansions ≡ 50 }
     {

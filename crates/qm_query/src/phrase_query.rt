@@ -23,7 +23,8 @@ use std::marker::Model;
 /// Matches the documents where terms of one field stand together, each at its offset from where the
 /// phrase begins, or up to `slop` places past that.
 ///
-/// Contracts see it as the terms with their offsets, in the order of these, and the slop.
+/// Contracts see it as the terms with their offsets, in the order of these, and the slop. The terms of
+/// every phrase are two or more, of one field, at offsets of at most 4294967295.
 #[derive(Debug, Drop)]
 pub struct PhraseQuery {
     phrase_terms: Vec<(usize, Term)>,
@@ -32,13 +33,14 @@ pub struct PhraseQuery {
 
 impl Model for PhraseQuery {
     ghost use Rattle.std.specs.Prelude.{◌≤◌, All, length};
+    ghost use Rattle.qm_query.specs.Offsets.{AreOfOneField};
     ghost use Rattle.qm_query.specs.Parts.{PhraseParts};
 
     ghost Value = { PhraseParts };
 
     ghost view = { λ q. record { terms = q.phrase_terms.items; slop = q.slop } };
 
-    ghost invariant = { λ q. (2 ≤ length q.phrase_terms.items) × All (λ t. t.0 ≤ 4294967295) q.phrase_terms.items };
+    ghost invariant = { λ q. (2 ≤ length q.phrase_terms.items) × All (λ t. t.0 ≤ 4294967295) q.phrase_terms.items × AreOfOneField q.phrase_terms.items };
 }
 
 impl PhraseQuery {

@@ -6,6 +6,7 @@ ghost use Rattle.qm_weight.specs.Weights.{tree_of};
 ghost use Rattle.qm_query.specs.EnableScoring.{schema_of};
 ghost use Rattle.qm_query.specs.Fields.{is_served};
 ghost use Rattle.qm_query.specs.Query.{Query, query_of};
+ghost use Rattle.qm_query.specs.QueryScorers.{ScoresIfEnabled};
 ghost use Rattle.qm_query.specs.QueryTerms.{MayVisitTerms, VisitsTerms, terms_of_query};
 ghost use Rattle.qm_query.specs.QueryTree.{query_tree};
 ghost use Rattle.qm_query.specs.Searches.{IsCountOf, IsCountRefusal, IsExplainedAt, IsUnexplainedAt};
@@ -38,7 +39,8 @@ pub trait Query {
     /// provider answers for the terms of each leaf, or where they are not. Then no provider is asked,
     /// boosts and constant scores are left away, and the postings of a term are read for the
     /// documents alone. A query that takes the best of several scores has them as Should clauses, of
-    /// which one has to match, under its own combiner.
+    /// which one has to match, under its own combiner. Where scores are wanted, every node of the tree
+    /// scores.
     ///
     /// Refused, where more than one is due with what the first leaf says in the order of the clauses,
     /// of a leaf the field before the provider: with [`QueryError::UnknownField`] where the schema
@@ -52,6 +54,7 @@ pub trait Query {
         enable_scoring: EnableScoring<'_, P>,
     ) -> Result<Box<AnyWeight>, QueryError>
         ensures tree { IfOk result (λ weight. tree_of weight.value ≡ query_tree P.Bm25StatisticsProvider enable_scoring.entry (query self.now)) }
+        ensures scoring { IfOk result (λ weight. ScoresIfEnabled enable_scoring.entry (tree_of weight.value)) }
         ensures served { IfOk result (λ _. IsTrue (is_served (schema_of enable_scoring.entry) (query self.now))) }
         ensures refused { IfErr result (IsWeightRefusal P.Bm25StatisticsProvider enable_scoring.entry (query self.now)) };
 

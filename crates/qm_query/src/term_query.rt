@@ -5,6 +5,7 @@ ghost use Rattle.qm_weight.specs.Tree.{term as leaf_of};
 ghost use Rattle.qm_weight.specs.Weights.{term_tree, tree_of, weighing_if};
 ghost use Rattle.qm_query.specs.EnableScoring.{schema_of};
 ghost use Rattle.qm_query.specs.Fields.{is_served};
+ghost use Rattle.qm_query.specs.QueryScorers.{ScoresIfEnabled};
 ghost use Rattle.qm_query.specs.QueryTree.{query_tree};
 ghost use Rattle.qm_query.specs.WeightRefusals.{IsWeightRefusal};
 
@@ -72,6 +73,7 @@ impl TermQuery {
         enable_scoring: EnableScoring<'_, P>,
     ) -> Result<TermWeight, QueryError>
         ensures tree { IfOk result (λ weight. term_tree weight ≡ query_tree P.Bm25StatisticsProvider enable_scoring.entry (term_query self.now)) }
+        ensures scoring { IfOk result (λ weight. ScoresIfEnabled enable_scoring.entry (term_tree weight)) }
         ensures served { IfOk result (λ _. IsTrue (is_served (schema_of enable_scoring.entry) (term_query self.now))) }
         ensures refused { IfErr result (IsWeightRefusal P.Bm25StatisticsProvider enable_scoring.entry (term_query self.now)) }
     {

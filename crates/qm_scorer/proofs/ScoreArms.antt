@@ -1,13 +1,12 @@
 -- What a tree is after its leaf or its node was asked for a score, by what that call ensures.
-use Rattle.std.proofs.Common.{arith, ◌≡◌, ℕ, ◌*◌, ◌<◌, ◌≤◌, ℤ, pos, List, [], ◌∷◌, sum, sym, ap, subst, ◌∙◌}
+use Rattle.std.proofs.Common.{arith, ◌≡◌, ℕ, ◌*◌, ◌<◌, ◌≤◌, ℤ, pos, List, sym, ap, subst, ◌∙◌}
 use Rattle.std.specs.declared.boxed.Box.{Box}
 use lib.Signed.{mag}
-use Rattle.qm_docset.specs.BitSetDocSet.{IsOnMember}
 use Rattle.qm_docset.specs.Entry.{Entry, greatest_score, head_document, head_score}
 use Rattle.qm_docset.specs.Exclusion.{has_document}
 use Rattle.qm_docset.specs.declared.docset.DocSet.{Ghosts}
 use Rattle.qm_docset.specs.declared.numbers.TheConstants.{TERMINATED}
-use Rattle.qm_combine.specs.Rescored.{rescored, with_optional}
+use Rattle.qm_combine.specs.Rescored.{rescored}
 use Rattle.qm_combine.specs.Without.{without}
 use Rattle.qm_combine.specs.WithoutFacts.{IsKept}
 use Rattle.qm_scorer.specs.Bare.{IsBounded, bare}

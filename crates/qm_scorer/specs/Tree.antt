@@ -3,13 +3,13 @@
 use Rattle.std.specs.Prelude.{◌≡◌, ℕ, ◌*◌, ◌<◌, ◌≤◌, List, [], ◌∷◌, sum}
 use Rattle.std.specs.List.{All as Each}
 use Rattle.qm_docset.specs.BitSetDocSet.{IsBitSetCursor, IsOnMember, remaining_members}
-use Rattle.qm_docset.specs.Entry.{Entry, Limits, greatest_score, head_document, no_limits}
+use Rattle.qm_docset.specs.Entry.{Entry, Limits, head_document, no_limits}
 use Rattle.qm_docset.specs.Exclusion.{has_document}
 use Rattle.qm_docset.specs.Gather.{common_entries, gather, scores_at}
 use Rattle.qm_docset.specs.declared.bitset_docset.BitSetDocSet.{BitSetDocSet}
 use Rattle.qm_docset.specs.declared.docset.DocSet.{Ghosts}
 use Rattle.qm_docset.specs.declared.numbers.TheConstants.{TERMINATED}
-use Rattle.qm_postings.specs.SegmentPostings.{IsPostings, postings_left, postings_limits}
+use Rattle.qm_postings.specs.SegmentPostings.{IsPostings, ReadsAs, postings_left, postings_limits}
 use Rattle.qm_postings.specs.declared.segment_postings.SegmentPostings.{SegmentPostings}
 use Rattle.qm_combine.specs.AllDocuments.{IsOverAll, all_left}
 use Rattle.qm_combine.specs.Constant.{IsConstant, IsConstantPlaced, constant_left, constant_limits}
@@ -21,18 +21,19 @@ use Rattle.qm_combine.specs.WithoutFacts.{IsKept}
 use Rattle.qm_phrase.specs.PhrasePrefixScorer.{IsOnPhrasePrefix, IsPhrasePrefix, phrase_prefix_left, phrase_prefix_scorer_limits}
 use Rattle.qm_phrase.specs.PhraseScorer.{IsOnPhrase, IsPhrase, phrase_left, phrase_scorer_limits}
 use Rattle.qm_term.specs.TermScorer.{IsTermScorer, scored_left, scored_limits}
-use Rattle.qm_scorer.specs.AnyCombiner.{any_combined}
+use Rattle.qm_scorer.specs.AnyCombiner.{AreTakenBy, any_combined}
 use Rattle.qm_scorer.specs.Bare.{IsBounded, bare, scores_to}
+use Rattle.qm_scorer.specs.declared.any_combiner.AnyCombiner.{AnyCombiner}
 use Rattle.qm_scorer.specs.declared.any_scorer.AnyScorer.{AnyScorer, Row_of-AnyScorer, end_of-AnyScorer, more_of-AnyScorer, All, BitSet, Boost', Const', Disjunction', Empty, Exclude', Intersection', Own, Phrase, PhrasePrefix, RequiredOptional', Term, Union'}
 use Rattle.qm_scorer.specs.declared.group_node.Shape.{Shape}
 
 -- ---- the ghost members of the cursors below the leaves
 
 abbrev pub set_cursors : Ghosts BitSetDocSet
-set_cursors = record { entries = remaining_members; limits = λ _. no_limits; placed = IsOnMember; valid = IsBitSetCursor }
+set_cursors = record { entries = remaining_members; limits = λ _. no_limits; keeps = λ _ _. Unit {0}; placed = IsOnMember; valid = IsBitSetCursor }
 
 abbrev pub postings_cursors : Ghosts SegmentPostings
-postings_cursors = record { entries = postings_left; limits = postings_limits; placed = λ _. Unit {0}; valid = IsPostings }
+postings_cursors = record { entries = postings_left; limits = postings_limits; keeps = ReadsAs; placed = λ _. Unit {0}; valid = IsPostings }
 
 -- ---- groups
 
@@ -40,9 +41,9 @@ postings_cursors = record { entries = postings_left; limits = postings_limits; p
 abbrev pub gathered_list : Shape → List (List Entry) → List Entry
 gathered_list shape ess = gather shape.minimum (any_combined shape.combiner) ess
 
--- the scores of each document add up to a score
-abbrev pub HasRoom : List (List Entry) → Type 0
-HasRoom ess = (d : ℕ) → sum (scores_at d ess) ≤ greatest_score
+-- a combiner can take in the scores of each document
+abbrev pub HasRoom : AnyCombiner → List (List Entry) → Type 0
+HasRoom combiner ess = (d : ℕ) → AreTakenBy combiner (scores_at d ess)
 
 -- A group stands on the first document that it lists, and its members there or past it; what it lists is
 -- within its bound, and there is room for the scores of each document.
@@ -51,7 +52,7 @@ pub record IsGroup (shape : Shape) (current : ℕ) (ess : List (List Entry)) : T
   pub some : 1 ≤ shape.minimum
   pub first : current ≡ head_document (gathered_list shape ess)
   pub least : current ≡ least_head ess
-  pub room : HasRoom ess
+  pub room : HasRoom shape.combiner ess
 
 -- ---- trees
 

@@ -1,13 +1,14 @@
 //! What builds the nodes over several scorers.
 
 ghost use Rattle.std.specs.Prelude.{◌≡◌, ◌≤◌, All, IfErr, IfOk, IsOkUnless, map};
+ghost use Rattle.qm_docset.specs.Gather.{gather};
 ghost use Rattle.qm_docset.specs.Lists.{ArePlaced, IsPlaced};
 ghost use Rattle.qm_combine.specs.HeldSum.{held_sum};
 ghost use Rattle.qm_combine.specs.Union.{IsBoundOrMemory, IsRefusedByBounds};
 ghost use Rattle.qm_scorer.specs.Built.{IsAtLeastOf, IsUnionOf};
-ghost use Rattle.qm_scorer.specs.Group.{IsMadeOf};
+ghost use Rattle.qm_scorer.specs.Group.{IsGroupNode, IsMadeOf, group_entries};
 ghost use Rattle.qm_scorer.specs.Intersection.{ListsShared};
-ghost use Rattle.qm_scorer.specs.Tree.{IsTree, tree_top};
+ghost use Rattle.qm_scorer.specs.Tree.{IsTree, tree_entries, tree_top};
 
 use crate::any_combiner::AnyCombiner;
 use crate::any_scorer::{AnyScorer, doc_tree};
@@ -15,7 +16,7 @@ use crate::bounds::GREATEST_SCORE;
 use crate::builders::bound_of;
 use crate::group_node::{GroupNode, Shape, next_match};
 use crate::intersection_node::{IntersectionNode, align};
-use qm_combine::{EmptyScorer, Scorer, by_cost, sum_of_bounds};
+use qm_combine::{DoNothingCombiner, EmptyScorer, Scorer, by_cost, sum_of_bounds};
 use qm_docset::DocSet;
 use qm_schema::QueryError;
 use std::alloc::Global;
@@ -91,6 +92,27 @@ fn group_of<'a, S: Scorer>(
     };
     node.current = next_match(&mut node, 0);
     Ok(node)
+}
+
+// A group of the documents that any of the members has, whose scores nobody asks for: so they may add up
+// to any number.
+pub(crate) fn any_of<'a, S: Scorer>(members: Vec<AnyScorer<'a, S>>) -> GroupNode<'a, S>
+    requires placed { ArePlaced ⟦<AnyScorer<'a, S> as DocSet>⟧ members.items }
+    ensures valid { IsGroupNode S.DocSet result }
+    ensures entries { group_entries S.DocSet result ≡ gather 1 (λ _. 1) (map (tree_entries S.DocSet) members.entry.items) }
+{
+    let shape = Shape {
+        minimum: 1,
+        combiner: AnyCombiner::DoNothing(DoNothingCombiner),
+        top: 1,
+    };
+    let mut node = GroupNode {
+        members,
+        shape,
+        current: 0,
+    };
+    node.current = next_match(&mut node, 0);
+    node
 }
 
 /// The documents that all of several scorers have, each with the sum of the scores there, held at

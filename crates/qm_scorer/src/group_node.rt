@@ -17,7 +17,7 @@ use qm_docset::{DocId, Score, SeekDangerResult, TERMINATED};
 
 /// Which documents a group lists, what it makes of their scores, and the bound on that.
 #[derive(Clone, Copy, Debug)]
-pub struct Shape {
+pub(crate) struct Shape {
     pub(crate) minimum: usize,
     pub(crate) combiner: AnyCombiner,
     pub(crate) top: u64,
@@ -84,13 +84,13 @@ fn has_enough<'a, S: Scorer>(node: &GroupNode<'a, S>, doc: DocId) -> bool
 pub(crate) fn next_match<'a, S: Scorer>(node: &mut GroupNode<'a, S>, target: DocId) -> DocId
     requires members { AreStanding S.DocSet node.old }
     requires some { 1 ≤ node.old.shape.minimum }
-    requires room { HasRoom (group_lists S.DocSet node.old) }
+    requires room { HasRoom node.old.shape.combiner (group_lists S.DocSet node.old) }
     requires target { target ≤ TERMINATED }
     ensures head { result ≡ head_document (group_entries S.DocSet node.new) }
     ensures least { result ≡ least_head (group_lists S.DocSet node.new) }
     ensures entries { group_entries S.DocSet node.new ≡ from target (group_entries S.DocSet node.old) }
     ensures members { AreStanding S.DocSet node.new }
-    ensures room { HasRoom (group_lists S.DocSet node.new) }
+    ensures room { HasRoom node.new.shape.combiner (group_lists S.DocSet node.new) }
     ensures shape { node.new.shape ≡ node.old.shape }
     ensures depth { size-GroupNode _ node.new ≤ size-GroupNode _ node.old }
 {

@@ -23,6 +23,6 @@ pub use builders::{boost, constant, exclude, required_optional};
 pub use const_node::ConstNode;
 pub use exclude_node::ExcludeNode;
 pub use group_builders::{at_least, intersect_scorers, union};
-pub use group_node::{GroupNode, Shape};
+pub use group_node::GroupNode;
 pub use intersection_node::IntersectionNode;
 pub use optional_node::OptionalNode;

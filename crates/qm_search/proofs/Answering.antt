@@ -19,6 +19,7 @@ use Rattle.qm_search.specs.Fields.{script_fields}
 use Rattle.qm_search.specs.Found.{found_above, found_above_in_parts}
 use Rattle.qm_search.specs.PrefixFree.{has_no_prefix}
 use Rattle.qm_search.specs.Prefixes.{has_prefix}
+use Rattle.qm_search.specs.ProgramNumbers.{ungiven_weight}
 use Rattle.qm_search.specs.Script as language
 use Rattle.qm_search.specs.ScriptSegments.{AreOnePart, AreSegments, Script, all_segments}
 use Rattle.qm_search.specs.State.{State}
@@ -42,7 +43,7 @@ pub IsForDocuments-refused : (s : Script) → IsForDocuments s (for_documents s)
 IsForDocuments-refused s = record { fields = refl; scores = refl }
 
 abbrev pub nothing_searched : State → Searched
-nothing_searched s = record { schema = s.documents.current.schema; segments = []; weights = s.weights; default_weight = 1000; norms = range_with_len 0 256 }
+nothing_searched s = record { schema = s.documents.current.schema; segments = []; weights = s.weights; default_weight = ungiven_weight; norms = range_with_len 0 256 }
 
 abbrev pub for_scores : State → EnableScoring Searched
 for_scores s = Enabled (lent (nothing_searched s)) (lent (nothing_searched s))

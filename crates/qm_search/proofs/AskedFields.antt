@@ -21,7 +21,7 @@ use Rattle.qm_search.specs.Fields.{script_fields}
 use Rattle.qm_search.specs.Script as language
 use Rattle.qm_search.specs.Script.{no_clause, clause, no_query}
 use Rattle.qm_search.specs.Under.{IsListingRefusal, IsScoreRefusal, tree_of}
-use Rattle.qm_search.specs.declared.terms.TheConstants.{BODY}
+use Rattle.qm_search.specs.ProgramNumbers.{body_field}
 use Rattle.qm_search.proofs.AskedTrees.{bind-ok, test-ok, unless-ok}
 use Rattle.qm_weight.specs.Scorers.{IsRefusalOf}
 use Rattle.qm_weight.specs.Tree.{Fits, Tree}
@@ -42,7 +42,7 @@ row-served [] = refl
 row-served (w ∷ words) = refl
 
 -- the last of a row is a word of that field too
-last-field : (most : ℕ) (t : ℕ × TermKey) (n : ℕ) (words : List (List ℕ)) → t.1.field ≡ BODY → (prefix_parts most t (enumerate_from n (map term_of words))).prefix.1.field ≡ BODY
+last-field : (most : ℕ) (t : ℕ × TermKey) (n : ℕ) (words : List (List ℕ)) → t.1.field ≡ body_field → (prefix_parts most t (enumerate_from n (map term_of words))).prefix.1.field ≡ body_field
 last-field most t n [] is = is
 last-field most t n (w ∷ words) is = last-field most (n, term_of w) (n + 1) words refl
 

@@ -1,5 +1,4 @@
--- The trees of the queries that lines ask: where scoring is on they score, and where no prefix is spelled they
--- have none.
+-- The trees of the queries that lines ask have no prefix where none is spelled.
 use Rattle.std.proofs.Common.{◌≡◌, ℕ, Bool, true, false, ◌&&◌, ◌||◌, ◌==◌, if◌then◌else◌, nat_lt, List, [], ◌∷◌, Option, None, Some, Result, Ok, Err, IfOk, refl, sym, length}
 use Rattle.std.proofs.lemmas.Bool.{false≢true}
 use Rattle.qm_postings.specs.Statistics.{Searched}
@@ -24,48 +23,6 @@ use Rattle.qm_search.specs.Script.{no_clause, clause, no_query}
 use Rattle.qm_search.specs.Under.{tree_of}
 use Rattle.qm_weight.specs.Tree as tree
 use Rattle.qm_weight.specs.Tree.{Tree, clauses_scoring, is_scoring}
-
--- ---- scores
-
-if-scoring : (b : Bool) (x y : Tree) → is_scoring x ≡ true → is_scoring y ≡ true → is_scoring (if b then x else y) ≡ true
-if-scoring true x y first second = first
-if-scoring false x y first second = second
-
-module _ (searcher provider : Bor Searched) where
-  abbrev enabled : EnableScoring Searched
-  enabled = Enabled searcher provider
-
-  full-scoring : (terms : List (ℕ × TermKey)) (prefix : ℕ × TermKey) (most : ℕ) → is_scoring (full_prefix_tree ghosts enabled (record { terms = terms; prefix = prefix; max_expansions = most })) ≡ true
-  full-scoring [] prefix most = refl
-  full-scoring (t ∷ terms) prefix most = refl
-
-  prefix-scoring : (p : PrefixParts) → is_scoring (tree_of enabled (phrase_prefix p)) ≡ true
-  prefix-scoring p = if-scoring (length p.terms == 0) (prefix_alone p.prefix.1 p.max_expansions) (full_prefix_tree ghosts enabled p) refl (full-scoring p.terms p.prefix p.max_expansions)
-
-  mutual
-    scoring-query : (q : Query) → is_scoring (tree_of enabled q) ≡ true
-    scoring-query all = refl
-    scoring-query none = refl
-    scoring-query (term t) = refl
-    scoring-query (phrase p) = refl
-    scoring-query (phrase_prefix p) = prefix-scoring p
-    scoring-query (boolean minimum clauses) = scoring-clauses clauses
-    scoring-query (boost factor inside) = scoring-query inside
-    scoring-query (constant score inside) = scoring-query inside
-    scoring-query (disjunction_max tie_breaker disjuncts) = scoring-disjuncts disjuncts
-
-    scoring-clauses : (cs : Subqueries) → clauses_scoring (clause_trees ghosts enabled cs) ≡ true
-    scoring-clauses no_subquery = refl
-    scoring-clauses (subquery occur q cs) = λ i. scoring-query q i && scoring-clauses cs i
-
-    scoring-disjuncts : (ds : Disjuncts) → clauses_scoring (disjunct_trees ghosts enabled ds) ≡ true
-    scoring-disjuncts no_disjunct = refl
-    scoring-disjuncts (disjunct q ds) = λ i. scoring-query q i && scoring-disjuncts ds i
-
--- where scoring is on, every node of a query's tree scores
-pub scoring-enabled : (enable : EnableScoring Searched) (q : Query) → is_enabled enable ≡ true → is_scoring (tree_of enable q) ≡ true
-scoring-enabled (Enabled searcher provider) q on = scoring-query searcher provider q
-scoring-enabled (Disabled schema searcher) q on = absurd (false≢true on)
 
 -- ---- prefixes
 

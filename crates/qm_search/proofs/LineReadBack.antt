@@ -11,7 +11,7 @@ use Rattle.qm_schema.specs.declared.occur.Occur.{Occur}
 use Rattle.qm_schema.specs.declared.occur.Occur.TheVariants.{Should, Must, MustNot}
 use Rattle.qm_search.specs.Script.{Clauses, Queries, Query, Request, add_document, all, behind_line_form, boolean, boost, clause, constant, count_matches, cut_at_tabs, delete_at, delete_document, disjunction_max, document_at, end_segment, line_form_named, line_request, line_words, list_above, list_documents, list_scores, no_clause, no_query, non_empty, none, nothing, phrase, phrase_prefix, prune_at, query, query_at, score_at, set_weight, term, threshold_at, weight_at, whole_query, words_request}
 use Rattle.qm_search.specs.Spelling.{AreLineWords, CanBeAsked, CanBeSpelled, ClausesCanBeSpelled, IsAskable, IsCount, IsDocumentNumber, IsLineWord, IsScore, IsThreshold, QueriesCanBeSpelled, clause_count, line_text, query_count, request_words, sign, spelled, spelled_clauses, spelled_queries}
-use Rattle.qm_search.specs.declared.spelled_query.TheConstants.{MAX_DEPTH}
+use Rattle.qm_search.specs.ProgramNumbers.{most_depth}
 use Rattle.qm_search.proofs.ReadBack.{document-read, query-read, read-then, score-read, threshold-read}
 use Rattle.qm_search.proofs.WordLemmas.{non_empty-cons}
 
@@ -127,7 +127,7 @@ askable-words (list_above threshold q) h = (record { some = omega arith; no_blan
 
 whole-read : (q : Query) → CanBeAsked q → whole_query (spelled q) ≡ Some q
 unfolding whole_query
-whole-read q h = read-then (query_at MAX_DEPTH (spelled q)) (q, []) _ _ (ap (query_at MAX_DEPTH) (sym (append-nil (spelled q))) ∙ query-read q MAX_DEPTH [] h.0 h.1) refl
+whole-read q h = read-then (query_at most_depth (spelled q)) (q, []) _ _ (ap (query_at most_depth) (sym (append-nil (spelled q))) ∙ query-read q most_depth [] h.0 h.1) refl
 
 weight-read : (word : List ℕ) (weight : ℤ) → IsScore weight → weight_at (word ∷ signed_decimal weight ∷ []) ≡ Some (set_weight word weight)
 unfolding weight_at

@@ -10,7 +10,7 @@ use Rattle.qm_docset.specs.declared.numbers.TheConstants.{TERMINATED}
 use Rattle.qm_postings.specs.declared.segment_reader.SegmentReader.{SegmentReader}
 use Rattle.qm_postings.specs.Segment.{Document, Segment}
 use Rattle.qm_schema.specs.Schema.{FieldFacts}
-use Rattle.qm_search.specs.declared.documents.TheConstants.{BLOCK_LEN}
+use Rattle.qm_search.specs.ProgramNumbers.{block_length}
 use Rattle.qm_search.specs.Found.{segments_of}
 use Rattle.qm_search.specs.Parts.{AreParts, document_count, joined}
 use Rattle.qm_search.specs.TextSegments.{segment_of, text_document}
@@ -97,7 +97,7 @@ module _ (schema : List FieldFacts) (texts : List (String Global)) (built : ℕ)
   schemas-of are = sym (map-map (λ (s : Segment). s.schema) (λ (r : SegmentReader). r.segment) readers) ∙ are.schemas ∙ map-map (λ (s : Segment). schema) (λ (r : SegmentReader). r.segment) readers
 
   pub joined-of : AreParts (segment_of schema (take built texts)) (segments_of readers) → joined schema (segments_of readers) ≡ segment_of schema (take built texts)
-  joined-of are = ap (λ ds. let s : Segment = record { schema = schema; block_len = BLOCK_LEN; documents = ds; deleted = [] } in s) are.documents
+  joined-of are = ap (λ ds. let s : Segment = record { schema = schema; block_len = block_length; documents = ds; deleted = [] } in s) are.documents
 
 -- Of a row of readers.
 

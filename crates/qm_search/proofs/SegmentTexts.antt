@@ -9,20 +9,19 @@ use Rattle.qm_schema.specs.declared.error.QueryError.TheVariants.{BadDocument, M
 use Rattle.qm_postings.specs.Segment.{IsGood, Segment, document_of, with_document}
 use Rattle.qm_schema.specs.Schema.{FieldFacts}
 use Rattle.qm_search.specs.TextSegments.{IsTextRefusal, segment_of, text_document, text_draft, with_text}
-use Rattle.qm_search.specs.declared.documents.TheConstants.{BLOCK_LEN}
-use Rattle.qm_search.specs.declared.terms.TheConstants.{BODY}
+use Rattle.qm_search.specs.ProgramNumbers.{block_length, body_field}
 
 -- what a document of a text is, by what it was given
-pub draft-of : (text : List ℕ) (draft : Draft) → draft.terms ≡ text_terms BODY (words_of text) → draft.lengths ≡ (BODY, min 255 (length (words_of text))) ∷ [] → draft ≡ text_draft text
+pub draft-of : (text : List ℕ) (draft : Draft) → draft.terms ≡ text_terms body_field (words_of text) → draft.lengths ≡ (body_field, min 255 (length (words_of text))) ∷ [] → draft ≡ text_draft text
 unfolding text_draft
-draft-of text draft terms lengths = ap (λ (ts : List Given). let d : Draft = record { terms = ts; lengths = draft.lengths } in d) terms ∙ ap (λ (ls : List (ℕ × ℕ)). let d : Draft = record { terms = text_terms BODY (words_of text); lengths = ls } in d) lengths
+draft-of text draft terms lengths = ap (λ (ts : List Given). let d : Draft = record { terms = ts; lengths = draft.lengths } in d) terms ∙ ap (λ (ls : List (ℕ × ℕ)). let d : Draft = record { terms = text_terms body_field (words_of text); lengths = ls } in d) lengths
 
 pub with_text-of : (segment : Segment) (text : List ℕ) (draft : Draft) → draft ≡ text_draft text → with_document segment (document_of segment.schema draft) ≡ with_text segment text
 unfolding text_document
 with_text-of segment text draft is = ap (λ d. with_document segment (document_of segment.schema d)) is
 
 pub segment_of-push : (schema : List FieldFacts) (texts : List (String Global)) (text : String Global) → segment_of schema (texts ++ text ∷ []) ≡ with_text (segment_of schema texts) (string_bytes text)
-segment_of-push schema texts text = ap (λ ds. let s : Segment = record { schema = schema; block_len = BLOCK_LEN; documents = ds; deleted = [] } in s) (map-append (λ t. text_document schema (string_bytes t)) texts (text ∷ []))
+segment_of-push schema texts text = ap (λ ds. let s : Segment = record { schema = schema; block_len = block_length; documents = ds; deleted = [] } in s) (map-append (λ t. text_document schema (string_bytes t)) texts (text ∷ []))
 
 abbrev failed : QueryError → Result ℕ QueryError
 failed e = Err e

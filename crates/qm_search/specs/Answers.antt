@@ -19,13 +19,13 @@ use Rattle.qm_search.specs.TextSegments.{IsTextRefusal}
 use Rattle.qm_search.specs.Under.{IsForDocuments, IsForScores, IsScoreRefusal}
 use Rattle.qm_search.specs.declared.answer.Answer.{Answer}
 use Rattle.qm_search.specs.declared.answer.Answer.TheVariants.{Silence, Listing, Refused, NotUnderstood}
-use Rattle.qm_search.specs.declared.corpus.TheConstants.{MAX_SEGMENTS}
+use Rattle.qm_search.specs.ProgramNumbers.{most_segments}
 use Rattle.qm_search.specs.declared.parse.Command.{Command}
 use Rattle.qm_search.specs.declared.parse.Command.TheVariants.{Nothing, AddDocument, SetWeight, EndSegment, DeleteDocument, ListDocuments, ListScores, CountMatches, ListAbove}
 
 -- why the segments of a script may be refused as too many to be searched
 abbrev pub IsSegmentsRefusal : Script → QueryError → Type 0
-IsSegmentsRefusal s TooManySegments = MAX_SEGMENTS < length (all_segments s)
+IsSegmentsRefusal s TooManySegments = most_segments < length (all_segments s)
 IsSegmentsRefusal s error = ⊥
 
 -- a refusal of this number that can come

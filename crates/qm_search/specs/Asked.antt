@@ -14,11 +14,11 @@ use Rattle.qm_schema.specs.declared.occur.Occur.{Occur}
 use Rattle.qm_schema.specs.declared.schema.option.IndexRecordOption.TheVariants.{WithFreqs}
 use Rattle.qm_search.specs.Script as spelled
 use Rattle.qm_search.specs.Script.{Clauses, Queries, all, none, term, phrase, phrase_prefix, boolean, boost, constant, disjunction_max, no_clause, clause, no_query, query}
-use Rattle.qm_search.specs.declared.terms.TheConstants.{BODY}
+use Rattle.qm_search.specs.ProgramNumbers.{body_field}
 
 -- a word, as a term
 abbrev pub term_of : List ℕ → TermKey
-term_of word = record { field = BODY; bytes = word }
+term_of word = record { field = body_field; bytes = word }
 
 -- what is made where no refusal is due
 abbrev pub unless : {X : Type 0} → Option QueryError → X → Result X QueryError

@@ -1,3 +1,4 @@
+pub mod ProgramNumbers
 pub mod Asked
 pub mod Weights
 pub mod State

@@ -8,7 +8,7 @@ use Rattle.qm_schema.specs.declared.occur.Occur.{Occur}
 use Rattle.qm_schema.specs.declared.occur.Occur.TheVariants.{Should, Must, MustNot}
 use Rattle.qm_search.specs.declared.form.QueryForm.{QueryForm}
 use Rattle.qm_search.specs.declared.form.QueryForm.TheVariants.{All, Empty, Term, Phrase, PhrasePrefix, Boolean, Boost, Const, DisjunctionMax}
-use Rattle.qm_search.specs.declared.spelled_query.TheConstants.{MAX_DEPTH}
+use Rattle.qm_search.specs.ProgramNumbers.{most_depth}
 use Rattle.qm_search.specs.declared.form.LineForm.{LineForm}
 use Rattle.qm_search.specs.declared.form.LineForm.TheVariants.{Doc, Weight, Segment, Delete, Docs, Scores, Count, Prune}
 
@@ -279,7 +279,7 @@ delete_at words = do
 -- a query that takes all of the words
 unfoldable pub whole_query : List (List ℕ) → Option Query
 whole_query words = do
-  q ← query_at MAX_DEPTH words
+  q ← query_at most_depth words
   whole q
 
 unfoldable pub prune_at : List (List ℕ) → Option Request

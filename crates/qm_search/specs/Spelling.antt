@@ -5,7 +5,7 @@ use Rattle.std.specs.List.{AllByRecursion, join_with_byte}
 use Rattle.qm_schema.specs.declared.occur.Occur.{Occur}
 use Rattle.qm_schema.specs.declared.occur.Occur.TheVariants.{Should, Must, MustNot}
 use Rattle.qm_search.specs.Script.{Clauses, Queries, Query, Request, add_document, all, boolean, boost, clause, constant, count_matches, delete_document, disjunction_max, end_segment, list_above, list_documents, list_scores, no_clause, no_query, none, nothing, phrase, phrase_prefix, query, set_weight, term}
-use Rattle.qm_search.specs.declared.spelled_query.TheConstants.{MAX_DEPTH}
+use Rattle.qm_search.specs.ProgramNumbers.{most_depth}
 
 -- ---- queries
 
@@ -132,7 +132,7 @@ line_text request = join_with_byte 32 (request_words request)
 
 -- a query that a line can ask for
 abbrev pub CanBeAsked : Query → Type 0
-CanBeAsked q = (query_depth q ≤ MAX_DEPTH) × CanBeSpelled q
+CanBeAsked q = (query_depth q ≤ most_depth) × CanBeSpelled q
 
 -- what a line can ask for
 abbrev pub IsAskable : Request → Type 0

@@ -1,10 +1,10 @@
 -- What words weigh.
-use Rattle.std.specs.Prelude.{◌≡◌, ℕ, pos, map, nat_abs}
+use Rattle.std.specs.Prelude.{◌≡◌, ℕ, map, nat_abs}
 use Rattle.std.specs.FinMap.{FinMap, from_entries, get}
 use Rattle.std.specs.List.{range_with_len}
 use Rattle.qm_postings.specs.Statistics.{Searched}
 use Rattle.qm_schema.specs.Term.{TermKey, term_cmp}
-use Rattle.qm_search.specs.declared.corpus.TheConstants.{DEFAULT_WEIGHT}
+use Rattle.qm_search.specs.ProgramNumbers.{ungiven_weight}
 use Rattle.qm_search.specs.declared.non_negative_score.NonNegativeScore.{NonNegativeScore}
 use Rattle.qm_search.specs.declared.word_weights.WordWeights.{WordWeights}
 
@@ -19,5 +19,5 @@ given w = from_entries (map weight_pair w.weights.entries)
 -- A searcher that weighs words as a script says, and a length by the number of its words.
 pub record IsWeighedBy (weights : FinMap term_cmp ℕ) (searched : Searched) : Type 0 where
   pub given : (q : TermKey) → get searched.weights q ≡ get weights q
-  pub others : pos searched.default_weight ≡ DEFAULT_WEIGHT
+  pub others : searched.default_weight ≡ ungiven_weight
   pub norms : searched.norms ≡ range_with_len 0 256

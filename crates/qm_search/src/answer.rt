@@ -44,7 +44,8 @@ impl Answer {
     }
 
     /// Makes of the text, which has what was listed, all that is written where this answers line
-    /// `line`. Its only error is the want of memory.
+    /// `line`. Its only error is the want of memory for the text of a refusal: a listing has left room for
+    /// the end of its line.
     pub(crate) fn finish(self, line: u64, text: &mut String) -> Result<(), AllocError>
         ensures { OnOk result (string_bytes text.new ≡ answer_text line self (string_bytes text.old)) }
     {

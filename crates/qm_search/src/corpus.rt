@@ -5,6 +5,7 @@ ghost use Rattle.std.specs.List.Sorted.{IsNonDecreasing};
 ghost use Rattle.std.specs.Option.{ForSome};
 ghost use Rattle.qm_docset.specs.declared.numbers.TheConstants.{TERMINATED};
 ghost use Rattle.qm_search.specs.Parts.{document_count};
+ghost use Rattle.qm_search.specs.ProgramNumbers.{most_segments};
 ghost use Rattle.qm_search.specs.ScriptSegments.{AreOnePart, AreSegments, Deletes, IsBuilt, IsWhole, all_segments, script, with_document_of, with_segment_ended};
 ghost use Rattle.qm_search.specs.Start.{start_script};
 ghost use Rattle.qm_search.specs.TextSegments.{IsTextRefusal};
@@ -26,7 +27,7 @@ use std::collections::BTreeSet;
 const DEFAULT_WEIGHT: Score = 1000;
 
 /// How many segments can be searched at once.
-pub(crate) const MAX_SEGMENTS: usize = 4294967295;
+const MAX_SEGMENTS: usize = 4294967295;
 
 /// The documents of a script, and the weights of words.
 ///
@@ -109,7 +110,7 @@ impl Corpus {
         ensures weights { self.new.weights ≡ self.old.weights }
         ensures built { OnOk result (IsBuilt self.new.documents) }
         ensures whole { OnOk result (is_whole ≡ true → IsWhole self.new.documents) }
-        ensures few { OnOk result (length (all_segments (script self.old.documents)) ≤ MAX_SEGMENTS) }
+        ensures few { OnOk result (length (all_segments (script self.old.documents)) ≤ most_segments) }
         ensures refused { IfErr result (λ e. (e ≡ QueryError.Memory) ⊎ IsSegmentsRefusal (script self.old.documents) e) }
     {
         if self.documents.ended() >= MAX_SEGMENTS {
@@ -145,7 +146,7 @@ impl Corpus {
         ensures weights { self.new.weights ≡ self.old.weights }
         ensures built { OnOk result (IsBuilt self.new.documents) }
         ensures whole { OnOk result (is_whole ≡ true → IsWhole self.new.documents) }
-        ensures few { OnOk result (length (all_segments (script self.old.documents)) ≤ MAX_SEGMENTS) }
+        ensures few { OnOk result (length (all_segments (script self.old.documents)) ≤ most_segments) }
         ensures searcher { OnOk result (IsSome self.new.searcher) }
         ensures refused { IfErr result (λ e. (e ≡ QueryError.Memory) ⊎ IsSegmentsRefusal (script self.old.documents) e) }
     {
@@ -156,10 +157,10 @@ impl Corpus {
     /// All documents, in order, where [`Corpus::build_segments`] was called after the last one.
     pub(crate) fn segments(&self) -> &[SegmentReader]
         requires built { IsBuilt self.now.documents }
-        requires few { length (all_segments (script self.now.documents)) ≤ MAX_SEGMENTS }
+        requires few { length (all_segments (script self.now.documents)) ≤ most_segments }
         ensures segments { AreSegments (script self.now.documents) (map (λ r. r.segment) result.now) }
         ensures whole { IsWhole self.now.documents → AreOnePart (script self.now.documents) (map (λ r. r.segment) result.now) }
-        ensures few { document_count (map (λ r. r.segment) result.now) ≤ MAX_SEGMENTS * TERMINATED }
+        ensures few { document_count (map (λ r. r.segment) result.now) ≤ most_segments * TERMINATED }
     {
         self.documents.segments()
     }

@@ -10,11 +10,12 @@ ghost use Rattle.qm_search.specs.AllSegments.{all_listed, listed};
 ghost use Rattle.qm_search.specs.Counts.{alive_count};
 ghost use Rattle.qm_search.specs.Found.{AddsNumber, found_alive, segments_of};
 ghost use Rattle.qm_search.specs.Parts.{document_count};
+ghost use Rattle.qm_search.specs.ProgramNumbers.{most_segments};
 ghost use Rattle.qm_search.specs.Under.{IsListingRefusal};
-ghost use Rattle.qm_search.specs.declared.corpus.TheConstants.{MAX_SEGMENTS};
 ghost use Rattle.qm_weight.specs.Scorers.{IsRefusalOf};
 ghost use Rattle.qm_weight.specs.Weights.{tree_of};
 
+use crate::listing::reserve_line_end;
 use qm_combine::EmptyScorer;
 use qm_docset::{DocSet, TERMINATED};
 use qm_postings::{Searcher, SegmentReader};
@@ -39,14 +40,14 @@ pub(crate) fn write_count(
     deleted: &BTreeSet<u64>,
     text: &mut String,
 ) -> Result<(), QueryError>
-    requires few { document_count (map (λ r. r.segment) segments.now) ≤ MAX_SEGMENTS * TERMINATED }
+    requires few { document_count (map (λ r. r.segment) segments.now) ≤ most_segments * TERMINATED }
     ensures count { OnOk result (AddsNumber text.old text.new (found_alive deleted.now.keys enable_scoring.entry (query_of query.now) (segments_of segments.now))) }
     ensures refused { IfErr result (IsListingRefusal enable_scoring.entry (query_of query.now)) }
 {
     let weight = query.weight(alloc, enable_scoring)?;
     let count = count_weight(alloc, segments, &weight, deleted)?;
     write!(text, "{count}")?;
-    Ok(())
+    reserve_line_end(text)
 }
 
 // How many documents the weight matches in the segments, without the deleted.
@@ -56,7 +57,7 @@ fn count_weight(
     weight: &AnyWeight,
     deleted: &BTreeSet<u64>,
 ) -> Result<u64, QueryError>
-    requires few { document_count (map (λ r. r.segment) segments.now) ≤ MAX_SEGMENTS * TERMINATED }
+    requires few { document_count (map (λ r. r.segment) segments.now) ≤ most_segments * TERMINATED }
     ensures count { IfOk result (λ n. n ≡ alive_count deleted.now.keys (all_listed false (tree_of weight.now) (map (λ r. r.segment) segments.now))) }
     ensures refused { IfErr result (IsRefusalOf (tree_of weight.now) 1) }
 {
@@ -77,7 +78,7 @@ fn count_segment(
     deleted: &BTreeSet<u64>,
     first: u64,
 ) -> Result<u64, QueryError>
-    requires few { first ≤ MAX_SEGMENTS * TERMINATED }
+    requires few { first ≤ most_segments * TERMINATED }
     ensures count { IfOk result (λ n. n ≡ alive_count deleted.now.keys (listed false (tree_of weight.now) first segment.now.segment)) }
     ensures refused { IfErr result (IsRefusalOf (tree_of weight.now) 1) }
 {
@@ -103,7 +104,7 @@ fn has_between(numbers: &BTreeSet<u64>, first: u64, end: u64) -> bool
 // document has this number. Leaves none.
 fn count_alive<D: DocSet>(docset: &mut D, deleted: &BTreeSet<u64>, first: u64) -> u64
     requires placed { IsPlaced D.DocSet docset.old }
-    requires few { first ≤ MAX_SEGMENTS * TERMINATED }
+    requires few { first ≤ most_segments * TERMINATED }
     ensures { result ≡ alive_count deleted.now.keys (map (λ d. (first + d, None)) (documents (D.entries docset.old))) }
 {
     let mut count = 0;

@@ -299,7 +299,7 @@ fn add_text(alloc: Global, builder: &mut SegmentBuilder, text: &str) -> Result<(
     ensures refused { IfErr result (λ e. (e ≡ QueryError.Memory) ⊎ IsTextRefusal builder.old text.now e) }
 {
     let mut document = PlainDoc::new(alloc);
-    document.add_text(alloc, body(), text)?;
+    document.add_text(body(), text)?;
     builder.add_document(document)?;
     Ok(())
 }

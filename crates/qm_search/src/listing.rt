@@ -6,9 +6,9 @@ ghost use Rattle.qm_query.specs.Query.{query_of};
 ghost use Rattle.qm_search.specs.AllSegments.{all_listed, listed};
 ghost use Rattle.qm_search.specs.Found.{found_matches, segments_of};
 ghost use Rattle.qm_search.specs.Parts.{document_count};
+ghost use Rattle.qm_search.specs.ProgramNumbers.{most_segments};
 ghost use Rattle.qm_search.specs.Text.{AddsToListing, IsListing, ListsMore, numbered};
 ghost use Rattle.qm_search.specs.Under.{IsListingRefusal};
-ghost use Rattle.qm_search.specs.declared.corpus.TheConstants.{MAX_SEGMENTS};
 ghost use Rattle.qm_weight.specs.Scorers.{IsRefusalOf};
 ghost use Rattle.qm_weight.specs.Tree.{is_scoring};
 ghost use Rattle.qm_weight.specs.Weights.{tree_of};
@@ -32,14 +32,25 @@ pub(crate) fn write_matches(
     query: &AnyQuery,
     text: &mut String,
 ) -> Result<(), QueryError>
-    requires few { document_count (map (λ r. r.segment) segments.now) ≤ MAX_SEGMENTS * TERMINATED }
+    requires few { document_count (map (λ r. r.segment) segments.now) ≤ most_segments * TERMINATED }
     requires empty { length (string_bytes text.old) ≡ 0 }
     ensures listed { OnOk result (IsListing (found_matches enable_scoring.entry (query_of query.now) (segments_of segments.now)) (string_bytes text.new)) }
     ensures refused { IfErr result (IsListingRefusal enable_scoring.entry (query_of query.now)) }
 {
     let weight = query.weight(alloc, enable_scoring)?;
     let is_scored = enable_scoring.is_scoring_enabled();
-    write_listing(alloc, segments, &weight, is_scored, text)
+    write_listing(alloc, segments, &weight, is_scored, text)?;
+    reserve_line_end(text)
+}
+
+/// Has room behind a text for the end of its line, so that an answer which is written finds memory for
+/// its line too, or is refused as a whole.
+pub(crate) fn reserve_line_end(text: &mut String) -> Result<(), QueryError>
+    ensures text { string_bytes text.new ≡ string_bytes text.old }
+    ensures refused { IsOkUnless result QueryError.Memory }
+{
+    text.reserve(1)?;
+    Ok(())
 }
 
 // Writes what the weight lists in the segments.
@@ -50,7 +61,7 @@ fn write_listing(
     is_scored: bool,
     text: &mut String,
 ) -> Result<(), QueryError>
-    requires few { document_count (map (λ r. r.segment) segments.now) ≤ MAX_SEGMENTS * TERMINATED }
+    requires few { document_count (map (λ r. r.segment) segments.now) ≤ most_segments * TERMINATED }
     requires empty { length (string_bytes text.old) ≡ 0 }
     requires scoring { is_scored ≡ true → IsTrue (is_scoring (tree_of weight.now)) }
     ensures listed { OnOk result (IsListing (all_listed is_scored (tree_of weight.now) (map (λ r. r.segment) segments.now)) (string_bytes text.new)) }
@@ -73,7 +84,7 @@ fn write_segment(
     first: u64,
     text: &mut String,
 ) -> Result<(), QueryError>
-    requires few { first ≤ MAX_SEGMENTS * TERMINATED }
+    requires few { first ≤ most_segments * TERMINATED }
     requires scoring { is_scored ≡ true → IsTrue (is_scoring (tree_of weight.now)) }
     ensures listed { AddsToListing result (listed is_scored (tree_of weight.now) first segment.now.segment) (string_bytes text.old) (string_bytes text.new) }
     ensures refused { IfErr result (IsRefusalOf (tree_of weight.now) 1) }
@@ -93,7 +104,7 @@ fn write_scored(
     first: u64,
     text: &mut String,
 ) -> Result<(), QueryError>
-    requires few { first ≤ MAX_SEGMENTS * TERMINATED }
+    requires few { first ≤ most_segments * TERMINATED }
     requires scoring { IsTrue (is_scoring (tree_of weight.now)) }
     ensures listed { AddsToListing result (listed true (tree_of weight.now) first segment.now.segment) (string_bytes text.old) (string_bytes text.new) }
     ensures refused { IfErr result (IsRefusalOf (tree_of weight.now) 1) }
@@ -115,7 +126,7 @@ fn write_unscored(
     first: u64,
     text: &mut String,
 ) -> Result<(), QueryError>
-    requires few { first ≤ MAX_SEGMENTS * TERMINATED }
+    requires few { first ≤ most_segments * TERMINATED }
     ensures listed { AddsToListing result (listed false (tree_of weight.now) first segment.now.segment) (string_bytes text.old) (string_bytes text.new) }
     ensures refused { IfErr result (IsRefusalOf (tree_of weight.now) 1) }
 {
@@ -136,13 +147,13 @@ struct Listing {
     first: u64,
     // whether memory was refused; then the text is of no use
     is_refused: bool,
-    ghost few: { first ≤ MAX_SEGMENTS * TERMINATED },
+    ghost few: { first ≤ most_segments * TERMINATED },
 }
 
 impl Listing {
     // Takes the text, to write behind it. It comes back by `finish`.
     fn new(alloc: Global, first: u64, text: &mut String) -> Listing
-        requires { first ≤ MAX_SEGMENTS * TERMINATED }
+        requires { first ≤ most_segments * TERMINATED }
         ensures text { result.text ≡ text.old }
         ensures first { result.first ≡ first }
         ensures begun { result.is_refused ≡ false }
@@ -191,7 +202,7 @@ impl Listing {
 }
 
 fn write_documents(text: &mut String, first: u64, found: &[DocId]) -> Result<(), AllocError>
-    requires { first ≤ MAX_SEGMENTS * TERMINATED }
+    requires { first ≤ most_segments * TERMINATED }
     ensures { AddsToListing result (numbered first (map (λ d. (d, None)) found.now)) (string_bytes text.old) (string_bytes text.new) }
 {
     for document in found {
@@ -206,7 +217,7 @@ pub(crate) fn write_scores(
     first: u64,
     found: &[(DocId, Score)],
 ) -> Result<(), AllocError>
-    requires { first ≤ MAX_SEGMENTS * TERMINATED }
+    requires { first ≤ most_segments * TERMINATED }
     ensures { AddsToListing result (numbered first (map (λ p. (p.0, Some p.1)) found.now)) (string_bytes text.old) (string_bytes text.new) }
 {
     for (document, score) in found {

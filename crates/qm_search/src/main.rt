@@ -23,9 +23,8 @@ mod unparsed;
 mod word_weights;
 mod words;
 
-use crate::run::run;
+use crate::run::run_buffered;
 use std::io;
-use std::io::BufWriter;
 use std::process::ExitCode;
 
 /// The exit status of a run that ended before its script did.
@@ -33,14 +32,8 @@ const ENDED_EARLY: u8 = 3;
 
 fn main(rt: HostRuntime) -> ExitCode {
     let mut input = rt.stdin();
-    let Ok(mut output) = BufWriter::new(rt.alloc(), io::writer(&rt)) else {
-        return ExitCode::from(ENDED_EARLY);
-    };
-    let ended = run(rt.alloc(), &mut input, &mut output);
-    // what could not be written stays in the buffer, which would write it when it is dropped
-    let (_output, _unwritten) = output.into_parts();
-    match ended {
-        Ok(status) => ExitCode::from(status),
+    match run_buffered(rt.alloc(), &mut input, io::writer(&rt)) {
+        Ok((status, _output)) => ExitCode::from(status),
         Err(_) => ExitCode::from(ENDED_EARLY),
     }
 }

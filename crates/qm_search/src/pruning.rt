@@ -7,15 +7,15 @@ ghost use Rattle.qm_query.specs.Query.{query_of};
 ghost use Rattle.qm_search.specs.AllSegments.{listed};
 ghost use Rattle.qm_search.specs.Found.{found_above_in_parts, segments_of};
 ghost use Rattle.qm_search.specs.Parts.{document_count};
+ghost use Rattle.qm_search.specs.ProgramNumbers.{most_segments};
 ghost use Rattle.qm_search.specs.Pruned.{all_pruned, entry_item, parts_pruned, rising, threshold_after};
 ghost use Rattle.qm_search.specs.Text.{AddsToListing, IsListing};
 ghost use Rattle.qm_search.specs.Under.{IsListingRefusal};
-ghost use Rattle.qm_search.specs.declared.corpus.TheConstants.{MAX_SEGMENTS};
 ghost use Rattle.qm_weight.specs.Scorers.{IsRefusalOf};
 ghost use Rattle.qm_weight.specs.Tree.{is_scoring, list};
 ghost use Rattle.qm_weight.specs.Weights.{tree_of};
 
-use crate::listing::write_scores;
+use crate::listing::{reserve_line_end, write_scores};
 use qm_docset::{DocId, Score};
 use qm_postings::{Searcher, SegmentReader};
 use qm_query::{AnyQuery, EnableScoring, Query};
@@ -39,7 +39,7 @@ pub(crate) fn write_pruned(
     text: &mut String,
 ) -> Result<(), QueryError>
     requires some { ended ≤ length segments.now }
-    requires few { document_count (map (λ r. r.segment) segments.now) ≤ MAX_SEGMENTS * TERMINATED }
+    requires few { document_count (map (λ r. r.segment) segments.now) ≤ most_segments * TERMINATED }
     requires empty { length (string_bytes text.old) ≡ 0 }
     requires scoring { is_enabled enable_scoring ≡ true }
     ensures listed { OnOk result (IsListing (found_above_in_parts threshold enable_scoring.entry (query_of query.now) ended (segments_of segments.now)) (string_bytes text.new)) }
@@ -47,7 +47,8 @@ pub(crate) fn write_pruned(
 {
     let weight = query.weight(alloc, enable_scoring)?;
     let first = write_runs(alloc, &segments[..ended], &weight, threshold, text)?;
-    write_parts(alloc, &segments[ended..], &weight, threshold, first, text)
+    write_parts(alloc, &segments[ended..], &weight, threshold, first, text)?;
+    reserve_line_end(text)
 }
 
 // Writes what the runs of the weight call for in the segments, and answers how many documents these have.
@@ -58,7 +59,7 @@ fn write_runs(
     threshold: Score,
     text: &mut String,
 ) -> Result<u64, QueryError>
-    requires few { document_count (map (λ r. r.segment) segments.now) ≤ MAX_SEGMENTS * TERMINATED }
+    requires few { document_count (map (λ r. r.segment) segments.now) ≤ most_segments * TERMINATED }
     requires empty { length (string_bytes text.old) ≡ 0 }
     requires scoring { IsTrue (is_scoring (tree_of weight.now)) }
     ensures counted { IfOk result (λ number. number ≡ document_count (map (λ r. r.segment) segments.now)) }
@@ -83,7 +84,7 @@ fn write_parts(
     first: u64,
     text: &mut String,
 ) -> Result<(), QueryError>
-    requires few { first + document_count (map (λ r. r.segment) parts.now) ≤ MAX_SEGMENTS * TERMINATED }
+    requires few { first + document_count (map (λ r. r.segment) parts.now) ≤ most_segments * TERMINATED }
     requires scoring { IsTrue (is_scoring (tree_of weight.now)) }
     ensures listed { AddsToListing result (parts_pruned threshold (tree_of weight.now) first (map (λ r. r.segment) parts.now)) (string_bytes text.old) (string_bytes text.new) }
     ensures refused { IfErr result (IsRefusalOf (tree_of weight.now) 1) }
@@ -107,7 +108,7 @@ fn write_run(
     first: u64,
     text: &mut String,
 ) -> Result<Score, QueryError>
-    requires few { first ≤ MAX_SEGMENTS * TERMINATED }
+    requires few { first ≤ most_segments * TERMINATED }
     requires scoring { IsTrue (is_scoring (tree_of weight.now)) }
     ensures left { IfOk result (λ left. left ≡ threshold_after threshold (rising threshold (listed true (tree_of weight.now) first segment.now.segment))) }
     ensures listed { AddsToListing result (rising threshold (listed true (tree_of weight.now) first segment.now.segment)) (string_bytes text.old) (string_bytes text.new) }

@@ -1,6 +1,7 @@
 //! Running a script.
 
 ghost use Rattle.std.specs.Prelude.{◌≤◌, IfOk, IfSome, OnOk, string_bytes};
+ghost use Rattle.std.specs.Io.Buffered.{writer_contents};
 ghost use Rattle.std.specs.Io.KnownBytes.{Appends, Keeps};
 ghost use Rattle.qm_search.specs.Runs.{AnswersLine, IsReadAs, IsRun, output};
 ghost use Rattle.qm_search.specs.State.{state};
@@ -13,7 +14,7 @@ use crate::lines::Lines;
 use crate::parse::{Command, parse_line};
 use crate::unparsed::Unparsed;
 use std::alloc::{AllocError, AllocFailed, Global};
-use std::io::{Read, Write};
+use std::io::{BufWriter, Read, Write};
 use thiserror::Error;
 
 /// Why a run ended before the end of its script.
@@ -25,8 +26,10 @@ pub enum RunError {
     /// The output answered an error.
     #[error("the answers could not be written")]
     Write,
-    /// There was no memory left for a line, for the documents, or for a text to be written.
-    #[error("out of memory")]
+    /// There was no memory left for what is kept of the script: a line, its words, the documents, their
+    /// segments, the weights and the statistics; or for the text that says that a line was refused or not
+    /// understood. Want of memory for a query or for what it lists refuses its line alone.
+    #[error("out of memory for the script, or for the text of a refusal")]
     Memory,
 }
 
@@ -42,28 +45,74 @@ impl<T: Drop> From<AllocFailed<T>> for RunError {
     }
 }
 
+/// Runs the script as [`run`] does, through a buffer before the output. The output comes back beside
+/// the exit status, and has all answers then: none is left in the buffer.
+///
+/// `Memory` comes too where there is none for the buffer. Where the run ends with an error, what
+/// couldn't be written is dropped with the buffer.
+pub fn run_buffered<R: Read, W: Write + Drop>(
+    alloc: Global,
+    input: &mut R,
+    output: W,
+) -> Result<(u8, W), RunError>
+    ensures answers { IfSome (R.remaining input.old)
+        (λ bytes. IfOk result (λ ended. IsRun bytes ended.0 (W.contents output) (W.contents ended.1))) }
+    ensures status { IfOk result (λ ended. ended.0 ≤ 2) }
+{
+    let Ok(mut buffer) = BufWriter::new(alloc, output) else {
+        return Err(RunError::Memory);
+    };
+    match run(alloc, input, &mut buffer) {
+        Ok(status) => {
+            let output = write_out(buffer)?;
+            Ok((status, output))
+        }
+        Err(error) => {
+            drop_unwritten(buffer);
+            Err(error)
+        }
+    }
+}
+
+// The output behind a buffer, once all that the buffer holds is written.
+fn write_out<W: Write + Drop>(buffer: BufWriter<W>) -> Result<W, RunError>
+    ensures { IfOk result (λ output. Keeps (writer_contents W.contents buffer) (W.contents output)) }
+{
+    match buffer.into_inner() {
+        Ok(output) => Ok(output),
+        Err(error) => {
+            drop_unwritten(error.into_inner());
+            Err(RunError::Write)
+        }
+    }
+}
+
+// Drops a buffer that could not be written: it would try once more if it were dropped whole.
+fn drop_unwritten<W: Write + Drop>(buffer: BufWriter<W>) {
+    let (_output, _unwritten) = buffer.into_parts();
+}
+
 /// Runs the script that the input gives, writes the answers to the output, and answers the exit
 /// status: 2 where some line wasn't understood, else 1 where some line was refused, else 0.
 ///
-/// Before more input is waited for, all lines that were read whole are answered, and the answers
-/// written and flushed: so the output is best a buffer. The first error ends the run. What was
-/// answered before it has been written then, and after `Write` nothing more is written. Costs what
-/// the lines cost, and one flush for each read.
+/// Before more input is asked for, all lines that were read whole are answered, and the answers
+/// written and flushed: so the output is best a buffer, and nothing is left in it once the input has
+/// ended. The first error ends the run. What was answered before it has been written and flushed
+/// then, and after `Write` nothing more is written. Costs what the lines cost, and one flush for each
+/// read.
 pub fn run<R: Read, W: Write>(alloc: Global, input: &mut R, output: &mut W) -> Result<u8, RunError>
     ensures answers { IfSome (R.remaining input.old)
         (λ bytes. IfOk result (λ status. IsRun bytes status (W.contents output.old) (W.contents output.new))) }
     ensures status { IfOk result (λ status. status ≤ 2) }
 {
     match answer_lines(alloc, input, output) {
-        Ok(status) => {
-            flush(output)?;
-            Ok(status)
-        }
-        Err(RunError::Write) => Err(RunError::Write),
-        Err(error) => {
+        // all lines but the one that found no memory are answered, and some not yet written
+        Err(RunError::Memory) => {
             let _ = output.flush();
-            Err(error)
+            Err(RunError::Memory)
         }
+        // the read that ended the run came behind a flush
+        ended => ended,
     }
 }
 

@@ -2,6 +2,7 @@
 
 ghost use Rattle.std.specs.Prelude.{◌≡◌, IfOk, IsOkUnless, map};
 ghost use Rattle.qm_search.specs.Asked.{term_of};
+ghost use Rattle.qm_search.specs.ProgramNumbers.{body_field};
 ghost use Rattle.qm_search.specs.Spelled.{texts};
 
 use qm_schema::{Field, QueryError, Term};
@@ -12,7 +13,7 @@ const BODY: u32 = 0;
 
 /// The field of a script's documents.
 pub(crate) fn body() -> Field
-    ensures { result ≡ BODY }
+    ensures { result ≡ body_field }
 {
     Field::from_field_id(BODY)
 }

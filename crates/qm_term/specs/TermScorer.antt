@@ -1,15 +1,18 @@
 -- The scorer over the postings of a term.
-use Rattle.std.specs.Prelude.{ℕ, ◌<◌, List, All, length, slice_index_or}
+use Rattle.std.specs.Prelude.{◌≡◌, ℕ, ◌<◌, ◌≤◌, ◌⊎◌, Bool, true, List, All, cond, length, map, slice_index_or}
 use Rattle.qm_combine.specs.Rescored.{rescored, limited}
 use Rattle.qm_docset.specs.Entry.{Entry, Limits}
 use Rattle.qm_docset.specs.Lists.{Lists}
 use Rattle.qm_docset.specs.declared.docset.DocSet.{Ghosts}
-use Rattle.qm_postings.specs.FieldNorms.{norm_ids}
-use Rattle.qm_postings.specs.SegmentPostings.{IsPostings, postings_left, postings_limits, reads}
+use Rattle.qm_postings.specs.Blocks.{Block as PostingsBlock, block_at}
+use Rattle.qm_postings.specs.FieldNorms.{is_made_constant, norm_ids}
+use Rattle.qm_postings.specs.SegmentPostings.{IsPostings, ReadsAs, postings_blocks, postings_left, postings_limits, reads}
+use Rattle.qm_postings.specs.declared.fieldnorm.FieldNormReader.{FieldNormReader}
 use Rattle.qm_postings.specs.declared.freq_reading_option.FreqReadingOption.{FreqReadingOption}
 use Rattle.qm_postings.specs.declared.segment_postings.SegmentPostings.{SegmentPostings}
 use Rattle.qm_term.specs.Bm25.{Weighing, bm25, bm25_bound}
 use Rattle.qm_term.specs.Bm25Weight.{weighing}
+use Rattle.qm_term.specs.Members.{Block}
 use Rattle.qm_term.specs.declared.term_scorer.TermScorer.{TermScorer}
 
 -- postings, each with the score that its frequency has at its document's length id
@@ -40,7 +43,31 @@ scored_ids s = norm_ids s.fieldnorm_reader
 abbrev pub scored_reads : TermScorer → FreqReadingOption
 scored_reads s = reads s.postings
 
--- a scorer over postings whose documents all have a length id
+-- what bounds the scores of a block of postings: what its greatest frequency scores at its least length
+-- id, or at the one id of all documents
+abbrev pub scored_block : Weighing → Bool → List ℕ → PostingsBlock → Block
+scored_block weighing constant ids b = record { last = b.last; bound = bm25 weighing (cond constant (slice_index_or ids 0 0) b.least_id) b.most }
+
+-- all blocks of the scorer's term, in order
+unfoldable pub scored_blocks : TermScorer → List Block
+scored_blocks s = map (scored_block (weighing s.similarity_weight) (is_made_constant s.fieldnorm_reader) (norm_ids s.fieldnorm_reader)) (postings_blocks s.postings)
+
+-- a scorer has the length ids of another, reads frequencies as it does, and bounds the same blocks alike
+pub record ScoresAs (s t : TermScorer) : Type 0 where
+  pub ids : scored_ids t ≡ scored_ids s
+  pub postings : ReadsAs s.postings t.postings
+  pub blocks : scored_blocks t ≡ scored_blocks s
+
+-- no document has a length id below the least of its block
+abbrev pub AreInBlocks : List ℕ → List PostingsBlock → List Entry → Type 0
+AreInBlocks ids blocks es = All (λ e. (block_at e.document blocks).least_id ≤ slice_index_or ids e.document 0) es
+
+-- a reader that gives one length id to all, or no document one below the least of its block
+abbrev pub IsBoundedBy : FieldNormReader → List PostingsBlock → List Entry → Type 0
+IsBoundedBy reader blocks es = (is_made_constant reader ≡ true) ⊎ AreInBlocks (norm_ids reader) blocks es
+
+-- a scorer over postings whose documents all have a length id, which the blocks' least ids bound
 pub record IsTermScorer (s : TermScorer) : Type 0 where
   pub postings : IsPostings s.postings
   pub covered : AreCovered (norm_ids s.fieldnorm_reader) (postings_left s.postings)
+  pub bounded : IsBoundedBy s.fieldnorm_reader (postings_blocks s.postings) (postings_left s.postings)

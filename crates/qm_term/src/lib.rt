@@ -7,7 +7,12 @@
 mod bm25;
 mod explanation;
 mod term_scorer;
+mod wand;
 
 pub use bm25::Bm25Weight;
 pub use explanation::Explanation;
 pub use term_scorer::TermScorer;
+pub use wand::{
+    TermScorerWithMaxScore, Ticks, WandCount, WandRun, block_wand, block_wand_single_scorer,
+    score_front,
+};

@@ -1,11 +1,13 @@
 //! The scorer over the postings of a term.
 
-ghost use Rattle.std.specs.Prelude.{◌≡◌, ◌<◌, ◌↔◌, [], pos, slice_get, IfOk, IfSome, IsOkUnless, IsSome, Some};
-ghost use Rattle.qm_docset.specs.Entry.{head_document, head_frequency, head_score};
+ghost use Rattle.std.specs.Prelude.{◌≡◌, ◌<◌, ◌≤◌, ◌↔◌, [], drop, if◌then◌else◌, length, map, min, pos, take, slice_get, slice_index_or, IfOk, IfSome, IsOkUnless, IsSome, Some};
+ghost use Rattle.qm_docset.specs.Entry.{documents, from, head_document, head_frequency, head_score};
 ghost use Rattle.qm_postings.specs.FieldIndex.{reading};
-ghost use Rattle.qm_postings.specs.FieldNorms.{norm_ids};
+ghost use Rattle.qm_postings.specs.FieldNorms.{is_made_constant, norm_ids};
 ghost use Rattle.qm_postings.specs.Segment.{holders};
-ghost use Rattle.qm_postings.specs.SegmentPostings.{IsPostings, postings_left, reads};
+ghost use Rattle.qm_postings.specs.SegmentPostings.{IsPostings, looked_block, postings_blocks, postings_left, reads};
+ghost use Rattle.qm_docset.specs.Cursor.{IsSeekAnswer, OnFound};
+ghost use Rattle.qm_term.specs.TermBlocks.{LooksHere, scored_looked, scored_looked_at};
 ghost use Rattle.qm_term.specs.TermEntries.{length_ids};
 
 use crate::bm25::Bm25Weight;
@@ -33,11 +35,11 @@ impl<'a> TermScorer<'a> {
     ghost use Rattle.qm_term.specs.Bm25Weight.{weighing};
     ghost use Rattle.qm_term.specs.Explained.{value_of};
     ghost use Rattle.qm_term.specs.TermEntries.{ListsTerm};
-    ghost use Rattle.qm_term.specs.TermScorer.{AreCovered, IsTermScorer, ListsScored, scored_ids, scored_left, scored_limits, scored_reads};
+    ghost use Rattle.qm_term.specs.TermScorer.{AreCovered, IsBoundedBy, IsTermScorer, ListsScored, ScoresAs, scored_block, scored_blocks, scored_ids, scored_left, scored_limits, scored_reads};
 
     /// A scorer over what postings have left. It scores each document by its frequency there, and by
     /// the length id that the reader gives it. Asks that the reader has a length id for each of
-    /// them.
+    /// them, and gives one to all or none below the least of the document's block.
     pub fn new(
         postings: SegmentPostings<'a>,
         fieldnorm_reader: FieldNormReader<'a>,
@@ -45,9 +47,12 @@ impl<'a> TermScorer<'a> {
     ) -> TermScorer<'a>
         requires postings { IsPostings postings }
         requires covered { AreCovered (norm_ids fieldnorm_reader) (postings_left postings) }
+        requires bounded { IsBoundedBy fieldnorm_reader (postings_blocks postings) (postings_left postings) }
         ensures lists { ListsScored ⟦<TermScorer<'a> as DocSet>⟧ (weighing similarity_weight) (norm_ids fieldnorm_reader.entry) postings.entry result }
         ensures ids { scored_ids result ≡ norm_ids fieldnorm_reader.entry }
         ensures reads { scored_reads result ≡ reads postings.entry }
+        ensures blocks { scored_blocks result ≡ map (scored_block (weighing similarity_weight) (is_made_constant fieldnorm_reader.entry) (norm_ids fieldnorm_reader.entry)) (postings_blocks postings.entry) }
+        ensures looked { scored_looked result ≡ scored_block (weighing similarity_weight) (is_made_constant fieldnorm_reader.entry) (norm_ids fieldnorm_reader.entry) (looked_block postings.entry) }
     {
         TermScorer {
             postings,
@@ -72,6 +77,7 @@ impl<'a> TermScorer<'a> {
         ensures lists { IfSome result (ListsTerm ⟦<TermScorer<'a> as DocSet>⟧ segment.now.segment option term.now (weighing weight.now)) }
         ensures ids { IfSome result (λ s. scored_ids s ≡ length_ids segment.now.segment term.now.field) }
         ensures reads { IfSome result (λ s. scored_reads s ≡ reading segment.now.segment.schema option term.now.field) }
+        ensures looked { IfSome result LooksHere }
     {
         let field = term.field();
         let postings = segment.inverted_index(field).read_postings(term, option)?;
@@ -105,6 +111,18 @@ impl<'a> TermScorer<'a> {
         self.fieldnorm_reader.fieldnorm_id(self.postings.doc())
     }
 
+    // What the scorer's document scores. Asks that the scorer stands on one. One division.
+    #[inline]
+    #[tactic(auto, using(crate::specs::TermScorerFacts::scoring))]
+    pub(crate) fn score_here(&self) -> Score
+        requires valid { IsTermScorer self.now }
+        requires here { head_document (scored_left self.now) < TERMINATED }
+        ensures { result ≡ pos (head_score (scored_left self.now)) }
+    {
+        self.similarity_weight
+            .score(self.fieldnorm_id(), self.term_freq())
+    }
+
     /// Why the scorer's document scores what it does. Asks that the scorer stands on one.
     ///
     /// Refused with [`QueryError::Memory`] alone.
@@ -124,6 +142,55 @@ impl<'a> TermScorer<'a> {
         ensures { result ≡ pos (scored_limits self.now).top }
     {
         self.similarity_weight.max_score()
+    }
+
+    /// Looks at the first block of the term's postings that ends at or past `target`, from that of the
+    /// scorer's document on; the scorer stays. Takes every target up to [`TERMINATED`].
+    pub fn seek_block(&mut self, target: DocId)
+        requires valid { IsTermScorer self.old }
+        requires target { target ≤ TERMINATED }
+        ensures looked { scored_looked self.new ≡ scored_looked_at target self.old }
+        ensures kept { (s : _) → ScoresAs s self.old → ScoresAs s self.new }
+        ensures entries { scored_left self.new ≡ scored_left self.old }
+        ensures limits { scored_limits self.new ≡ scored_limits self.old }
+        ensures valid { IsTermScorer self.new }
+    {
+        self.postings.seek_block(target);
+    }
+
+    /// The end of the block looked at: its last document, and [`TERMINATED`] for the last block and past
+    /// the end. Constant time.
+    pub fn last_doc_in_block(&self) -> DocId
+        requires { IsTermScorer self.now }
+        ensures { result ≡ (scored_looked self.now).last }
+    {
+        self.postings.last_doc_in_block()
+    }
+
+    /// At least the score of every remaining document of the block looked at: what its greatest frequency
+    /// scores at its least length id, or at the one id of the reader. It is 0 past the end. One division.
+    pub fn block_max_score(&self) -> Score
+        requires { IsTermScorer self.now }
+        ensures { result ≡ pos (scored_looked self.now).bound }
+    {
+        if self.postings.doc() == TERMINATED {
+            return 0;
+        }
+        self.similarity_weight
+            .score(self.block_id(), self.postings.block_max_term_freq())
+    }
+
+    // The length id that bounds those of the block looked at.
+    fn block_id(&self) -> u8
+        requires valid { IsTermScorer self.now }
+        requires here { head_document (scored_left self.now) < TERMINATED }
+        ensures { result ≡ (if is_made_constant self.now.fieldnorm_reader then slice_index_or (norm_ids self.now.fieldnorm_reader) 0 0 else (looked_block self.now.postings).least_id) }
+    {
+        if self.fieldnorm_reader.is_constant() {
+            self.fieldnorm_id()
+        } else {
+            self.postings.block_least_fieldnorm_id()
+        }
     }
 
     /// What is read of the term's frequencies.
@@ -151,12 +218,14 @@ impl<'a> Clone for TermScorer<'a> {
 
 #[tactic(auto, using(crate::specs::TermScorerFacts::scoring))]
 impl<'a> DocSet for TermScorer<'a> {
-    ghost use Rattle.qm_term.specs.TermScorer.{IsTermScorer, scored_left, scored_limits};
+    ghost use Rattle.qm_term.specs.TermScorer.{IsTermScorer, ScoresAs, scored_left, scored_limits};
     ghost use Rattle.qm_term.specs.TermScorerFacts.{AreEntries-scored};
 
     ghost entries = { scored_left };
 
     ghost limits = { scored_limits };
+
+    ghost keeps = { ScoresAs };
 
     ghost placed = { λ _. Unit {0} };
 
@@ -168,21 +237,57 @@ impl<'a> DocSet for TermScorer<'a> {
     }
 
     #[inline]
-    fn advance(&mut self) -> DocId {
+    fn advance(&mut self) -> DocId
+        requires valid { IsTermScorer self.old }
+        ensures head { result ≡ head_document (scored_left self.new) }
+        ensures entries { scored_left self.new ≡ drop 1 (scored_left self.old) }
+        ensures limits { scored_limits self.new ≡ scored_limits self.old }
+        ensures valid { IsTermScorer self.new }
+        ensures kept { (s : _) → ScoresAs s self.old → ScoresAs s self.new }
+        ensures looked { LooksHere self.new }
+    {
         self.postings.advance()
     }
 
     #[inline]
-    fn seek(&mut self, target: DocId) -> DocId {
+    fn seek(&mut self, target: DocId) -> DocId
+        requires valid { IsTermScorer self.old }
+        requires target { target ≤ TERMINATED }
+        ensures head { result ≡ head_document (scored_left self.new) }
+        ensures entries { scored_left self.new ≡ from target (scored_left self.old) }
+        ensures limits { scored_limits self.new ≡ scored_limits self.old }
+        ensures valid { IsTermScorer self.new }
+        ensures kept { (s : _) → ScoresAs s self.old → ScoresAs s self.new }
+        ensures looked { LooksHere self.new }
+    {
         self.postings.seek(target)
     }
 
     #[inline]
-    fn seek_danger(&mut self, target: DocId) -> SeekDangerResult {
+    fn seek_danger(&mut self, target: DocId) -> SeekDangerResult
+        requires valid { IsTermScorer self.old }
+        requires target { target ≤ TERMINATED }
+        ensures answer { IsSeekAnswer target (scored_left self.new) result }
+        ensures placed { OnFound result (Unit {0}) }
+        ensures entries { scored_left self.new ≡ from target (scored_left self.old) }
+        ensures limits { scored_limits self.new ≡ scored_limits self.old }
+        ensures kept { (s : _) → ScoresAs s self.old → ScoresAs s self.new }
+        ensures valid { IsTermScorer self.new }
+        ensures looked { LooksHere self.new }
+    {
         self.postings.seek_danger(target)
     }
 
-    fn fill_buffer(&mut self, buffer: &mut [DocId; COLLECT_BLOCK_BUFFER_LEN]) -> usize {
+    fn fill_buffer(&mut self, buffer: &mut [DocId; COLLECT_BLOCK_BUFFER_LEN]) -> usize
+        requires valid { IsTermScorer self.old }
+        ensures count { result ≡ min COLLECT_BLOCK_BUFFER_LEN (length (scored_left self.old)) }
+        ensures documents { take result buffer.new ≡ documents (take COLLECT_BLOCK_BUFFER_LEN (scored_left self.old)) }
+        ensures entries { scored_left self.new ≡ drop COLLECT_BLOCK_BUFFER_LEN (scored_left self.old) }
+        ensures limits { scored_limits self.new ≡ scored_limits self.old }
+        ensures kept { (s : _) → ScoresAs s self.old → ScoresAs s self.new }
+        ensures valid { IsTermScorer self.new }
+        ensures looked { LooksHere self.new }
+    {
         self.postings.fill_buffer(buffer)
     }
 
@@ -209,8 +314,7 @@ impl<'a> DocSet for TermScorer<'a> {
 impl<'a> Scorer for TermScorer<'a> {
     #[inline]
     fn score(&mut self) -> Score {
-        self.similarity_weight
-            .score(self.fieldnorm_id(), self.term_freq())
+        self.score_here()
     }
 
     fn max_score(&self) -> Score {

@@ -10,6 +10,7 @@ mod Rows
 mod TreeRows
 mod Booleans
 mod Joins
+mod TermRuns
 mod ClauseSteps
 mod Nodes
 mod AliveCounts

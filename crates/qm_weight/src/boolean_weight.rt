@@ -12,11 +12,13 @@ ghost use Rattle.qm_weight.specs.Weights.{boolean_tree, clauses_from, combiner_o
 
 use crate::any_weight::{AnyWeight, count_any};
 use crate::counts::count_alive;
-use crate::explanations::{check_document, score_of};
-use crate::weight::{Weight, empty_buffer, for_each_docset_buffered};
-use clauses::build_clauses;
+use crate::explanations::check_document;
+use crate::shared_runs::{StandsFor, run_node_slices, score_in_node};
+use crate::weight::Weight;
+use clauses::{ClauseScorers, build_clauses};
 use explained::explain_clauses;
 use joined::join_clauses;
+use pruned::prune_clauses;
 use qm_combine::{EmptyScorer, Scorer};
 use qm_docset::{DocId, DocSet, Score, TERMINATED};
 use qm_postings::SegmentReader;
@@ -28,6 +30,7 @@ use std::alloc::Global;
 mod clauses;
 mod explained;
 mod joined;
+mod pruned;
 
 /// Matches the documents that every Must clause matches, no MustNot clause, and at least so many of
 /// the Should clauses, each counted once; and some Must or Should clause matches it.
@@ -73,6 +76,10 @@ impl BooleanWeight {
     }
 }
 
+impl StandsFor for BooleanWeight {
+    ghost tree = { boolean_tree };
+}
+
 impl Weight for BooleanWeight {
     ghost tree = { boolean_tree };
 
@@ -105,9 +112,23 @@ impl Weight for BooleanWeight {
         reader: &SegmentReader,
         callback: &mut F,
     ) -> Result<(), QueryError> {
-        let mut scorer: AnyScorer<EmptyScorer> = build_boolean(self, alloc, reader, 1)?;
-        for_each_docset_buffered(&mut scorer, &mut empty_buffer(), callback);
+        let scorer: AnyScorer<EmptyScorer> = build_boolean(self, alloc, reader, 1)?;
+        run_node_slices(self, reader, scorer, callback);
         Ok(())
+    }
+
+    /// Passes over blocks whose documents cannot score above the threshold, where scoring is on, the
+    /// combiner is the sum or the greatest score, no clause must match or must not, one Should clause is
+    /// enough, and of terms alone two or more are there. It takes memory before the first call alone.
+    fn for_each_pruning<F: FnMut(DocId, Score) -> Score>(
+        &self,
+        alloc: Global,
+        threshold: Score,
+        reader: &SegmentReader,
+        callback: &mut F,
+    ) -> Result<(), QueryError> {
+        let scorers: ClauseScorers<EmptyScorer> = build_clauses(&self.weights, alloc, reader, 1)?;
+        prune_clauses(self, alloc, reader, scorers, threshold, callback)
     }
 }
 
@@ -175,7 +196,7 @@ pub(crate) fn explain_boolean(
     ensures explained { IfOk result (λ e. IsExplained (boolean_tree weight.now) boost reader.now.segment doc (value_of e)) }
     ensures refused { IfErr result (IsExplainRefusal (boolean_tree weight.now) boost reader.now.segment doc) }
 {
-    let mut scorer: AnyScorer<EmptyScorer> = build_boolean(weight, alloc, reader, boost)?;
-    let score = score_of(&mut scorer, doc)?;
+    let scorer: AnyScorer<EmptyScorer> = build_boolean(weight, alloc, reader, boost)?;
+    let score = score_in_node(weight, reader, scorer, doc, boost)?;
     explain_clauses(&weight.weights, alloc, reader, doc, boost, score)
 }

@@ -7,21 +7,22 @@ ghost use Rattle.qm_term.specs.Bm25Weight.{weighing};
 ghost use Rattle.qm_term.specs.Explained.{value_of};
 ghost use Rattle.qm_weight.specs.Counts.{alive_count};
 ghost use Rattle.qm_weight.specs.Explanations.{IsExplained, IsExplainRefusal};
+ghost use Rattle.qm_weight.specs.LeafScorers.{IsLeafOf, IsLeafOfSome};
 ghost use Rattle.qm_weight.specs.Scorers.{IsRefusalOf};
 ghost use Rattle.qm_weight.specs.Tree.{term as leaf_of};
+ghost use Rattle.qm_weight.specs.TreeRuns.{MayPruneTree, PrunesTree};
 ghost use Rattle.qm_weight.specs.Weights.{term_tree, term_weighing, weight_term, weighing_if};
 
 use crate::counts::count_alive;
-use crate::explanations::{add_term, check_document, score_of};
-use crate::weight::{
-    Weight, empty_buffer, for_each_docset_buffered, for_each_pruning_scorer, for_each_scorer,
-};
+use crate::explanations::{add_term, check_document};
+use crate::shared_runs::{StandsFor, find_in_leaf, prune_leaf, run_leaf, run_leaf_slices};
+use crate::weight::Weight;
 use qm_combine::{EmptyScorer, Scorer};
-use qm_docset::{DocId, Score, TERMINATED};
+use qm_docset::{DocId, DocSet, Score, TERMINATED};
 use qm_postings::SegmentReader;
 use qm_schema::{IndexRecordOption, QueryError, Term};
 use qm_scorer::AnyScorer;
-use qm_term::{Bm25Weight, Explanation, TermScorer};
+use qm_term::{Bm25Weight, Explanation, TermScorer, block_wand_single_scorer};
 use std::alloc::Global;
 
 /// Matches the documents that hold a term. Each scores what the term's weight gives its frequency there
@@ -62,13 +63,33 @@ impl TermWeight {
     }
 
     // The term's weight at a boost. With scoring off its boost is 0, which fits whatever it weighs.
-    fn weight_at(&self, boost: Score) -> Result<Bm25Weight, QueryError>
-        requires { pos 0 ≤ℤ boost }
-        ensures weighing { IfOk result (λ w. weighing w ≡ term_weighing self.now (nat_abs boost)) }
-        ensures refused { IfErr result (IsRefusalOf (term_tree self.now) (nat_abs boost)) }
+    fn weight_at(&self, boost: u64) -> Result<Bm25Weight, QueryError>
+        requires { boost ≤ greatest_score }
+        ensures weighing { IfOk result (λ w. weighing w ≡ term_weighing self.now boost) }
+        ensures refused { IfErr result (IsRefusalOf (term_tree self.now) boost) }
     {
-        let boost = if self.scoring_enabled { boost } else { 0 };
+        let boost = if self.scoring_enabled {
+            boost as Score
+        } else {
+            0
+        };
         self.similarity_weight.boost_by(boost)
+    }
+
+    // The term's own scorer at a boost, and none where no document holds the term.
+    fn term_scorer<'a>(
+        &self,
+        reader: &'a SegmentReader,
+        boost: u64,
+    ) -> Result<Option<TermScorer<'a>>, QueryError>
+        requires boost { boost ≤ greatest_score }
+        ensures scorer { IfOk result (IsLeafOf ⟦<TermScorer<'a> as DocSet>⟧ (term_tree self.now) boost reader.now.segment) }
+        ensures some { IfOk result (IsLeafOfSome (term_tree self.now) reader.now.segment) }
+        ensures refused { IfErr result (IsRefusalOf (term_tree self.now) boost) }
+    {
+        let weight = self.weight_at(boost)?;
+        let option = self.index_record_option;
+        Ok(TermScorer::for_term(reader, &self.term, option, &weight))
     }
 
     // Why a document of the segment scores what it does at a boost: what the term weighs there.
@@ -85,17 +106,17 @@ impl TermWeight {
         ensures explained { IfOk result (λ e. IsExplained (term_tree self.now) boost reader.now.segment doc (value_of e)) }
         ensures refused { IfErr result (IsExplainRefusal (term_tree self.now) boost reader.now.segment doc) }
     {
-        let similarity = self.weight_at(boost as Score)?;
-        let option = self.index_record_option;
-        let Some(mut scorer) = TermScorer::for_term(reader, &self.term, option, &similarity) else {
-            return Err(QueryError::DoesNotMatch(doc));
-        };
-        let score = score_of(&mut scorer, doc)?;
+        let leaf = self.term_scorer(reader, boost)?;
+        let (score, scorer) = find_in_leaf(self, reader, leaf, doc, boost)?;
         let mut explanation = Explanation::new(alloc, "a term, by its own weight", score)?;
         explanation.add_detail(scorer.explain(alloc)?)?;
         add_term(&mut explanation, &self.term)?;
         Ok(explanation)
     }
+}
+
+impl StandsFor for TermWeight {
+    ghost tree = { term_tree };
 }
 
 impl Weight for TermWeight {
@@ -107,8 +128,7 @@ impl Weight for TermWeight {
         reader: &'a SegmentReader,
         boost: Score,
     ) -> Result<AnyScorer<'a, S>, QueryError> {
-        let weight = self.weight_at(boost)?;
-        match TermScorer::for_term(reader, &self.term, self.index_record_option, &weight) {
+        match self.term_scorer(reader, boost as u64)? {
             Some(scorer) => Ok(AnyScorer::Term(Box::new(alloc, scorer)?)),
             None => Ok(AnyScorer::Empty(EmptyScorer)),
         }
@@ -135,11 +155,8 @@ impl Weight for TermWeight {
         reader: &SegmentReader,
         callback: &mut F,
     ) -> Result<(), QueryError> {
-        let weight = self.weight_at(1)?;
-        let option = self.index_record_option;
-        if let Some(mut scorer) = TermScorer::for_term(reader, &self.term, option, &weight) {
-            for_each_scorer(&mut scorer, callback);
-        }
+        let leaf = self.term_scorer(reader, 1)?;
+        run_leaf(self, reader, leaf, callback);
         Ok(())
     }
 
@@ -150,15 +167,15 @@ impl Weight for TermWeight {
         reader: &SegmentReader,
         callback: &mut F,
     ) -> Result<(), QueryError> {
-        let weight = self.weight_at(1)?;
-        let option = self.index_record_option;
-        if let Some(mut scorer) = TermScorer::for_term(reader, &self.term, option, &weight) {
-            for_each_docset_buffered(&mut scorer, &mut empty_buffer(), callback);
+        let leaf = self.term_scorer(reader, 1)?;
+        if leaf.is_some() {
+            run_leaf_slices(self, reader, leaf, callback);
         }
         Ok(())
     }
 
-    /// Runs over the postings of the term, and takes no memory.
+    /// Runs over the postings of the term, and takes no memory. With scoring on it passes over blocks whose
+    /// documents cannot score above the threshold.
     fn for_each_pruning<F: FnMut(DocId, Score) -> Score>(
         &self,
         _alloc: Global,
@@ -166,12 +183,30 @@ impl Weight for TermWeight {
         reader: &SegmentReader,
         callback: &mut F,
     ) -> Result<(), QueryError> {
-        let weight = self.weight_at(1)?;
-        let option = self.index_record_option;
-        if let Some(mut scorer) = TermScorer::for_term(reader, &self.term, option, &weight) {
-            for_each_pruning_scorer(&mut scorer, threshold, callback);
+        let leaf = self.term_scorer(reader, 1)?;
+        if self.scoring_enabled {
+            prune_term(self, reader, leaf, threshold, callback);
+        } else {
+            prune_leaf(self, reader, leaf, threshold, callback);
         }
         Ok(())
+    }
+}
+
+// The pruned run over the term's own scorer, by the bounds of its blocks.
+fn prune_term<'a, F: FnMut(DocId, Score) -> Score>(
+    weight: &TermWeight,
+    reader: &SegmentReader,
+    leaf: Option<TermScorer<'a>>,
+    threshold: Score,
+    callback: &mut F,
+)
+    requires leaf { IsLeafOf ⟦<TermScorer<'a> as DocSet>⟧ (term_tree weight.now) 1 reader.now.segment leaf }
+    requires allowed { MayPruneTree F.step F.pre (term_tree weight.now) reader.now.segment threshold callback.old }
+    ensures calls { PrunesTree F.step (term_tree weight.now) reader.now.segment threshold callback.old callback.new }
+{
+    if let Some(scorer) = leaf {
+        block_wand_single_scorer(scorer, threshold, callback);
     }
 }
 

@@ -30,9 +30,9 @@ use Rattle.qm_phrase.specs.PhrasePrefixScorer.{phrase_prefix_left}
 use Rattle.qm_phrase.specs.PhraseScorer.{phrase_left}
 use Rattle.qm_term.specs.TermScorer.{scored_left}
 use Rattle.qm_scorer.specs.Group.{IsGroupNode, group_entries, group_lists}
-use Rattle.qm_scorer.specs.Tree.{HasRoom, IsTree, IsTreePlaced, postings_cursors, set_cursors, tree_entries, tree_limits}
+use Rattle.qm_scorer.specs.Tree.{IsTree, IsTreePlaced, postings_cursors, set_cursors, tree_entries, tree_limits}
 use Rattle.qm_scorer.specs.TreeFacts.{tree-ascends}
-use Rattle.qm_scorer.proofs.Groups.{HasRoom-from, group-ended, group-enough, group-moved, group-passed, group-reached, group-there, least_head-from}
+use Rattle.qm_scorer.proofs.Groups.{HasRoom-moved, group-ended, group-enough, group-moved, group-passed, group-reached, group-there, least_head-from}
 use Rattle.qm_scorer.proofs.Depth.{most-set, same-All, same-BitSet, same-Empty, same-Own, same-Phrase, same-PhrasePrefix, same-Term, size-kept, size-led, size-members, size-others}
 use Rattle.qm_scorer.proofs.Heads.{tree-head}
 use Rattle.qm_scorer.proofs.Moving.{asked, both_found, on_found, placed_where, same, still_found}
@@ -285,7 +285,7 @@ group_node::next_match-loop-doc-init g t c =
       least = c.reach_members-doc.ensures.least;
       entries = group-reached g.S.DocSet g.met.S.DocSet.ascending c.args.target c.args.node.now c.reach_members-doc.new.node shape lists c.requires.some;
       members = c.reach_members-doc.ensures.members;
-      room = subst HasRoom (sym lists) (HasRoom-from c.args.target _ c.requires.room);
+      room = HasRoom-moved c.args.target _ _ _ _ shape lists c.requires.room;
       shape = shape;
       depth = c.reach_members-doc.ensures.depth;
     }
@@ -305,7 +305,7 @@ group_node::next_match-loop-doc-preserved g t c =
       least = ensured.least;
       entries = group-passed g.S.DocSet g.met.S.DocSet.ascending d before c.reach_members-doc-in-loop-doc.new.node ensured.shape ensured.lists c.loop-doc.invariant.members.valid c.loop-doc.invariant.least some few ∙ c.loop-doc.invariant.entries;
       members = ensured.members;
-      room = subst HasRoom (sym ensured.lists) (HasRoom-from (d + 1) _ c.loop-doc.invariant.room);
+      room = HasRoom-moved (d + 1) _ _ _ _ ensured.shape ensured.lists c.loop-doc.invariant.room;
       shape = ensured.shape ∙ c.loop-doc.invariant.shape;
       depth = omega (arith, ensured.depth, c.loop-doc.invariant.depth);
     }

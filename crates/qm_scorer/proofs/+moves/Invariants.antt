@@ -43,7 +43,7 @@ invariant-group_node::next_match-loop-doc g l = record {
   least : l.doc ≡ least_head (group_lists g.S.DocSet l.node);
   entries : group_entries g.S.DocSet l.node ≡ from l.target (group_entries g.S.DocSet l.fn.node);
   members : AreStanding g.S.DocSet l.node;
-  room : HasRoom (group_lists g.S.DocSet l.node);
+  room : HasRoom l.node.shape.combiner (group_lists g.S.DocSet l.node);
   shape : l.node.shape ≡ l.fn.node.shape;
   depth : size-GroupNode _ l.node ≤ size-GroupNode _ l.fn.node;
 }

@@ -27,15 +27,14 @@ use Rattle.qm_phrase.specs.PhraseScorer.{phrase_left}
 use Rattle.qm_term.specs.TermScorer.{scored_left}
 use Rattle.qm_scorer.specs.AnyCombiner.{AnyHasRoom, any_cleared, any_step}
 use Rattle.qm_scorer.specs.BareFacts.{bare-nil}
-use Rattle.qm_scorer.specs.AnyCombinerFacts.{any-room}
-use Rattle.qm_scorer.specs.Group.{IsGroupNode, group_entries}
+use Rattle.qm_scorer.specs.AnyCombinerFacts.{any-taken}
+use Rattle.qm_scorer.specs.Group.{IsGroupNode}
 use Rattle.qm_scorer.specs.Tree.{HasRoom, IsTree, IsTreePlaced, postings_cursors, set_cursors, tree_entries, tree_head, tree_limits}
 use Rattle.qm_scorer.specs.TreeFacts.{tree-ascends}
 use Rattle.qm_scorer.specs.declared.any_scorer.AnyScorer as aq
 use Rattle.qm_scorer.specs.declared.any_scorer.AnyScorer.{AnyScorer, size-AnyScorer}
 use Rattle.qm_scorer.specs.declared.any_scorer.AnyScorer.TheVariants.{All as Every, BitSet, Boost, Const, Disjunction, Empty, Exclude, Intersection, Own, Phrase, PhrasePrefix, RequiredOptional, Term, Union, outs-Boost, outs-Const, outs-Disjunction, outs-Exclude, outs-Intersection, outs-RequiredOptional, outs-Union}
 use Rattle.qm_scorer.specs.declared.group_node.GroupNode.{GroupNode, size-GroupNode}
-use Rattle.qm_scorer.specs.declared.group_node.Shape.{Shape}
 use Rattle.qm_scorer.specs.declared.group_node.GroupNode as gq
 use Rattle.qm_scorer.specs.declared.intersection_node.IntersectionNode.{size_is-IntersectionNode}
 use Rattle.qm_scorer.proofs.Depth.{most-set, same-All, same-BitSet, same-Empty, same-Own, same-Phrase, same-PhrasePrefix, same-Term, size-members, size-others}
@@ -191,9 +190,10 @@ group_node::score_group-take_score-requires-clause-room g t c =
     let a = tree-ascends D g.met.S.DocSet.ascending item valid in
     let doc : c.doc_tree.result ≡ head_document (e item) = c.doc_tree.ensures ∙ tree-head D g.met.S.DocSet.ascending item valid placed in
     let was : c.index_mut.result.now ≡ item = get_or_read_under xs i (length xs) c.index_mut.result.now item c.index_mut.ensures.value here refl ∙ sym c.index.ensures in
-    let room = room-next e _ xs i d item a c.index.ensures here (sym doc ∙ c.if-doc_tree-doc.true) c.requires.here (subst HasRoom (sym h.lists) c.requires.valid.own.room) in
+    let room = subst (HasRoom start) (sym h.lists) c.requires.valid.own.room d in
+    let next = room-next e _ xs i d item a c.index.ensures here (sym doc ∙ c.if-doc_tree-doc.true) c.requires.here in
     let score : c.score_tree.result ≡ head_score (e item) = c.score_tree.ensures.score ∙ ap (λ m. head_score (e m)) was in
-    let left = any-room start (scores_at d (take i (map e xs))) c.score_tree.result (omega (arith, score, room)) in
+    let left = any-taken start (scores_at d (map e xs)) (scores_at d (take i (map e xs))) c.score_tree.result room (λ fits. omega (arith, score, next fits)) in
     subst (λ s. AnyHasRoom s c.score_tree.result) (sym h.combined) left
 
 pub group_node::score_group-score_tree-requires : goal.group_node::score_group-score_tree-requires

@@ -1,4 +1,4 @@
-use Rattle.std.proofs.Common.{◌≡◌, ◌++◌, true, ◌∙◌, ap, sym, arith, take, of_z, to_z, w64, subst, string_bytes, OnOk}
+use Rattle.std.proofs.Common.{◌≡◌, ◌++◌, IsTrue, rules, true, ◌∙◌, ap, sym, arith, take, of_z, to_z, w64, subst, string_bytes}
 use mir.ValLaws.{to_z-of_z}
 use Rattle.std.proofs.lemmas.List.{drop-map, take-map}
 use Rattle.qm_postings.specs.declared.segment_reader.SegmentReader.{SegmentReader}
@@ -9,7 +9,6 @@ use Rattle.qm_search.specs.Pruned.{all_pruned, parts_pruned}
 use Rattle.qm_search.specs.Text.{IsListing}
 use Rattle.qm_weight.specs.Tree.{is_scoring}
 use Rattle.qm_weight.specs.Weights.{tree_of}
-use Rattle.qm_search.proofs.AskedTrees.{scoring-enabled}
 use Rattle.qm_search.proofs.PartLemmas.{count-split, count-taken}
 use Rattle.qm_search.proofs.PrunedParts.{rest-taken}
 use Rattle.qm_search.proofs.pruning.write_pruned.Goals as goal
@@ -18,9 +17,7 @@ pub write_runs-requires-clause-few : goal.write_runs-requires-clause-few
 write_runs-requires-clause-few c = omega (arith, count-taken c.args.segments.now c.args.ended, c.requires.few)
 
 pub write_runs-requires-clause-scoring : goal.write_runs-requires-clause-scoring
-write_runs-requires-clause-scoring c =
-    let scoring : is_scoring (tree_of c.in_ok-weight.weight.value) ≡ true = ap is_scoring c.in_ok-weight.ensures.tree ∙ scoring-enabled c.args.enable_scoring (query_of c.args.query.now) c.requires.scoring in
-    grind (arith, scoring)
+write_runs-requires-clause-scoring c = search (rules, c.in_ok-weight.ensures.scoring c.requires.scoring)
 
 pub write_parts-requires-clause-few : goal.write_parts-requires-clause-few
 write_parts-requires-clause-few c =
@@ -29,8 +26,7 @@ write_parts-requires-clause-few c =
 
 pub write_parts-requires-clause-scoring : goal.write_parts-requires-clause-scoring
 write_parts-requires-clause-scoring c =
-    let scoring : is_scoring (tree_of c.deref-2.result.now) ≡ true = ap (λ w. is_scoring (tree_of w)) c.deref-2.ensures ∙ ap is_scoring c.in_ok-weight.ensures.tree ∙ scoring-enabled c.args.enable_scoring (query_of c.args.query.now) c.requires.scoring in
-    grind (arith, scoring)
+    subst (λ w. IsTrue (is_scoring (tree_of w))) (sym c.deref-2.ensures) (c.in_ok-weight.ensures.scoring c.requires.scoring)
 
 pub returns-clause-listed : goal.returns-clause-listed
 returns-clause-listed c =
@@ -46,5 +42,6 @@ returns-clause-listed c =
     let number = c.in_ok-first.ensures.counted ∙ ap document_count front in
     let back = ap segments_of (rest-taken ended readers) ∙ sym (drop-map (λ (r : SegmentReader). r.segment) ended readers) in
     let items = all_pruned (to_z w64 (of_z w64 c.args.threshold)) (tree_of c.deref.result.now) (segments_of (take ended readers)) in
-    let written = c.write_parts.ensures.listed items c.in_ok-first.ensures.listed in
-    subst (λ l. OnOk c.write_parts.result (IsListing l (string_bytes c.write_parts.new.text))) (λ i. all_pruned (same i) (one i) (front i) ++ parts_pruned (same i) (other i) (number i) (back i)) written
+    let listed = c.in_ok-write_parts.ensures.listed items c.in_ok-first.ensures.listed in
+    let written = subst (λ l. IsListing l (string_bytes c.write_parts.new.text)) (λ i. all_pruned (same i) (one i) (front i) ++ parts_pruned (same i) (other i) (number i) (back i)) listed in
+    grind (arith, written)

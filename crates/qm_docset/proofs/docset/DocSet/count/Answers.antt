@@ -28,6 +28,7 @@ loop-doc-preserved g c =
       ];
       here = c.advance-doc.ensures.head;
       limits = c.advance-doc.ensures.limits ∙ c.loop-doc.invariant.limits;
+      kept = λ s k. c.advance-doc.ensures.kept s (c.loop-doc.invariant.kept s k);
       valid = c.advance-doc.ensures.valid;
       placed = c.advance-doc.ensures.placed;
     }

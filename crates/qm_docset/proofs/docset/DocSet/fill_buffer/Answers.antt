@@ -41,6 +41,7 @@ loop-taken-preserved g c =
       left = c.advance-doc.ensures.entries ∙ ap (drop 1) c.loop-taken.invariant.left ∙ drop-drop 1 c.loop-taken.taken es;
       here = c.advance-doc.ensures.head;
       limits = c.advance-doc.ensures.limits ∙ c.loop-taken.invariant.limits;
+      kept = λ s k. c.advance-doc.ensures.kept s (c.loop-taken.invariant.kept s k);
       valid = c.advance-doc.ensures.valid;
       placed = c.advance-doc.ensures.placed;
     }

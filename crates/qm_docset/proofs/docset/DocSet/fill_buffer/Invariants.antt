@@ -9,6 +9,7 @@ invariant-loop-taken g l = record {
   left : g.Self.DocSet.entries l.self ≡ drop l.taken (g.Self.DocSet.entries l.fn.self);
   here : l.doc ≡ head_document (g.Self.DocSet.entries l.self);
   limits : g.Self.DocSet.limits l.self ≡ g.Self.DocSet.limits l.fn.self;
+  kept : (s : _) → g.Self.DocSet.keeps s l.fn.self → g.Self.DocSet.keeps s l.self;
   valid : g.Self.DocSet.valid l.self;
   placed : g.Self.DocSet.placed l.self;
 }

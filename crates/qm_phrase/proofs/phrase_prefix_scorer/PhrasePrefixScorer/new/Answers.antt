@@ -1,13 +1,19 @@
 -- The terms as they are handed in, moved to the first document that counts.
-use Rattle.std.proofs.Common.{◌<◌, length, ap, subst, ◌∙◌, arith}
+use Rattle.std.proofs.Common.{◌<◌, length, ap, refl, subst, ◌∙◌, arith}
 use Rattle.qm_docset.specs.EntryFacts.{from-all}
 use Rattle.qm_postings.specs.FieldNorms.{norm_ids}
 use Rattle.qm_phrase.specs.PhrasePrefix.{has_several, prefix_count, prefix_entries, prefix_limits}
 use Rattle.qm_phrase.specs.PhrasePrefixFacts.{AreEntries-prefix}
+use Rattle.qm_phrase.specs.PhrasePrefixScorer.{PrefixAlike}
 use Rattle.qm_phrase.specs.PrefixTerms.{lists_of}
+use Rattle.qm_phrase.specs.declared.phrase_prefix_scorer.PhrasePrefixScorer.{PhrasePrefixScorer}
+use Rattle.qm_docset.specs.declared.docset.DocSet.{Ghosts}
 use Rattle.qm_phrase.proofs.PrefixMoves.{prefix-covered}
 use Rattle.std.proofs.lemmas.Grind.{common_steps}
 use Rattle.qm_phrase.proofs.phrase_prefix_scorer.PhrasePrefixScorer.new.Goals as goal
+
+alike : {P : Type 0} (D : Ghosts P) {s t : PhrasePrefixScorer P} → ((u : PhrasePrefixScorer P) → PrefixAlike D u s → PrefixAlike D u t) → PrefixAlike D s t
+alike D {s} keeps = keeps s (record { counts = λ d some. refl })
 
 pub seek-requires-clause-valid : goal.seek-requires-clause-valid
 seek-requires-clause-valid g c =
@@ -31,8 +37,8 @@ returns-clause-lists g c =
     }
 
 pub returns-clause-counts : goal.returns-clause-counts
-returns-clause-counts g c d =
-    c.seek.ensures.counts d (omega arith) ∙ ap (λ u. prefix_count u d) c.in_ok-terms.ensures.lists
+returns-clause-counts g c d some =
+    (alike g.P.DocSet c.seek.ensures.kept).counts d some ∙ ap (λ u. prefix_count u d) c.in_ok-terms.ensures.lists
 
 pub seek-requires-clause-target : goal.seek-requires-clause-target
 seek-requires-clause-target g c = grind (arith, common_steps)

@@ -26,9 +26,3 @@ returns-clause-entries g c =
     let next = next_or_end (phrase_prefix_scorer_limits g.P.DocSet self) left ascending in
     let target : c.min.result ≡ min (head_document left + 1) TERMINATED = omega (arith, c.requires.placed.document, c.min.ensures) in
     c.seek.ensures.entries ∙ ap (λ t. from t left) target ∙ next
-
-pub returns-clause-counts : goal.returns-clause-counts
-returns-clause-counts g c d h =
-    let left = phrase_prefix_left g.P.DocSet c.args.self.now in
-    let past = head_document-from c.min.result left (omega (arith, c.min.ensures)) in
-    c.seek.ensures.counts d (omega (arith, h, c.seek.ensures.head, ap head_document c.seek.ensures.entries, past))

@@ -3,7 +3,7 @@ use Rattle.std.proofs.Common.{ap, ◌∙◌, sym, arith}
 use Rattle.qm_postings.specs.FieldNorms.{norm_ids}
 use Rattle.qm_phrase.specs.PhrasePrefix.{held}
 use Rattle.qm_phrase.specs.PrefixTerms.{lists_of}
-use Rattle.qm_phrase.proofs.PrefixEntries.{found-entries, found-head, gone-some}
+use Rattle.qm_phrase.proofs.PrefixEntries.{found-entries, found-head, gone-same, gone-some}
 use Rattle.qm_phrase.proofs.phrase_prefix_scorer.PhrasePrefixScorerDocSet.seek.Goals as goal
 
 pub returns-clause-entries : goal.returns-clause-entries
@@ -37,3 +37,10 @@ returns-clause-placed g c =
       prefix = λ below. (step.ensures.found.here below).prefix ∙ ap held (sym (step.ensures.moved.counts doc (omega arith)));
       full = λ below. (step.ensures.found.here below).full ∙ ap held (sym (step.ensures.moved.full doc (omega arith)));
     }
+
+pub returns-clause-kept : goal.returns-clause-kept
+returns-clause-kept g c = λ s k.
+    let step = c.seek-doc in
+    let old = lists_of g.P.DocSet c.args.self.now.terms in
+    let new = lists_of g.P.DocSet step.new.self in
+    record { counts = λ d some. gone-same step.result.0 d old new step.ensures.moved some ∙ k.counts d (gone-some step.result.0 d old new step.ensures.moved some) }

@@ -7,7 +7,7 @@ use Rattle.qm_postings.specs.FieldNorms.{norm_ids}
 use Rattle.qm_phrase.specs.PhrasePrefix.{held}
 use Rattle.qm_phrase.specs.PhrasePrefixScorer.{phrase_prefix_left}
 use Rattle.qm_phrase.specs.PrefixTerms.{lists_of}
-use Rattle.qm_phrase.proofs.PrefixEntries.{gone-some, look-bound, look-entries, look-head}
+use Rattle.qm_phrase.proofs.PrefixEntries.{gone-same, gone-some, look-bound, look-entries, look-head}
 use Rattle.qm_phrase.proofs.phrase_prefix_scorer.PhrasePrefixScorerDocSet.seek_danger.Goals as goal
 
 pub returns-then-target-eq-TERMINATED-clause-answer : goal.returns-then-target-eq-TERMINATED-clause-answer
@@ -75,3 +75,17 @@ returns-in-Err-clause-valid g c =
       terms = step.ensures.valid;
       covered = λ d some. c.requires.valid.covered d (gone-some c.args.target d (lists_of g.P.DocSet self.terms) (lists_of g.P.DocSet step.new.self) step.ensures.moved some);
     }
+
+pub returns-in-Ok-clause-kept : goal.returns-in-Ok-clause-kept
+returns-in-Ok-clause-kept g c = λ s k.
+    let step = c.look_at in
+    let old = lists_of g.P.DocSet c.args.self.now.terms in
+    let new = lists_of g.P.DocSet step.new.self in
+    record { counts = λ d some. gone-same c.args.target d old new step.ensures.moved some ∙ k.counts d (gone-some c.args.target d old new step.ensures.moved some) }
+
+pub returns-in-Err-clause-kept : goal.returns-in-Err-clause-kept
+returns-in-Err-clause-kept g c = λ s k.
+    let step = c.look_at in
+    let old = lists_of g.P.DocSet c.args.self.now.terms in
+    let new = lists_of g.P.DocSet step.new.self in
+    record { counts = λ d some. gone-same c.args.target d old new step.ensures.moved some ∙ k.counts d (gone-some c.args.target d old new step.ensures.moved some) }

@@ -1,14 +1,20 @@
 -- The terms as they are handed in, moved to the first document with a start.
-use Rattle.std.proofs.Common.{◌≡◌, ℕ, ◌-◌, ◌<◌, ◌≤◌, fold, length, map, max, ap, ◌∙◌, arith}
+use Rattle.std.proofs.Common.{◌≡◌, ℕ, ◌-◌, ◌<◌, ◌≤◌, fold, length, map, max, ap, refl, ◌∙◌, arith}
 use Rattle.qm_docset.specs.EntryFacts.{from-all}
 use Rattle.qm_docset.specs.Lists.{lists}
 use Rattle.qm_postings.specs.FieldNorms.{norm_ids}
 use Rattle.qm_phrase.specs.Phrase.{phrase_entries, phrase_limits, phrase_points}
 use Rattle.qm_phrase.specs.PhraseFacts.{AreEntries-phrase}
+use Rattle.qm_phrase.specs.PhraseScorer.{CountsAlike}
 use Rattle.qm_phrase.specs.Places.{shift_of}
-use Rattle.qm_phrase.proofs.HandedIn.{AreTerms-split, covered-split, entries-split, greatest-le}
+use Rattle.qm_phrase.specs.declared.phrase_scorer.PhraseScorer.{PhraseScorer}
+use Rattle.qm_docset.specs.declared.docset.DocSet.{Ghosts}
+use Rattle.qm_phrase.proofs.HandedIn.{AreTerms-split, covered-split, entries-split, greatest-le, starts-split}
 use Rattle.std.proofs.lemmas.Grind.{common_steps}
 use Rattle.qm_phrase.proofs.phrase_scorer.PhraseScorer.new.Goals as goal
+
+alike : {P : Type 0} (D : Ghosts P) {s t : PhraseScorer P} → ((u : PhraseScorer P) → CountsAlike D u s → CountsAlike D u t) → CountsAlike D s t
+alike D {s} keeps = keeps s (record { weighted = refl; counts = λ d some. refl })
 
 pub split_terms-requires-clause-greatest : goal.split_terms-requires-clause-greatest
 split_terms-requires-clause-greatest g c =
@@ -52,5 +58,16 @@ returns-clause-lists g c =
 pub split_terms-requires-clause-valid : goal.split_terms-requires-clause-valid
 split_terms-requires-clause-valid g c = grind (arith, common_steps)
 
-pub returns-clause-weighted : goal.returns-clause-weighted
-returns-clause-weighted g c = grind (arith, common_steps)
+pub returns-clause-counts : goal.returns-clause-counts
+returns-clause-counts g c =
+    let items = c.args.term_postings.items in
+    let members = c.in_ok-members.members.items in
+    let places = c.in_ok-members.places.items in
+    let offset : ℕ × g.row.P.Denot → ℕ = λ pair. pair.0 in
+    let greatest : c.greatest_offset-greatest.result ≡ fold max 0 (map offset items) = c.greatest_offset-greatest.ensures ∙ ap (λ r. fold max 0 (map offset r)) c.deref.ensures.value in
+    let shifts = c.in_ok-members.ensures.shifts ∙ ap (λ n. map (λ (pair : ℕ × g.row.P.Denot). n - pair.0) items) greatest in
+    let kept = alike g.P.DocSet c.seek.ensures.kept in
+    record {
+      weighted = kept.weighted;
+      counts = λ d some. kept.counts d some ∙ starts-split g.P.DocSet c.args.slop d items members places c.in_ok-members.ensures.members shifts;
+    }

@@ -7,7 +7,7 @@ use Rattle.qm_docset.specs.declared.numbers.TheConstants.{TERMINATED}
 use Rattle.qm_phrase.specs.PhraseScorer.{phrase_left}
 use Rattle.qm_postings.specs.FieldNorms.{norm_ids}
 use Rattle.qm_phrase.specs.Phrase.{phrase_points}
-use Rattle.qm_phrase.proofs.PhraseLists.{look-bound, look-entries, look-found, moved-some}
+use Rattle.qm_phrase.proofs.PhraseLists.{look-bound, look-entries, look-found, moved-some, moved-same}
 use Rattle.std.proofs.lemmas.Grind.{common_steps}
 use Rattle.qm_phrase.proofs.phrase_scorer.PhraseScorerDocSet.seek_danger.Goals as goal
 
@@ -105,14 +105,8 @@ look_at-requires-clause-valid g c = grind (arith, common_steps)
 pub returns-in-Err-clause-limits : goal.returns-in-Err-clause-limits
 returns-in-Err-clause-limits g c = grind (arith, common_steps)
 
-pub returns-in-Err-clause-weighted : goal.returns-in-Err-clause-weighted
-returns-in-Err-clause-weighted g c = grind (arith, common_steps)
-
 pub returns-in-Ok-clause-limits : goal.returns-in-Ok-clause-limits
 returns-in-Ok-clause-limits g c = grind (arith, common_steps)
-
-pub returns-in-Ok-clause-weighted : goal.returns-in-Ok-clause-weighted
-returns-in-Ok-clause-weighted g c = grind (arith, common_steps)
 
 pub returns-then-target-eq-TERMINATED-clause-entries : goal.returns-then-target-eq-TERMINATED-clause-entries
 returns-then-target-eq-TERMINATED-clause-entries g c = grind (arith, common_steps)
@@ -123,5 +117,20 @@ returns-then-target-eq-TERMINATED-clause-limits g c = grind (arith, common_steps
 pub returns-then-target-eq-TERMINATED-clause-valid : goal.returns-then-target-eq-TERMINATED-clause-valid
 returns-then-target-eq-TERMINATED-clause-valid g c = grind (arith, common_steps)
 
-pub returns-then-target-eq-TERMINATED-clause-weighted : goal.returns-then-target-eq-TERMINATED-clause-weighted
-returns-then-target-eq-TERMINATED-clause-weighted g c = grind (arith, common_steps)
+pub returns-in-Ok-clause-kept : goal.returns-in-Ok-clause-kept
+returns-in-Ok-clause-kept g c = λ s k.
+    let self = c.args.self.now in
+    let step = c.look_at in
+    let members = whole self.members.len step.new.members self.members.items (step.auto.members ∙ ap length c.deref_mut.ensures.value) self.members.ok.0 in
+    let places = whole self.places.len step.new.places self.places.items (step.auto.places ∙ ap length c.deref_mut-2.ensures.value) self.places.ok.0 in
+    let moved = rw (c.deref_mut.ensures.value, c.deref_mut-2.ensures.value) at step.ensures.moved in
+    record { weighted = k.weighted; counts = λ d. rw (members, places) (λ some. moved-same g.P.DocSet self.slop c.args.target self.members.items self.places.items step.new.members step.new.places moved d some ∙ k.counts d (moved-some g.P.DocSet self.slop c.args.target self.members.items self.places.items step.new.members step.new.places moved d some)) }
+
+pub returns-in-Err-clause-kept : goal.returns-in-Err-clause-kept
+returns-in-Err-clause-kept g c = λ s k.
+    let self = c.args.self.now in
+    let step = c.look_at in
+    let members = whole self.members.len step.new.members self.members.items (step.auto.members ∙ ap length c.deref_mut.ensures.value) self.members.ok.0 in
+    let places = whole self.places.len step.new.places self.places.items (step.auto.places ∙ ap length c.deref_mut-2.ensures.value) self.places.ok.0 in
+    let moved = rw (c.deref_mut.ensures.value, c.deref_mut-2.ensures.value) at step.ensures.moved in
+    record { weighted = k.weighted; counts = λ d. rw (members, places) (λ some. moved-same g.P.DocSet self.slop c.args.target self.members.items self.places.items step.new.members step.new.places moved d some ∙ k.counts d (moved-some g.P.DocSet self.slop c.args.target self.members.items self.places.items step.new.members step.new.places moved d some)) }

@@ -18,8 +18,7 @@ inside s valid here = within s.cursor (stored s.reading s.arrays) s.arrays.docum
 end_inside : (s : SegmentPostings) (start : ℕ) → IsPostings s → head_document (postings_left s) < TERMINATED → 0 < length s.arrays.positions.now → start ≡ sum (take s.cursor s.arrays.frequencies.now) →
     start + get_or s.arrays.frequencies.now s.cursor 0 ≤ length s.arrays.positions.now
 end_inside s start valid here some is =
-    let places = valid.arrays.places some in
-    omega (arith, is, places.enough, sum-past s.cursor s.arrays.frequencies.now (omega (arith, inside s valid here, places.frequencies)))
+    omega (arith, is, valid.arrays.enough some, sum-past s.cursor s.arrays.frequencies.now (omega (arith, inside s valid here, valid.arrays.frequencies)))
 
 pub returns-then-is_empty-clause-positions : goal.returns-then-is_empty-clause-positions
 returns-then-is_empty-clause-positions c =
@@ -41,10 +40,11 @@ pub positions_start-start-requires : goal.positions_start-start-requires
 positions_start-start-requires c =
     let s = c.args.self.now in
     let some : 0 < length s.arrays.positions.now = search rules in
-    let places = c.requires.valid.arrays.places some in
+    let valid = c.requires.valid in
     record {
-      places = places;
-      within = omega (arith, inside s c.requires.valid c.requires.here, places.frequencies);
+      arrays = (s.reading, valid.arrays);
+      some = some;
+      within = omega (arith, inside s valid c.requires.here, valid.arrays.frequencies);
       mark = c.requires.valid.mark;
       start = c.requires.valid.mark_start some;
     }
@@ -52,8 +52,7 @@ positions_start-start-requires c =
 pub bounds-arrays-self : goal.bounds-arrays-self
 bounds-arrays-self c =
     let s = c.args.self.now in
-    let some : 0 < length s.arrays.positions.now = search rules in
-    omega (arith, inside s c.requires.valid c.requires.here, (c.requires.valid.arrays.places some).frequencies)
+    omega (arith, inside s c.requires.valid c.requires.here, c.requires.valid.arrays.frequencies)
 
 pub overflow_add-end : goal.overflow_add-end
 overflow_add-end c = omega (arith, end_inside c.args.self.now c.positions_start-start.result c.requires.valid c.requires.here (search rules) c.positions_start-start.ensures, c.fits-self)
@@ -84,4 +83,4 @@ returns-clause-limits c = refl
 pub returns-clause-valid : goal.returns-clause-valid
 returns-clause-valid c =
     let valid = c.requires.valid in
-    record { arrays = valid.arrays; place = valid.place; mark = omega arith; mark_start = λ _. c.positions_start-start.ensures }
+    record { arrays = valid.arrays; place = valid.place; mark = omega arith; mark_start = λ _. c.positions_start-start.ensures; block = valid.block; block_end = valid.block_end; last_doc = valid.last_doc; look_from = valid.look_from; look = valid.look }

@@ -2,7 +2,7 @@
 use Rattle.std.proofs.Common.{ap, rules, ◌∙◌}
 use Rattle.qm_weight.specs.Weights.{tree_of}
 use Rattle.qm_query.specs.Searches.{IsCountRefusal}
-use Rattle.qm_query.proofs.SearchFacts.{count_unweighed, counted, searcher_ghosts}
+use Rattle.qm_query.proofs.SearchFacts.{count_refused, count_unweighed, counted, searcher_ghosts}
 use Rattle.qm_query.proofs.query.Query.count.Goals as goal
 
 pub returns-in_err-weight-clause-refused : goal.returns-in_err-weight-clause-refused
@@ -16,3 +16,8 @@ pub returns-clause-count : goal.returns-clause-count
 returns-clause-count g c =
     let under = c.disabled_from_searcher-enable_scoring in
     counted searcher_ghosts c.args.searcher.now under.result (g.Self.Query.query c.args.self.now) under.ensures.provider c.count_alive.result (tree_of c.deref.result.now) (ap tree_of c.deref.ensures ∙ c.in_ok-weight.ensures.tree) c.count_alive.ensures.count
+
+pub returns-clause-refused : goal.returns-clause-refused
+returns-clause-refused g c =
+    let under = c.disabled_from_searcher-enable_scoring in
+    count_refused searcher_ghosts c.args.searcher.now under.result (g.Self.Query.query c.args.self.now) under.ensures.provider c.count_alive.result (tree_of c.deref.result.now) (ap tree_of c.deref.ensures ∙ c.in_ok-weight.ensures.tree) c.count_alive.ensures.refused

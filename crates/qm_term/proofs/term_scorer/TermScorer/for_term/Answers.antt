@@ -1,13 +1,16 @@
-use Rattle.std.proofs.Common.{◌∙◌, ap, subst, sym}
+use Rattle.std.proofs.Common.{◌∙◌, ap, inr, subst, sym}
 use Rattle.qm_combine.specs.Rescored.{limited}
+use Rattle.qm_postings.specs.Blocks.{HaveLeastIds}
 use Rattle.qm_postings.specs.FieldIndex.{term_limits}
-use Rattle.qm_postings.specs.FieldNorms.{norm_ids}
+use Rattle.qm_postings.specs.FieldNorms.{is_made_constant, norm_ids}
 use Rattle.qm_postings.specs.Segment.{postings_of}
+use Rattle.qm_postings.specs.SegmentPostings.{postings_blocks, postings_left}
 use Rattle.qm_term.specs.Bm25.{bm25_bound}
 use Rattle.qm_term.specs.Bm25Weight.{weighing}
 use Rattle.qm_term.specs.TermEntries.{length_ids}
-use Rattle.qm_term.specs.TermScorer.{AreCovered, scored_postings}
-use Rattle.qm_term.proofs.TermEntryLemmas.{AreCovered-postings, scored_postings-term_entries}
+use Rattle.qm_term.specs.TermBlocks.{scored_looked}
+use Rattle.qm_term.specs.TermScorer.{AreCovered, scored_block, scored_postings}
+use Rattle.qm_term.proofs.TermEntryLemmas.{AreCovered-postings, bounded_by_ids, scored_postings-term_entries}
 use Rattle.qm_term.proofs.term_scorer.TermScorer.for_term.Goals as goal
 
 pub returns-clause-lists : goal.returns-clause-lists
@@ -25,6 +28,12 @@ returns-clause-lists c =
       valid = record {
         postings = postings.valid;
         covered = subst (AreCovered ids) (sym left) (AreCovered-postings segment c.args.option term ids are);
+        bounded = inr (bounded_by_ids segment c.args.option term ids are _ left _ (subst (λ i. HaveLeastIds i.reader.segment term.field (postings_blocks c.in_ok-postings.postings) (postings_left c.in_ok-postings.postings)) c.inverted_index.ensures c.in_ok-postings.ensures.ids));
       };
       placed = tt;
     }
+
+pub returns-clause-looked : goal.returns-clause-looked
+unfolding scored_looked
+returns-clause-looked c =
+    ap (scored_block (weighing c.args.weight.now) (is_made_constant c.length_ids.result) (norm_ids c.length_ids.result)) c.in_ok-postings.ensures.looked

@@ -1,11 +1,12 @@
-use Rattle.std.proofs.Common.{◌∙◌, ap, subst, sym}
+use Rattle.std.proofs.Common.{◌∙◌, ap, subst, sym, refl}
 use Rattle.qm_combine.specs.Rescored.{limited}
 use Rattle.qm_combine.specs.RescoredFacts.{drop-rescored, head_document-rescored}
-use Rattle.qm_postings.specs.FieldNorms.{norm_ids}
+use Rattle.qm_postings.specs.FieldNorms.{is_made_constant, norm_ids}
 use Rattle.qm_term.specs.Bm25.{bm25_bound}
 use Rattle.qm_term.specs.Bm25Weight.{weighing}
-use Rattle.qm_term.specs.TermScorer.{AreCovered, scored_postings}
-use Rattle.qm_term.specs.TermScorerFacts.{AreCovered-drop}
+use Rattle.qm_term.specs.TermBlocks.{scored_looked}
+use Rattle.qm_term.specs.TermScorer.{AreCovered, scored_postings, scored_block}
+use Rattle.qm_term.specs.TermScorerFacts.{AreCovered-drop, IsBoundedBy-drop, bounded_after, ReadsAs-self, keeps_scoring}
 use Rattle.qm_term.proofs.term_scorer.TermScorerDocSet.advance.Goals as goal
 
 pub returns-clause-head : goal.returns-clause-head
@@ -22,4 +23,14 @@ pub returns-clause-valid : goal.returns-clause-valid
 returns-clause-valid c = record {
   postings = c.advance.ensures.valid;
   covered = subst (AreCovered (norm_ids c.args.self.now.fieldnorm_reader)) (sym c.advance.ensures.entries) (AreCovered-drop _ 1 _ c.requires.valid.covered);
+  bounded = bounded_after c.args.self.now.fieldnorm_reader _ _ _ _ (c.advance.ensures.kept c.args.self.now.postings (ReadsAs-self c.args.self.now.postings)).blocks c.advance.ensures.entries (IsBoundedBy-drop c.args.self.now.fieldnorm_reader _ 1 _ c.requires.valid.bounded);
 }
+
+pub returns-clause-kept : goal.returns-clause-kept
+returns-clause-kept c = λ s. keeps_scoring s c.args.self.now _ refl refl c.advance.ensures.kept
+
+pub returns-clause-looked : goal.returns-clause-looked
+unfolding scored_looked
+returns-clause-looked c =
+    let s = c.args.self.now in
+    ap (scored_block (weighing s.similarity_weight) (is_made_constant s.fieldnorm_reader) (norm_ids s.fieldnorm_reader)) c.advance.ensures.looked

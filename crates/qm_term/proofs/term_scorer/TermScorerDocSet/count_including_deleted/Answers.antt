@@ -1,6 +1,8 @@
 -- The tactic that closes this goal, without the search that is tried before it.
-use Rattle.std.proofs.Common.{arith}
-use Rattle.qm_term.specs.TermScorerFacts.{scoring}
+use Rattle.std.proofs.Common.{arith, refl, subst, sym}
+use Rattle.qm_postings.specs.FieldNorms.{norm_ids}
+use Rattle.qm_term.specs.TermScorer.{AreCovered, IsBoundedBy}
+use Rattle.qm_term.specs.TermScorerFacts.{AreCovered-nil, IsBoundedBy-nil, keeps_scoring, scoring}
 use Rattle.qm_term.proofs.term_scorer.TermScorerDocSet.count_including_deleted.Goals as goal
 
 pub returns-clause-count : goal.returns-clause-count
@@ -13,4 +15,11 @@ pub returns-clause-limits : goal.returns-clause-limits
 returns-clause-limits c = grind (arith, scoring)
 
 pub returns-clause-valid : goal.returns-clause-valid
-returns-clause-valid c = grind (arith, scoring)
+returns-clause-valid c = record {
+  postings = c.count_including_deleted.ensures.valid;
+  covered = subst (AreCovered (norm_ids c.args.self.now.fieldnorm_reader)) (sym c.count_including_deleted.ensures.entries) (AreCovered-nil _);
+  bounded = subst (IsBoundedBy c.args.self.now.fieldnorm_reader _) (sym c.count_including_deleted.ensures.entries) (IsBoundedBy-nil c.args.self.now.fieldnorm_reader _);
+}
+
+pub returns-clause-kept : goal.returns-clause-kept
+returns-clause-kept c = λ s. keeps_scoring s c.args.self.now _ refl refl c.count_including_deleted.ensures.kept

@@ -19,6 +19,7 @@ returns-then-target-self g c =
       head = first;
       entries = sym (from-reached c.args.target 0 _ _ (omega (arith, first, c.if-target-self.true)) ascends);
       limits = refl;
+      kept = λ s k. tt;
       valid = h;
       placed = tt;
     }
@@ -35,6 +36,7 @@ returns g c =
       head = rw same (step.ensures.least ∙ head_document-united g.D.DocSet.valid g.D.DocSet.limits g.D.DocSet.entries g.met.D.DocSet.ascending new step.ensures.valid);
       entries = rw same (united-sought g.D.DocSet.entries g.D.DocSet.limits c.args.target (lists g.D.DocSet members.items) new (λ k d below. g.met.D.DocSet.ascending _ (step.ensures.valid k d below)) (λ k d below. (step.ensures.reached k d below).1) left);
       limits = rw same (ap postings_limits limits);
+      kept = λ s k. tt;
       valid = record {
         members = rw same (record { valid = step.ensures.valid; placed = λ k d below. (step.ensures.reached k d below).0 });
         first = rw same step.ensures.least;

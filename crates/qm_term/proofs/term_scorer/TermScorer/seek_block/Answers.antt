@@ -1,0 +1,31 @@
+use Rattle.std.proofs.Common.{ap, refl, subst, sym}
+use Rattle.qm_combine.specs.Rescored.{limited}
+use Rattle.qm_postings.specs.FieldNorms.{is_made_constant, norm_ids}
+use Rattle.qm_term.specs.Bm25.{bm25_bound}
+use Rattle.qm_term.specs.Bm25Weight.{weighing}
+use Rattle.qm_term.specs.TermBlocks.{scored_looked}
+use Rattle.qm_term.specs.TermScorer.{AreCovered, scored_block, scored_postings}
+use Rattle.qm_term.specs.TermScorerFacts.{ReadsAs-self, bounded_after, keeps_scoring}
+use Rattle.qm_term.proofs.term_scorer.TermScorer.seek_block.Goals as goal
+
+pub returns-clause-looked : goal.returns-clause-looked
+unfolding scored_looked
+returns-clause-looked c =
+    let s = c.args.self.now in
+    ap (scored_block (weighing s.similarity_weight) (is_made_constant s.fieldnorm_reader) (norm_ids s.fieldnorm_reader)) c.seek_block.ensures.looked
+
+pub returns-clause-kept : goal.returns-clause-kept
+returns-clause-kept c = λ s. keeps_scoring s c.args.self.now _ refl refl c.seek_block.ensures.kept
+
+pub returns-clause-entries : goal.returns-clause-entries
+returns-clause-entries c = ap (scored_postings (weighing c.args.self.now.similarity_weight) (norm_ids c.args.self.now.fieldnorm_reader)) c.seek_block.ensures.entries
+
+pub returns-clause-limits : goal.returns-clause-limits
+returns-clause-limits c = ap (limited (bm25_bound (weighing c.args.self.now.similarity_weight))) c.seek_block.ensures.limits
+
+pub returns-clause-valid : goal.returns-clause-valid
+returns-clause-valid c = record {
+  postings = c.seek_block.ensures.valid;
+  covered = subst (AreCovered (norm_ids c.args.self.now.fieldnorm_reader)) (sym c.seek_block.ensures.entries) c.requires.valid.covered;
+  bounded = bounded_after c.args.self.now.fieldnorm_reader _ _ _ _ (c.seek_block.ensures.kept c.args.self.now.postings (ReadsAs-self c.args.self.now.postings)).blocks c.seek_block.ensures.entries c.requires.valid.bounded;
+}

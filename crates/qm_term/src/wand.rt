@@ -1,0 +1,17 @@
+//! Runs that pass over the blocks whose documents cannot score above a threshold.
+//!
+//! They make the calls of the plain loop, with the same thresholds, and score only documents whose
+//! blocks' bounds are above the threshold together.
+
+mod front;
+pub(crate) mod heads;
+pub(crate) mod places;
+mod rows;
+mod run;
+mod single;
+mod ticks;
+
+pub use front::{TermScorerWithMaxScore, score_front};
+pub use run::{WandRun, block_wand};
+pub use single::block_wand_single_scorer;
+pub use ticks::{Ticks, WandCount};

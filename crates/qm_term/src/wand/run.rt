@@ -1,0 +1,289 @@
+//! The run over several terms, turn by turn.
+
+ghost use Rattle.std.specs.Prelude.{◌≡◌, ℕ, ℤ, ◌+◌, ◌<◌, ◌≤◌, ◌<ℤ◌, ◌≤ℤ◌, ◌^◌, ◌↔◌, All, Bool, IfErr, IfOk, IsErrOf, List, OnErr, cond, drop, length, map, pos, slice_index_or, sum_by, take, true, false};
+ghost use Rattle.std.specs.List.Sorted.{IsPermutation};
+ghost use Rattle.qm_combine.specs.Union.{IsBoundOrMemory};
+ghost use Rattle.qm_docset.specs.Entry.{greatest_score};
+ghost use Rattle.qm_term.specs.HeadRow.{IsRow, row_lists};
+ghost use Rattle.qm_term.specs.Heads.{IsLevel};
+ghost use Rattle.qm_term.specs.HitRuns.{MayPrune};
+ghost use Rattle.qm_term.specs.Members.{Member, united};
+ghost use Rattle.qm_term.specs.Pivot.{IsPivot, IsTurn, NoPivot, Pruned, front_scores, head, past, postings, total_top};
+ghost use Rattle.qm_term.specs.Runs.{InRange, MayPrune as MayRunOver, Turn};
+ghost use Rattle.qm_term.specs.RunScorers.{IsRunScorer, first_score, ticks_of, wand_member};
+ghost use Rattle.qm_term.specs.TermBlocks.{member_of};
+ghost use Rattle.qm_term.specs.TermScorer.{IsTermScorer};
+ghost use Rattle.qm_term.specs.WandRun.{IsNewRun, IsRun, PrunesTerms, run_combiner, run_lists, run_threshold, run_ticks, run_turns, terms_left};
+
+use crate::term_scorer::TermScorer;
+use crate::wand::front::{TermScorerWithMaxScore, score_front};
+use crate::wand::heads::{
+    Head, align, bounds_at, find_pivot, front_len, is_alone, pass, settle, skip_one,
+};
+use crate::wand::places::gather;
+use crate::wand::rows::{heads_of, row_of, tops_fit};
+use crate::wand::single::{call_at, is_above};
+use crate::wand::ticks::{Ticks, WandCount};
+use qm_combine::BoundedBySum;
+use qm_docset::{DocId, Score, TERMINATED};
+use qm_schema::QueryError;
+use std::alloc::Global;
+
+/// A run over the scorers of several terms.
+#[derive(Debug, Drop)]
+pub struct WandRun<'a, C> {
+    heads: Vec<Head>,
+    scorers: Vec<TermScorerWithMaxScore<'a>>,
+    combiner: C,
+    threshold: Score,
+    turns: u128,
+    ticks: Ticks,
+}
+
+impl<'a, C: BoundedBySum> WandRun<'a, C> {
+    /// A run over what the scorers have left, from a threshold on. Refused where their greatest scores
+    /// add up past the greatest score, and else for want of memory alone.
+    pub fn new(
+        alloc: Global,
+        scorers: Vec<TermScorer<'a>>,
+        combiner: C,
+        threshold: Score,
+    ) -> Result<WandRun<'a, C>, QueryError>
+        requires { All IsTermScorer scorers.items }
+        ensures made { IfOk result (IsNewRun combiner threshold (map member_of scorers.entry.items)) }
+        ensures refused { IsErrOf result QueryError.ScoreBound ↔ (greatest_score < total_top (map member_of scorers.entry.items)) }
+        ensures only { IfErr result IsBoundOrMemory }
+    {
+        if !tops_fit(&scorers) {
+            return Err(QueryError::ScoreBound);
+        }
+        let row = row_of(alloc, scorers)?;
+        let mut heads = heads_of(alloc, &row)?;
+        let len = heads.len();
+        settle(&mut heads, len);
+        Ok(WandRun {
+            heads,
+            scorers: row,
+            combiner,
+            threshold,
+            turns: 0,
+            ticks: Ticks::new(),
+        })
+    }
+
+    /// One turn. False where no document can score above the threshold any more.
+    #[inline]
+    pub fn turn<F: FnMut(DocId, Score) -> Score>(&mut self, callback: &mut F) -> bool
+        requires valid { IsRun self.old }
+        requires callable { MayPrune (InRange F.step) F.pre (run_threshold self.old) callback.old (united (C.combined (run_combiner self.old)) (run_lists self.old)) }
+        ensures valid { IsRun self.new }
+        ensures combiner { run_combiner self.new ≡ run_combiner self.old }
+        ensures none { result ≡ false → NoPivot (run_threshold self.old) (run_lists self.old) × (run_lists self.new ≡ run_lists self.old) × (run_threshold self.new ≡ run_threshold self.old) × (callback.new ≡ callback.old) × (run_turns self.new ≡ run_turns self.old) × (run_ticks self.new ≡ run_ticks self.old) }
+        ensures turn { result ≡ true → (p : ℕ) × (ticked : Bool) × (ls : List Member) × IsPivot (run_threshold self.old) (run_lists self.old) p × (postings (run_lists self.new) < postings (run_lists self.old)) × (run_turns self.new ≡ run_turns self.old + 1) × (run_ticks self.new ≡ run_ticks self.old + cond ticked 1 0) × IsPermutation ls (run_lists self.new) × IsTurn (InRange F.step) (C.combined (run_combiner self.old)) (run_threshold self.old) callback.old (run_lists self.old) (run_threshold self.new) callback.new ls ticked p }
+    {
+        let turned = turn_row(
+            &mut self.heads,
+            &mut self.scorers,
+            self.combiner,
+            self.threshold,
+            &mut self.ticks,
+            callback,
+        );
+        self.threshold = turned.threshold;
+        self.turns += turned.found as u128;
+        turned.found
+    }
+
+    /// What it took so far.
+    pub fn count(&self) -> WandCount
+        ensures turns { result.turns ≡ run_turns self.now }
+        ensures ticks { result.ticks ≡ run_ticks self.now }
+    {
+        WandCount {
+            turns: self.turns,
+            ticks: self.ticks.get(),
+        }
+    }
+
+    // Turns until there is no pivot.
+    fn finish<F: FnMut(DocId, Score) -> Score>(&mut self, callback: &mut F)
+        requires valid { IsRun self.old }
+        requires callable { MayPrune (InRange F.step) F.pre (run_threshold self.old) callback.old (united (C.combined (run_combiner self.old)) (run_lists self.old)) }
+        ensures turns { run_turns self.new ≤ run_turns self.old + postings (run_lists self.old) }
+        ensures run { (k : ℕ) × (last : ℤ) × (run_ticks self.new ≡ run_ticks self.old + k) × Pruned (InRange F.step) (C.combined (run_combiner self.old)) (run_threshold self.old) callback.old (run_lists self.old) k last callback.new }
+    {
+        while self.turn(callback) {}
+    }
+}
+
+/// Runs over what the scorers have left: calls `callback` for each document that scores above the
+/// threshold, ascending, with what the combiner makes of its scores; its answer is the threshold from
+/// then on. It makes the calls of the plain loop, with the same thresholds, and scores only documents
+/// whose blocks' bounds add up to more than the threshold. It takes memory only before the first call.
+///
+/// Asks that the callback may be called so, whatever the calls before answered and left of it. Refused
+/// where the scorers' greatest scores add up past the greatest score, and else for want of memory alone.
+pub fn block_wand<C: BoundedBySum, F: FnMut(DocId, Score) -> Score>(
+    alloc: Global,
+    scorers: Vec<TermScorer<'_>>,
+    combiner: C,
+    threshold: Score,
+    callback: &mut F,
+) -> Result<WandCount, QueryError>
+    requires valid { All IsTermScorer scorers.items }
+    requires callable { MayRunOver (InRange F.step) F.pre threshold callback.old (terms_left (C.combined combiner) scorers.items) }
+    ensures turns { IfOk result (λ count. count.turns ≤ postings (map member_of scorers.entry.items)) }
+    ensures run { IfOk result (λ count. PrunesTerms (InRange F.step) (C.combined combiner) threshold callback.old scorers.entry.items count.ticks callback.new) }
+    ensures refused { IsErrOf result QueryError.ScoreBound ↔ (greatest_score < total_top (map member_of scorers.entry.items)) }
+    ensures only { IfErr result IsBoundOrMemory }
+    ensures untouched { OnErr result (callback.new ≡ callback.old) }
+{
+    let mut run = WandRun::new(alloc, scorers, combiner, threshold)?;
+    run.finish(callback);
+    Ok(run.count())
+}
+
+// What a turn did.
+#[derive(Clone, Copy, Debug)]
+pub(super) struct Turned {
+    pub(super) found: bool,
+    pub(super) ticked: bool,
+    pub(super) threshold: Score,
+}
+
+// One turn over a row. It finds no pivot where no document can score above the threshold any more.
+pub(super) fn turn_row<C: BoundedBySum, F: FnMut(DocId, Score) -> Score>(
+    heads: &mut [Head],
+    scorers: &mut [TermScorerWithMaxScore<'_>],
+    combiner: C,
+    threshold: Score,
+    ticks: &mut Ticks,
+    callback: &mut F,
+) -> Turned
+    requires row { IsRow scorers.old heads.old }
+    requires fits { total_top (row_lists scorers.old heads.old) ≤ greatest_score }
+    requires room { ticks_of ticks.old + 1 < 2 ^ 128 }
+    requires callable { MayPrune (InRange F.step) F.pre threshold callback.old (united (C.combined combiner) (row_lists scorers.old heads.old)) }
+    ensures row { IsRow scorers.new heads.new }
+    ensures fits { total_top (row_lists scorers.new heads.new) ≡ total_top (row_lists scorers.old heads.old) }
+    ensures ticks { ticks_of ticks.new ≡ ticks_of ticks.old + cond result.ticked 1 0 }
+    ensures none { result.found ≡ false → NoPivot threshold (row_lists scorers.old heads.old) × (row_lists scorers.new heads.new ≡ row_lists scorers.old heads.old) × (result.threshold ≡ threshold) × (callback.new ≡ callback.old) × (result.ticked ≡ false) }
+    ensures turn { result.found ≡ true → (p : ℕ) × (ls : List Member) × IsPivot threshold (row_lists scorers.old heads.old) p × (postings (row_lists scorers.new heads.new) < postings (row_lists scorers.old heads.old)) × IsPermutation ls (row_lists scorers.new heads.new) × IsTurn (InRange F.step) (C.combined combiner) threshold callback.old (row_lists scorers.old heads.old) result.threshold callback.new ls result.ticked p }
+{
+    if is_alone(heads, threshold) {
+        let alone = heads[0].doc;
+        let scored = score_pivot(
+            heads, scorers, 1, alone, combiner, threshold, ticks, callback,
+        );
+        return Turned {
+            found: true,
+            ticked: true,
+            threshold: scored,
+        };
+    }
+    let p = find_pivot(heads, threshold);
+    if p >= TERMINATED {
+        return Turned {
+            found: false,
+            ticked: false,
+            threshold,
+        };
+    }
+    let n = front_len(heads, p);
+    let bounds = bounds_at(heads, scorers, n, p);
+    if !is_above(bounds, threshold) {
+        skip_one(heads, scorers, n);
+        return Turned {
+            found: true,
+            ticked: false,
+            threshold,
+        };
+    }
+    if !align(heads, scorers, n, p) {
+        return Turned {
+            found: true,
+            ticked: false,
+            threshold,
+        };
+    }
+    let after = score_pivot(heads, scorers, n, p, combiner, threshold, ticks, callback);
+    Turned {
+        found: true,
+        ticked: true,
+        threshold: after,
+    }
+}
+
+// Scores the pivot, on which the first scorers stand, and moves them past it. Answers the threshold after
+// it.
+fn score_pivot<C: BoundedBySum, F: FnMut(DocId, Score) -> Score>(
+    heads: &mut [Head],
+    scorers: &mut [TermScorerWithMaxScore<'_>],
+    n: usize,
+    p: DocId,
+    combiner: C,
+    threshold: Score,
+    ticks: &mut Ticks,
+    callback: &mut F,
+) -> Score
+    requires row { IsRow scorers.old heads.old }
+    requires level { IsLevel n p heads.old }
+    requires below { p < TERMINATED }
+    requires fits { total_top (row_lists scorers.old heads.old) ≤ greatest_score }
+    requires room { ticks_of ticks.old + 1 < 2 ^ 128 }
+    requires callable { threshold <ℤ pos (C.combined combiner (front_scores p (row_lists scorers.old heads.old))) → F.pre callback.old p (pos (C.combined combiner (front_scores p (row_lists scorers.old heads.old)))) }
+    ensures row { IsRow scorers.new heads.new }
+    ensures lists { IsPermutation (map (past p) (row_lists scorers.old heads.old)) (row_lists scorers.new heads.new) }
+    ensures tick { ticks_of ticks.new ≡ ticks_of ticks.old + 1 }
+    ensures turn { Turn (InRange F.step) threshold callback.old p (pos (C.combined combiner (front_scores p (row_lists scorers.old heads.old)))) result callback.new }
+{
+    let score = score_level(heads, scorers, n, p, combiner, ticks);
+    let after = call_at(threshold, p, score, callback);
+    pass(heads, scorers, n);
+    after
+}
+
+// The score of the document on which the first scorers stand.
+fn score_level<C: BoundedBySum>(
+    heads: &mut [Head],
+    scorers: &mut [TermScorerWithMaxScore<'_>],
+    n: usize,
+    p: DocId,
+    combiner: C,
+    ticks: &mut Ticks,
+) -> Score
+    requires row { IsRow scorers.old heads.old }
+    requires level { IsLevel n p heads.old }
+    requires below { p < TERMINATED }
+    requires fits { total_top (row_lists scorers.old heads.old) ≤ greatest_score }
+    requires room { ticks_of ticks.old + 1 < 2 ^ 128 }
+    ensures row { IsRow scorers.new heads.new }
+    ensures lists { IsPermutation (row_lists scorers.old heads.old) (row_lists scorers.new heads.new) }
+    ensures level { IsLevel n p heads.new }
+    ensures score { result ≡ pos (C.combined combiner (front_scores p (row_lists scorers.old heads.old))) }
+    ensures tick { ticks_of ticks.new ≡ ticks_of ticks.old + 1 }
+{
+    let start = gather(heads, scorers, n);
+    score_from(scorers, start, n, combiner, ticks)
+}
+
+// What the combiner makes of the scores of so many scorers, from a place on.
+fn score_from<C: BoundedBySum>(
+    scorers: &mut [TermScorerWithMaxScore<'_>],
+    start: usize,
+    n: usize,
+    combiner: C,
+    ticks: &mut Ticks,
+) -> Score
+    requires valid { All IsRunScorer scorers.old }
+    requires within { start + n ≤ length scorers.old }
+    requires here { All (λ s. head (wand_member s) < TERMINATED) (take n (drop start scorers.old)) }
+    requires fits { sum_by (λ s. (wand_member s).top) (take n (drop start scorers.old)) ≤ greatest_score }
+    requires room { ticks_of ticks.old + 1 < 2 ^ 128 }
+    ensures score { result ≡ pos (C.combined combiner (map (λ s. first_score (wand_member s)) (take n (drop start scorers.old)))) }
+    ensures same { scorers.new ≡ scorers.old }
+    ensures tick { ticks_of ticks.new ≡ ticks_of ticks.old + 1 }
+{
+    let mut combiner = combiner;
+    score_front(&mut scorers[start..], n, &mut combiner, ticks)
+}

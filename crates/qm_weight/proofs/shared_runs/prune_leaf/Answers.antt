@@ -1,0 +1,25 @@
+-- A run looks at documents and scores alone, from the same threshold on.
+use Rattle.std.proofs.Common.{subst, w64}
+use Rattle.std.proofs.lemmas.Int.{to_z-of_z}
+use Rattle.qm_term.specs.Runs.{InRange}
+use Rattle.qm_weight.specs.LeafScorers.{IsLeafOf}
+use Rattle.qm_weight.proofs.RunSteps.{MayPrune-at, MayPrune-bare, Plain-at, Plain-bare}
+use Rattle.qm_weight.proofs.shared_runs.prune_leaf.Given as given
+use Rattle.qm_weight.proofs.shared_runs.prune_leaf.Goals as goal
+
+pub for_each_pruning_scorer-requires-clause-allowed :
+    goal.for_each_pruning_scorer-requires-clause-allowed
+for_each_pruning_scorer-requires-clause-allowed g c =
+    let own = subst (IsLeafOf g.L.DocSet (g.W.StandsFor.tree c.args.weight.now) 1 c.args.reader.now.segment) c.in-Some.is c.requires.leaf in
+    let same = to_z-of_z w64 c.args.threshold c.ranges.threshold in
+    MayPrune-at (InRange (given.F-step g)) (given.F-pre g) c.args.threshold _ c.args.callback.now _ same
+    (MayPrune-bare (InRange (given.F-step g)) (given.F-pre g) _ c.args.callback.now _ (c.requires.allowed _ own.list))
+
+pub returns-in-Some : goal.returns-in-Some
+returns-in-Some g c =
+    let own = subst (IsLeafOf g.L.DocSet (g.W.StandsFor.tree c.args.weight.now) 1 c.args.reader.now.segment) c.in-Some.is c.requires.leaf in
+    let run = c.for_each_pruning_scorer.ensures.calls in
+    let g' = c.for_each_pruning_scorer.new.callback in
+    let from = Plain-at (InRange (given.F-step g)) c.args.threshold _ c.args.callback.now _ run.0 run.1 g'
+    (to_z-of_z w64 c.args.threshold c.ranges.threshold) run.2 in
+    record { calls = (_, own.list, run.0, run.1, Plain-bare (InRange (given.F-step g)) c.args.threshold c.args.callback.now _ run.0 run.1 g' from) }
