@@ -26,7 +26,7 @@ PROGRAMS = {
     "cases_queries": ["qm_scorer", "qm_weight", "qm_query"],
 }
 # how many rows by chance each program plays
-ROWS = {"cases_cursors": 20_000, "cases_postings": 20_000, "cases_queries": 300_000}
+ROWS = {"cases_cursors": 20_000, "cases_postings": 50_000, "cases_queries": 300_000}
 # A program that takes longer than this many seconds is taken never to end.
 LIMIT = 600
 

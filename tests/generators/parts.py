@@ -2,7 +2,7 @@
 
 import itertools
 
-from generators import cursors, postings, queries, sets, tables, trees
+from generators import cursors, postings, queries, runs, sets, tables, trees
 
 GENERATORS = {
     "runs of Booleans": tables.runs_of_booleans,
@@ -21,6 +21,7 @@ GENERATORS = {
     "small phrases": postings.small_phrases,
     "blocks of small lists": postings.blocks_of_small_lists,
     "postings": postings.by_chance,
+    "runs": runs.by_chance,
 }
 
 # sorts of leaves: those of lists and terms are sent to every document, phrases to some
@@ -49,5 +50,5 @@ TABLES = {
 BY_CHANCE = {
     "cases_queries": ["queries", "trees"],
     "cases_cursors": ["cursors", "cursors", "cursors", "sets"],
-    "cases_postings": ["postings"],
+    "cases_postings": ["postings", "runs"],
 }

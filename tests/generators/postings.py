@@ -4,12 +4,11 @@ segment."""
 import itertools
 
 from generators import calls, chance, spelled
+from generators.runs import single_runs
 from generators.scorers import Left
 from generators.spelled import row
 from model import (
     END,
-    GREATEST,
-    LEAST,
     MOST_STARTS,
     Phrase,
     Prefix,
@@ -17,10 +16,8 @@ from model import (
     block_bound,
     blocks,
     looked_at,
-    most_ticks,
     phrase_count,
     prefix_count,
-    pruned,
     scored,
     starts,
 )
@@ -268,20 +265,6 @@ def told_of_postings(block):
     return [("block_least_fieldnorm_id", block.least_id), ("block_max_term_freq", block.most)]
 
 
-def single_runs(random, pairs, listed, points, norms):
-    """Runs over a term's scorer: their calls, and how many documents they score at most in how many turns."""
-    bounds = {doc: block_bound(points, norms, looked_at(0, doc, listed)) for doc, _ in pairs}
-    near = [points for _, points in pairs] + list(bounds.values()) or [0]
-    for _ in range(3):
-        threshold = random.choice([LEAST, -1, random.choice(near), random.choice(near) - 1, GREATEST])
-        answers = random.choice([["score"], ["score"], [LEAST], random.choices(near, k=random.randint(1, 5))])
-        said = "" if answers == ["score"] else f" answers {' '.join(calls.SPELLED_ANSWERS.get(it, str(it)) for it in answers)}"
-        run = f"{calls.SPELLED_ANSWERS.get(threshold, threshold)}{said}"
-        yield row(f"single {run}", spelled.pairs(pruned(pairs, threshold, answers)))
-        ticks = most_ticks(pairs, bounds, threshold, answers)
-        yield row(f"bounded {ticks} {ticks + len(listed)} {run}", "true")
-
-
 # lists of no document, one, a block, one more, and several, each with lengths and frequencies that differ
 SMALL_LISTS = [[], [0], [2, 3], [0, 1, 2], [1, 2, 5, 6, 7], [0, 2, 3, 4, 7, 8, 9], list(range(13))]
 CALLS_AFTER_A_LOOK = ("doc", "advance", "seek", "seek_danger", "fill", "total", "freq")
@@ -399,13 +382,6 @@ def of_words(random, segment):
     yield from Counted(random, {doc: (count[doc], found[doc]) for doc in found}, segment.deleted).rows(12)
 
 
-def given(segment, words, blocks, field):
-    """The block that makes a segment: a row that adds a document is answered its number."""
-    numbers = itertools.count()
-    for line in spelled.given([segment], [words], blocks, one_field=field):
-        yield f"{line} = {next(numbers)}" if line.startswith("  doc") else line
-
-
 def by_chance(random):
     """Phrases and unions on their own, and the postings of a segment."""
     for generate in (phrase, prefix, phrase, prefix, union):
@@ -418,7 +394,7 @@ def by_segment(random):
     field = random.choice(chance.FIELDS)
     segment, words = chance.segment(random, chance.size(random), field)
     length = random.choice(chance.BLOCKS)
-    yield from given(segment, words, length, field)
+    yield from spelled.one_segment(segment, words, length, field)
     for term in random.sample(segment.terms, min(5, len(segment.terms))):
         yield from of_term(random, segment, field, term)
         yield from of_blocks(random, segment, field, term, length)

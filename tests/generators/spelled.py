@@ -1,5 +1,7 @@
 """Trees, queries and segments as the words of a case."""
 
+import itertools
+
 from model import END, All, Boolean, Boost, Constant, DisjunctionMax, Phrase, Prefix, Term
 
 
@@ -131,3 +133,10 @@ def given(segments, texts, blocks, weights=(), default=None, one_field=None):
             yield f"  doc {text}".rstrip()
         for doc in sorted(segment.deleted):
             yield f"  delete {doc}"
+
+
+def one_segment(segment, words, blocks, own_field):
+    """The block that makes one segment: a row that adds a document is answered its number."""
+    numbers = itertools.count()
+    for line in given([segment], [words], blocks, one_field=own_field):
+        yield f"{line} = {next(numbers)}" if line.startswith("  doc") else line

@@ -11,6 +11,7 @@ use crate::provider::OwnProvider;
 use crate::schema_rows::{ErrorRows, OptionRows, SchemaRows, read_error};
 use crate::searcher_rows::{SearcherRows, make_searcher};
 use crate::segment_rows::SegmentRows;
+use crate::several::SeveralRows;
 use crate::spelled::{read_number, read_option, read_weight};
 use crate::term_rows::{AddressRows, PrefixEndRows, TermRows, make_term, read_address};
 use crate::weight_rows::{WeightRows, make_weight};
@@ -77,6 +78,10 @@ fn play_made(
         "fields" => play_on(alloc, SchemaMaker::new(alloc), block, report),
         "schema" => play_schema(alloc, bench, block, report),
         "segment" => play_on(alloc, SegmentRows { bench }, block, report),
+        "several" => {
+            let rows = SeveralRows::read(alloc, &bench.segment, words)?;
+            play_on(alloc, rows, block, report)
+        }
         "builder" => {
             let block_len = read_number(word(words, 0))?;
             let maker = Maker::new(alloc, &bench.schema, block_len, block.memory)?;

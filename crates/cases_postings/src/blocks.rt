@@ -14,8 +14,8 @@ use qm_postings::SegmentPostings;
 use qm_term::{TermScorer, WandCount, block_wand_single_scorer};
 use std::alloc::Global;
 
-// The target of `seek_block T`.
-fn target_of(target: &str) -> Result<DocId, Fault>
+/// The target of `seek_block T`.
+pub fn target_of(target: &str) -> Result<DocId, Fault>
     ensures { IfOk result (λ target. target ≤ TERMINATED) }
 {
     match read_document(target) {

@@ -23,6 +23,7 @@ mod schema_rows;
 mod searcher_rows;
 mod segment_phrases;
 mod segment_rows;
+mod several;
 mod spelled;
 mod term_rows;
 mod unions;

@@ -1,5 +1,5 @@
 -- The blocks of a term's postings, as a cursor shows them.
-use Rattle.std.specs.Prelude.{ℕ, ◌≤◌, nat_le, nat_lt, List, All, [], ◌∷◌, length, map, max, cond}
+use Rattle.std.specs.Prelude.{ℕ, ◌<◌, ◌≤◌, nat_le, nat_lt, List, All, [], ◌∷◌, length, map, max, cond, slice_index_or}
 use Rattle.std.specs.List.{range_with_len}
 use Rattle.qm_docset.specs.declared.numbers.TheConstants.{TERMINATED}
 use Rattle.qm_docset.specs.Entry.{Entry}
@@ -45,7 +45,16 @@ term_block segment option term b = record {
 
 -- the blocks of a term's postings in a segment, in order
 unfoldable pub term_blocks : Segment → IndexRecordOption → TermKey → List Block
-term_blocks segment option term = map (term_block segment option term) (range_with_len 0 (block_count segment.block_len (length (holders segment term))))
+term_blocks segment option term =
+    map (term_block segment option term) (range_with_len 0 (block_count segment.block_len (length (holders segment term))))
+
+-- from a number on and before another, all blocks end below a target
+abbrev pub EndBelow : ℕ → ℕ → ℕ → List Block → Type 0
+EndBelow target first past blocks = (b : ℕ) (d : Block) → first ≤ b → b < past → (slice_index_or blocks b d).last < target
+
+-- none of these has, by these length ids, one below the least of its block
+abbrev pub AreAboveLeast : List ℕ → List Block → List Entry → Type 0
+AreAboveLeast ids blocks es = All (λ e. (block_at e.document blocks).least_id ≤ slice_index_or ids e.document 1) es
 
 -- no document has a length id below the least of its block
 abbrev pub HaveLeastIds : Segment → ℕ → List Block → List Entry → Type 0

@@ -16,6 +16,10 @@ stored reading a = stored_entries reading a.documents.now a.frequencies.now a.po
 abbrev pub array_limits : TermArrays → Limits
 array_limits a = record { top = 0; room = a.max_term_freq }
 
+-- what it keeps of its blocks is that of its documents and frequencies by these length ids
+abbrev pub KeepsBlocksBy : TermArrays → List ℕ → Type 0
+KeepsBlocksBy a ids = a.blocks.now ≡ all_infos a.block_len ids a.documents.now a.frequencies.now
+
 -- The arrays of a term's postings: documents ascend, each has a frequency, the blocks are theirs, by some
 -- length ids, and where positions are read each posting has as many as its frequency says; those ascend,
 -- and are no more than the greatest frequency.
@@ -24,7 +28,7 @@ pub record AreArrays (reading : FreqReadingOption) (a : TermArrays) : Type 0 whe
   pub frequencies : length a.frequencies.now ≡ length a.documents.now
   pub block_len : 0 < a.block_len
   pub ids : List ℕ
-  pub blocks : a.blocks.now ≡ all_infos a.block_len ids a.documents.now a.frequencies.now
+  pub blocks : KeepsBlocksBy a ids
   pub room : All (λ e. length e.positions ≤ a.max_term_freq) (stored reading a)
   pub positions : All (λ e. ArePositions e.positions) (stored reading a)
   pub enough : 0 < length a.positions.now → sum a.frequencies.now ≤ length a.positions.now

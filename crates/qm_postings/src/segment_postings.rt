@@ -1,17 +1,18 @@
 //! A cursor over the postings of a term.
 
-ghost use Rattle.std.specs.Prelude.{ℕ, ◌≡◌, ◌+◌, ◌*◌, ◌/◌, ◌≤◌, ◌<◌, ◌++◌, All, IfSome, List, [], drop, length, map, min, slice_index, slice_index_or, take, vec_capacity, vec_len};
+ghost use Rattle.std.specs.Prelude.{ℕ, ◌≡◌, ◌+◌, ◌*◌, ◌/◌, ◌≤◌, ◌<◌, ◌++◌, IfSome, List, [], drop, length, map, min, take};
+ghost use Rattle.std.specs.Prelude.{All, slice_index, slice_index_or, vec_capacity, vec_len};
 ghost use Rattle.std.specs.Option.{option_map_or};
 ghost use Rattle.qm_docset.specs.Cursor.{IsSeekAnswer, OnFound};
 ghost use Rattle.qm_docset.specs.Entry.{documents, from, head_document, head_frequency, head_positions};
 ghost use Rattle.qm_docset.specs.Lists.{Lists};
-ghost use Rattle.qm_postings.specs.Blocks.{Block, block_at, block_read, looked_at, no_block};
-ghost use Rattle.qm_postings.specs.Kept.{all_infos};
+ghost use Rattle.qm_postings.specs.Blocks.{AreAboveLeast, Block, EndBelow, block_at, block_read, looked_at, no_block};
 ghost use Rattle.qm_postings.specs.Positions.{HasAdded, shifted};
 ghost use Rattle.qm_postings.specs.SegmentPostingsFacts.{AreEntries-postings, ArePositions-postings};
-ghost use Rattle.qm_postings.specs.SegmentPostings.{IsPostings, LooksHere, ReadsAs, looked_block, looked_number, postings_blocks, postings_left, postings_limits, reads};
+ghost use Rattle.qm_postings.specs.SegmentPostings.{IsPostings, LooksHere, ReadsAs, looked_block, looked_number};
+ghost use Rattle.qm_postings.specs.SegmentPostings.{postings_blocks, postings_left, postings_limits, reads};
 ghost use Rattle.qm_postings.specs.Stored.{frequency_read};
-ghost use Rattle.qm_postings.specs.TermArrays.{AreArrays, array_limits, stored};
+ghost use Rattle.qm_postings.specs.TermArrays.{AreArrays, KeepsBlocksBy, array_limits, stored};
 
 use crate::freq_reading_option::FreqReadingOption;
 use crate::postings::Postings;
@@ -47,7 +48,7 @@ impl<'a> SegmentPostings<'a> {
         ensures reading { reads result ≡ reading }
         ensures blocks { postings_blocks result ≡ map (block_read reading) arrays.entry.blocks.now }
         ensures looked { LooksHere result }
-        ensures ids { (ids : List ℕ) → arrays.entry.blocks.now ≡ all_infos arrays.entry.block_len ids arrays.entry.documents.now arrays.entry.frequencies.now → All (λ e. (block_at e.document (postings_blocks result)).least_id ≤ slice_index_or ids e.document 1) (postings_left result) }
+        ensures ids { (ids : List ℕ) → KeepsBlocksBy arrays.entry ids → AreAboveLeast ids (postings_blocks result) (postings_left result) }
     {
         SegmentPostings {
             arrays,
@@ -173,7 +174,7 @@ impl<'a> SegmentPostings<'a> {
         requires target { target ≤ TERMINATED }
         ensures within { result < length self.now.arrays.blocks.now }
         ensures from { self.now.cursor / self.now.arrays.block_len ≤ result }
-        ensures passed { (b : ℕ) (d : Block) → self.now.cursor / self.now.arrays.block_len ≤ b → b < result → (slice_index_or (postings_blocks self.now) b d).last < target }
+        ensures passed { EndBelow target (self.now.cursor / self.now.arrays.block_len) result (postings_blocks self.now) }
         ensures reached { (d : Block) → target ≤ (slice_index_or (postings_blocks self.now) result d).last }
     {
         let blocks = self.arrays.blocks;
@@ -209,7 +210,7 @@ impl<'a> SegmentPostings<'a> {
         requires here { self.now.cursor < length self.now.arrays.documents.now }
         ensures within { result < length self.now.arrays.blocks.now }
         ensures from { self.now.cursor / self.now.arrays.block_len ≤ result }
-        ensures passed { (b : ℕ) (d : Block) → self.now.cursor / self.now.arrays.block_len ≤ b → b < result → (slice_index_or (postings_blocks self.now) b d).last < target }
+        ensures passed { EndBelow target (self.now.cursor / self.now.arrays.block_len) result (postings_blocks self.now) }
     {
         let here = self.block_here();
         if self.look_from != self.cursor || self.look <= here {

@@ -13,7 +13,7 @@ use Rattle.qm_term.specs.Bm25Weight.{weighing}
 use Rattle.qm_term.specs.Members.{Block, blocks_from, blocks_left, end_at}
 use Rattle.qm_term.specs.Pivot.{head}
 use Rattle.qm_term.specs.TermBlocks.{member_of}
-use Rattle.qm_term.specs.TermScorer.{scored_block, scored_blocks}
+use Rattle.qm_term.specs.TermScorer.{scored_by, scored_blocks}
 use Rattle.qm_term.proofs.WandMembers.{head-hits}
 use Rattle.qm_term.specs.TermScorer.{IsTermScorer, scored_left}
 use Rattle.qm_term.specs.TermScorerFacts.{scored-document}
@@ -104,7 +104,7 @@ some_left s h here d below =
       | inl l ↦ l
       | inr past ↦ absurd (omega (arith, head_end p h.postings past, scored-document s, here))
     ] in
-    let f = scored_block (weighing s.similarity_weight) (is_made_constant s.fieldnorm_reader) (norm_ids s.fieldnorm_reader) in
+    let f = scored_by s.similarity_weight s.fieldnorm_reader in
     let used : 0 < length a.blocks.now = omega (arith, infos_count p.reading a h.postings.arrays, block_of_place p.cursor (length a.documents.now) a.block_len h.postings.arrays.block_len inside) in
     let b = length a.blocks.now - 1 in
     let long : length (postings_blocks p) ≡ length a.blocks.now = blocks_count p.reading a h.postings.arrays ∙ sym (infos_count p.reading a h.postings.arrays) in

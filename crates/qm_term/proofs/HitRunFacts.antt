@@ -40,7 +40,7 @@ module _ {F : Type 0} (call : F → ℕ → ℤ → ℤ → F → Type 0) where
     unfolding member_of
     PrunesTerm-pruned th last f g k p =
         let r = one_list call th last f g (member_of s) k (IsMember-scorer s h) p in
-        (r.0, last, Plain-hits th last f g (scored_left s) r.0 r.1, r.2, r.3)
+        record { thresholds = r.0; last = last; calls = Plain-hits th last f g (scored_left s) r.0 r.1; at_least = r.2; at_most = r.3 }
 
     pub MayPrune-term : (allowed : F → ℕ → ℤ → Type 0) (th : ℤ) (f : F) → MayRunOver call allowed th f (scored_left s) → MayPrune call allowed th f (united added (member_of s ∷ []))
     MayPrune-term allowed th f p =
@@ -68,13 +68,13 @@ module _ {F : Type 0} (call : F → ℕ → ℤ → ℤ → F → Type 0) (combi
 
   -- a run over their lists is one over what they have left together
   pub PrunesTerms-pruned : (th last : ℤ) (f g : F) (k : ℕ) → Pruned call combined th f (map member_of ss) k last g → PrunesTerms call combined th f ss k g
-  PrunesTerms-pruned th last f g k p = (
-    p.0,
-    last,
-    subst (λ (es : List Entry). RunsOver call th f es p.0 last g) (united_scorers combined within ss h) p.1,
-    omega (arith, p.2, ap (calls_of p.0) gathered_hits),
-    omega (arith, p.3, ap (count_above (bound_of (map member_of ss)) p.0) gathered_hits),
-  )
+  PrunesTerms-pruned th last f g k p = record {
+    thresholds = p.0;
+    last = last;
+    calls = subst (λ (es : List Entry). RunsOver call th f es p.0 last g) (united_scorers combined within ss h) p.1;
+    at_least = omega (arith, p.2, ap (calls_of p.0) gathered_hits);
+    at_most = omega (arith, p.3, ap (count_above (bound_of (map member_of ss)) p.0) gathered_hits);
+  }
 
   pub MayPrune-terms : (allowed : F → ℕ → ℤ → Type 0) (th : ℤ) (f : F) → MayRunOver call allowed th f (terms_left combined ss) → MayPrune call allowed th f (united combined (map member_of ss))
   MayPrune-terms allowed th f p = subst (λ (es : List Entry). MayRunOver call allowed th f es) (sym (united_scorers combined within ss h)) p

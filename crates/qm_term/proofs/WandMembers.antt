@@ -23,7 +23,7 @@ use Rattle.qm_term.specs.Bm25Weight.{weighing}
 use Rattle.qm_term.specs.Members.{AreBounded, Block, Hit, IsMember, bound_at, end_at, hit_document, hit_score, hits_from}
 use Rattle.qm_term.specs.Pivot.{cut, head, looked_at, next, no_block, block_at as member_block_at}
 use Rattle.qm_term.specs.TermBlocks.{hits, member_of, scored_looked, scored_looked_at}
-use Rattle.qm_term.specs.TermScorer.{scored_block, scored_blocks}
+use Rattle.qm_term.specs.TermScorer.{scored_block, scored_by, scored_blocks}
 use Rattle.qm_term.specs.TermScorer.{IsTermScorer, scored_left, scored_limits}
 use Rattle.qm_term.specs.TermScorerFacts.{AreEntries-scored, scored-document}
 use Rattle.qm_term.specs.declared.term_scorer.TermScorer.{TermScorer}
@@ -165,7 +165,7 @@ pub looks-member : (t : ℕ) (s : TermScorer) → scored_looked_at t s ≡ looke
 unfolding member_of scored_blocks
 looks-member t s =
     scored_looks (weighing s.similarity_weight) (is_made_constant s.fieldnorm_reader) (norm_ids s.fieldnorm_reader) t (head_document (postings_left s.postings)) (postings_blocks s.postings)
-    ∙ ap (λ d. cond (nat_lt d TERMINATED) (member_block_at (max t d) (map (scored_block (weighing s.similarity_weight) (is_made_constant s.fieldnorm_reader) (norm_ids s.fieldnorm_reader)) (postings_blocks s.postings))) no_block) (sym (head-hits (scored_left s) ∙ scored-document s))
+    ∙ ap (λ d. cond (nat_lt d TERMINATED) (member_block_at (max t d) (map (scored_by s.similarity_weight s.fieldnorm_reader) (postings_blocks s.postings))) no_block) (sym (head-hits (scored_left s) ∙ scored-document s))
 
 module _ (s n : TermScorer) (blocks : scored_blocks n ≡ scored_blocks s) (limits : scored_limits n ≡ scored_limits s) where
   same : (es : List Entry) → scored_left n ≡ es → member_of n ≡ record { entries = hits es; blocks = scored_blocks s; top = (scored_limits s).top }
@@ -195,7 +195,7 @@ looked_end s h end = elim (cases_lt s.cursor (length s.arrays.documents.now)) [ 
 pub bound_end : (s : TermScorer) → IsTermScorer s → head_document (postings_left s.postings) ≡ TERMINATED → (scored_looked s).bound ≡ 0
 unfolding scored_looked
 bound_end s h end =
-    ap (λ b. (scored_block (weighing s.similarity_weight) (is_made_constant s.fieldnorm_reader) (norm_ids s.fieldnorm_reader) b).bound) (looked_end s.postings h.postings end)
+    ap (λ b. (scored_by s.similarity_weight s.fieldnorm_reader b).bound) (looked_end s.postings h.postings end)
     ∙ no_frequency (weighing s.similarity_weight) (cond (is_made_constant s.fieldnorm_reader) (get_or (norm_ids s.fieldnorm_reader) 0 0) 0)
 
 pub top_small : (s : TermScorer) → (scored_limits s).top ≤ 9223372036854775807

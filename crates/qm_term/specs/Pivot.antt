@@ -1,5 +1,7 @@
 -- The pivot at a threshold, its blocks, and how far they reach. All of it is about lists.
-use Rattle.std.specs.Prelude.{ℕ, ℤ, ◌<◌, ◌≤◌, ◌<ℤ◌, ◌≤ℤ◌, ◌≡◌, ◌==◌, ◌&&◌, List, [], ◌∷◌, ◌++◌, nat_le, nat_lt, cond, Bool, true, false, zero, suc, pos, min, max, length, drop, map, ◌⊎◌}
+use Rattle.std.specs.Prelude.{ℕ, ℤ, ◌<◌, ◌≤◌, ◌<ℤ◌, ◌≤ℤ◌, ◌≡◌, ◌==◌, ◌&&◌, List, [], ◌∷◌, ◌++◌, nat_le, nat_lt, cond}
+use Rattle.std.specs.Prelude.{Bool, true, false, zero, suc, pos, min, max, length, drop, map, ◌⊎◌}
+use Rattle.std.specs.List.Sorted.{IsPermutation}
 use Rattle.qm_docset.specs.declared.numbers.TheConstants.{TERMINATED}
 use Rattle.qm_term.specs.Members.{Hit, Block, Member, hit_document, hit_score, hits_from, end_at, bound_at, has, total, all_of, scores_of, united}
 use Rattle.qm_term.specs.Runs.{Turn}
@@ -115,7 +117,8 @@ mapped f zero ms = ms
 mapped f (suc n) [] = []
 mapped f (suc n) (m ∷ ms) = f m ∷ mapped f n ms
 
--- the two lists of lists have the same documents, scores and bounds from t on, and nothing before t is above the threshold in either
+-- the two lists of lists have the same documents, scores and bounds from t on, and nothing before t is above
+-- the threshold in either
 pub record Passes (th : ℤ) (t : ℕ) (ms ns : List Member) : Type 0 where
   pub same : hits_from t (all_of ns) ≡ hits_from t (all_of ms)
   pub scores : (d : ℕ) → t ≤ d → scores_of d ns ≡ scores_of d ms
@@ -138,8 +141,17 @@ CutOne p t [] ns = ⊥
 CutOne p t (m ∷ ms) [] = ⊥
 CutOne p t (m ∷ ms) (n ∷ ns) = ((n ≡ cut t m) × (head m ≤ p) × (ns ≡ ms)) ⊎ ((n ≡ m) × CutOne p t ms ns)
 
+-- one list is cut as far as the pivot's blocks reach, and then they are put in order
+abbrev pub SkipsOne : ℕ → List Member → List Member → Type 0
+SkipsOne p ms ns = (xs : List Member) × CutOne p (skip p ms) ms xs × IsPermutation xs ns
+
+-- some lists before the pivot are cut to it, none of which has it then, and all are put in order
+abbrev pub AlignsSome : ℕ → List Member → List Member → Type 0
+AlignsSome p ms ns = (xs : List Member) × AreCut p ms xs × (postings xs < postings ms) × IsPermutation xs ns
+
 -- what a turn at the pivot p does to the lists, the threshold and the callback, and whether it ticks
-module _ {F : Type 0} (call : F → ℕ → ℤ → ℤ → F → Type 0) (combined : List ℕ → ℕ) (th : ℤ) (f : F) (ms : List Member) (th' : ℤ) (g : F) (ns : List Member) (ticked : Bool) (p : ℕ) where
+module _ {F : Type 0} (call : F → ℕ → ℤ → ℤ → F → Type 0) (combined : List ℕ → ℕ)
+    (th : ℤ) (f : F) (ms : List Member) (th' : ℤ) (g : F) (ns : List Member) (ticked : Bool) (p : ℕ) where
   abbrev pub Quiet : Type 0
   Quiet = (th' ≡ th) × (g ≡ f) × (ticked ≡ false)
 
@@ -169,16 +181,37 @@ module _ {F : Type 0} (call : F → ℕ → ℤ → ℤ → F → Type 0) (combi
   abbrev pub IsTurn : Type 0
   IsTurn = Skips ⊎ (Aligns ⊎ Ticks)
 
+-- a turn that finds no pivot leaves the lists, the threshold and the callback as they were
+pub record LeavesAll {F : Type 0} (th : ℤ) (f : F) (ms : List Member) (th' : ℤ) (g : F) (ns : List Member) : Type 0 where
+  pub none : NoPivot th ms
+  pub lists : ns ≡ ms
+  pub threshold : th' ≡ th
+  pub callback : g ≡ f
+
+-- a turn at a pivot: what it makes of the lists, which are then put in order, has fewer postings
+pub record TakesTurn {F : Type 0} (call : F → ℕ → ℤ → ℤ → F → Type 0) (combined : List ℕ → ℕ)
+    (th : ℤ) (f : F) (ms : List Member) (th' : ℤ) (g : F) (ns : List Member) (ticked : Bool) : Type 0 where
+  pub pivot : ℕ
+  pub lists : List Member
+  pub found : IsPivot th ms pivot
+  pub fewer : postings ns < postings ms
+  pub order : IsPermutation lists ns
+  pub turn : IsTurn call combined th f ms th' g lists ticked pivot
+
 -- a number that is read of each document of U
 abbrev pub bound_of : List Member → Hit → ℕ
 bound_of ms e = blockbound e.document ms
 
 module _ {F : Type 0} (call : F → ℕ → ℤ → ℤ → F → Type 0) (combined : List ℕ → ℕ) where
-  -- a run over U from here on, with k ticks: at least its calls, and at most the documents whose blocks are above the threshold there
+  -- a run over U from here on, with k ticks: at least its calls, and at most the documents whose blocks are
+  -- above the threshold there
   abbrev pub Pruned : ℤ → F → List Member → ℕ → ℤ → F → Type 0
-  Pruned th f ms k last h = (ths : List ℤ) × Plain call th f (united combined ms) ths last h × (calls_of ths (united combined ms) ≤ k) × (k ≤ count_above (bound_of ms) ths (united combined ms))
+  Pruned th f ms k last h =
+      (ths : List ℤ) × Plain call th f (united combined ms) ths last h
+      × (calls_of ths (united combined ms) ≤ k) × (k ≤ count_above (bound_of ms) ths (united combined ms))
 
--- the block looked at with this target: hits_from the current document's block on, the first that ends at or past the target; none past the end
+-- the block looked at with this target: from the current document's block on, the first that ends at or past
+-- the target; none past the end
 abbrev pub block_at : ℕ → List Block → Block
 block_at d bs = record { last = end_at d bs; bound = bound_at d bs }
 
@@ -193,7 +226,8 @@ abbrev pub IsQuietTo : ℤ → ℕ → Member → Type 0
 IsQuietTo th end m = (d : ℕ) → head m ≤ d → d ≤ end → pos (bound_at d m.blocks) ≤ℤ th
 
 -- a turn of the run over one list: its block is passed, or its first document is scored
-module _ {F : Type 0} (call : F → ℕ → ℤ → ℤ → F → Type 0) (combined : List ℕ → ℕ) (th : ℤ) (f : F) (m : Member) (th' : ℤ) (g : F) (n : Member) (ticked : Bool) where
+module _ {F : Type 0} (call : F → ℕ → ℤ → ℤ → F → Type 0) (combined : List ℕ → ℕ)
+    (th : ℤ) (f : F) (m : Member) (th' : ℤ) (g : F) (n : Member) (ticked : Bool) where
   pub record PassesBlock : Type 0 where
     pub quiet : (th' ≡ th) × (g ≡ f) × (ticked ≡ false)
     pub target : ℕ

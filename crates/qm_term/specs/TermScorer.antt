@@ -13,6 +13,7 @@ use Rattle.qm_postings.specs.declared.segment_postings.SegmentPostings.{SegmentP
 use Rattle.qm_term.specs.Bm25.{Weighing, bm25, bm25_bound}
 use Rattle.qm_term.specs.Bm25Weight.{weighing}
 use Rattle.qm_term.specs.Members.{Block}
+use Rattle.qm_term.specs.declared.bm25.Bm25Weight.{Bm25Weight}
 use Rattle.qm_term.specs.declared.term_scorer.TermScorer.{TermScorer}
 
 -- postings, each with the score that its frequency has at its document's length id
@@ -48,9 +49,17 @@ scored_reads s = reads s.postings
 abbrev pub scored_block : Weighing → Bool → List ℕ → PostingsBlock → Block
 scored_block weighing constant ids b = record { last = b.last; bound = bm25 weighing (cond constant (slice_index_or ids 0 0) b.least_id) b.most }
 
+-- the length id that bounds those of a block: the one id of all documents, or the block's least
+abbrev pub least_id : FieldNormReader → PostingsBlock → ℕ
+least_id reader b = cond (is_made_constant reader) (slice_index_or (norm_ids reader) 0 0) b.least_id
+
+-- the same by what a scorer is made of
+abbrev pub scored_by : Bm25Weight → FieldNormReader → PostingsBlock → Block
+scored_by weight reader = scored_block (weighing weight) (is_made_constant reader) (norm_ids reader)
+
 -- all blocks of the scorer's term, in order
 unfoldable pub scored_blocks : TermScorer → List Block
-scored_blocks s = map (scored_block (weighing s.similarity_weight) (is_made_constant s.fieldnorm_reader) (norm_ids s.fieldnorm_reader)) (postings_blocks s.postings)
+scored_blocks s = map (scored_by s.similarity_weight s.fieldnorm_reader) (postings_blocks s.postings)
 
 -- a scorer has the length ids of another, reads frequencies as it does, and bounds the same blocks alike
 pub record ScoresAs (s t : TermScorer) : Type 0 where

@@ -1,6 +1,7 @@
 //! The scorer over the postings of a term.
 
-ghost use Rattle.std.specs.Prelude.{◌≡◌, ◌<◌, ◌≤◌, ◌↔◌, [], drop, if◌then◌else◌, length, map, min, pos, take, slice_get, slice_index_or, IfOk, IfSome, IsOkUnless, IsSome, Some};
+ghost use Rattle.std.specs.Prelude.{◌≡◌, ◌<◌, ◌≤◌, ◌↔◌, [], drop, length, map, min, pos, take, slice_get, slice_index_or};
+ghost use Rattle.std.specs.Prelude.{IfOk, IfSome, IsOkUnless, IsSome, Some};
 ghost use Rattle.qm_docset.specs.Entry.{documents, from, head_document, head_frequency, head_score};
 ghost use Rattle.qm_postings.specs.FieldIndex.{reading};
 ghost use Rattle.qm_postings.specs.FieldNorms.{is_made_constant, norm_ids};
@@ -35,7 +36,8 @@ impl<'a> TermScorer<'a> {
     ghost use Rattle.qm_term.specs.Bm25Weight.{weighing};
     ghost use Rattle.qm_term.specs.Explained.{value_of};
     ghost use Rattle.qm_term.specs.TermEntries.{ListsTerm};
-    ghost use Rattle.qm_term.specs.TermScorer.{AreCovered, IsBoundedBy, IsTermScorer, ListsScored, ScoresAs, scored_block, scored_blocks, scored_ids, scored_left, scored_limits, scored_reads};
+    ghost use Rattle.qm_term.specs.TermScorer.{AreCovered, IsBoundedBy, IsTermScorer, ListsScored, ScoresAs};
+    ghost use Rattle.qm_term.specs.TermScorer.{least_id, scored_by, scored_blocks, scored_ids, scored_left, scored_limits, scored_reads};
 
     /// A scorer over what postings have left. It scores each document by its frequency there, and by
     /// the length id that the reader gives it. Asks that the reader has a length id for each of
@@ -51,8 +53,8 @@ impl<'a> TermScorer<'a> {
         ensures lists { ListsScored ⟦<TermScorer<'a> as DocSet>⟧ (weighing similarity_weight) (norm_ids fieldnorm_reader.entry) postings.entry result }
         ensures ids { scored_ids result ≡ norm_ids fieldnorm_reader.entry }
         ensures reads { scored_reads result ≡ reads postings.entry }
-        ensures blocks { scored_blocks result ≡ map (scored_block (weighing similarity_weight) (is_made_constant fieldnorm_reader.entry) (norm_ids fieldnorm_reader.entry)) (postings_blocks postings.entry) }
-        ensures looked { scored_looked result ≡ scored_block (weighing similarity_weight) (is_made_constant fieldnorm_reader.entry) (norm_ids fieldnorm_reader.entry) (looked_block postings.entry) }
+        ensures blocks { scored_blocks result ≡ map (scored_by similarity_weight fieldnorm_reader.entry) (postings_blocks postings.entry) }
+        ensures looked { scored_looked result ≡ scored_by similarity_weight fieldnorm_reader.entry (looked_block postings.entry) }
     {
         TermScorer {
             postings,
@@ -184,7 +186,7 @@ impl<'a> TermScorer<'a> {
     fn block_id(&self) -> u8
         requires valid { IsTermScorer self.now }
         requires here { head_document (scored_left self.now) < TERMINATED }
-        ensures { result ≡ (if is_made_constant self.now.fieldnorm_reader then slice_index_or (norm_ids self.now.fieldnorm_reader) 0 0 else (looked_block self.now.postings).least_id) }
+        ensures { result ≡ least_id self.now.fieldnorm_reader (looked_block self.now.postings) }
     {
         if self.fieldnorm_reader.is_constant() {
             self.fieldnorm_id()

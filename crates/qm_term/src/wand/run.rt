@@ -1,19 +1,21 @@
 //! The run over several terms, turn by turn.
 
-ghost use Rattle.std.specs.Prelude.{◌≡◌, ℕ, ℤ, ◌+◌, ◌<◌, ◌≤◌, ◌<ℤ◌, ◌≤ℤ◌, ◌^◌, ◌↔◌, All, Bool, IfErr, IfOk, IsErrOf, List, OnErr, cond, drop, length, map, pos, slice_index_or, sum_by, take, true, false};
+ghost use Rattle.std.specs.Prelude.{◌≡◌, ◌+◌, ◌<◌, ◌≤◌, ◌^◌, ◌↔◌, cond, true, false};
+ghost use Rattle.std.specs.Prelude.{All, IfErr, IfOk, IsErrOf, OnErr, drop, length, map, pos, sum_by, take};
 ghost use Rattle.std.specs.List.Sorted.{IsPermutation};
 ghost use Rattle.qm_combine.specs.Union.{IsBoundOrMemory};
 ghost use Rattle.qm_docset.specs.Entry.{greatest_score};
 ghost use Rattle.qm_term.specs.HeadRow.{IsRow, row_lists};
 ghost use Rattle.qm_term.specs.Heads.{IsLevel};
 ghost use Rattle.qm_term.specs.HitRuns.{MayPrune};
-ghost use Rattle.qm_term.specs.Members.{Member, united};
-ghost use Rattle.qm_term.specs.Pivot.{IsPivot, IsTurn, NoPivot, Pruned, front_scores, head, past, postings, total_top};
-ghost use Rattle.qm_term.specs.Runs.{InRange, MayPrune as MayRunOver, Turn};
+ghost use Rattle.qm_term.specs.Members.{united};
+ghost use Rattle.qm_term.specs.Pivot.{LeavesAll, TakesTurn, front_scores, head, past, postings, total_top};
+ghost use Rattle.qm_term.specs.Runs.{InRange, MayPrune as MayRunOver, MayTurn, Turn};
 ghost use Rattle.qm_term.specs.RunScorers.{IsRunScorer, first_score, ticks_of, wand_member};
 ghost use Rattle.qm_term.specs.TermBlocks.{member_of};
 ghost use Rattle.qm_term.specs.TermScorer.{IsTermScorer};
-ghost use Rattle.qm_term.specs.WandRun.{IsNewRun, IsRun, PrunesTerms, run_combiner, run_lists, run_threshold, run_ticks, run_turns, terms_left};
+ghost use Rattle.qm_term.specs.WandRun.{IsNewRun, IsRun, PrunesTerms, RunFinishes, RunLeavesAll, RunTakesTurn, terms_left};
+ghost use Rattle.qm_term.specs.WandRun.{run_combiner, run_lists, run_threshold, run_ticks, run_turns, run_union};
 
 use crate::term_scorer::TermScorer;
 use crate::wand::front::{TermScorerWithMaxScore, score_front};
@@ -75,11 +77,13 @@ impl<'a, C: BoundedBySum> WandRun<'a, C> {
     #[inline]
     pub fn turn<F: FnMut(DocId, Score) -> Score>(&mut self, callback: &mut F) -> bool
         requires valid { IsRun self.old }
-        requires callable { MayPrune (InRange F.step) F.pre (run_threshold self.old) callback.old (united (C.combined (run_combiner self.old)) (run_lists self.old)) }
+        requires callable { MayPrune (InRange F.step) F.pre (run_threshold self.old) callback.old (run_union C.combined self.old) }
         ensures valid { IsRun self.new }
         ensures combiner { run_combiner self.new ≡ run_combiner self.old }
-        ensures none { result ≡ false → NoPivot (run_threshold self.old) (run_lists self.old) × (run_lists self.new ≡ run_lists self.old) × (run_threshold self.new ≡ run_threshold self.old) × (callback.new ≡ callback.old) × (run_turns self.new ≡ run_turns self.old) × (run_ticks self.new ≡ run_ticks self.old) }
-        ensures turn { result ≡ true → (p : ℕ) × (ticked : Bool) × (ls : List Member) × IsPivot (run_threshold self.old) (run_lists self.old) p × (postings (run_lists self.new) < postings (run_lists self.old)) × (run_turns self.new ≡ run_turns self.old + 1) × (run_ticks self.new ≡ run_ticks self.old + cond ticked 1 0) × IsPermutation ls (run_lists self.new) × IsTurn (InRange F.step) (C.combined (run_combiner self.old)) (run_threshold self.old) callback.old (run_lists self.old) (run_threshold self.new) callback.new ls ticked p }
+        ensures none { result ≡ false → RunLeavesAll callback.old self.old callback.new self.new }
+        ensures turn { result ≡ true → RunTakesTurn (InRange F.step) C.combined callback.old self.old callback.new self.new }
+        ensures turns { run_turns self.new ≡ run_turns self.old + cond result 1 0 }
+        ensures no_tick { result ≡ false → run_ticks self.new ≡ run_ticks self.old }
     {
         let turned = turn_row(
             &mut self.heads,
@@ -108,9 +112,9 @@ impl<'a, C: BoundedBySum> WandRun<'a, C> {
     // Turns until there is no pivot.
     fn finish<F: FnMut(DocId, Score) -> Score>(&mut self, callback: &mut F)
         requires valid { IsRun self.old }
-        requires callable { MayPrune (InRange F.step) F.pre (run_threshold self.old) callback.old (united (C.combined (run_combiner self.old)) (run_lists self.old)) }
+        requires callable { MayPrune (InRange F.step) F.pre (run_threshold self.old) callback.old (run_union C.combined self.old) }
         ensures turns { run_turns self.new ≤ run_turns self.old + postings (run_lists self.old) }
-        ensures run { (k : ℕ) × (last : ℤ) × (run_ticks self.new ≡ run_ticks self.old + k) × Pruned (InRange F.step) (C.combined (run_combiner self.old)) (run_threshold self.old) callback.old (run_lists self.old) k last callback.new }
+        ensures run { RunFinishes (InRange F.step) C.combined callback.old self.old callback.new self.new }
     {
         while self.turn(callback) {}
     }
@@ -133,7 +137,8 @@ pub fn block_wand<C: BoundedBySum, F: FnMut(DocId, Score) -> Score>(
     requires valid { All IsTermScorer scorers.items }
     requires callable { MayRunOver (InRange F.step) F.pre threshold callback.old (terms_left (C.combined combiner) scorers.items) }
     ensures turns { IfOk result (λ count. count.turns ≤ postings (map member_of scorers.entry.items)) }
-    ensures run { IfOk result (λ count. PrunesTerms (InRange F.step) (C.combined combiner) threshold callback.old scorers.entry.items count.ticks callback.new) }
+    ensures run { IfOk result (λ count.
+        PrunesTerms (InRange F.step) (C.combined combiner) threshold callback.old scorers.entry.items count.ticks callback.new) }
     ensures refused { IsErrOf result QueryError.ScoreBound ↔ (greatest_score < total_top (map member_of scorers.entry.items)) }
     ensures only { IfErr result IsBoundOrMemory }
     ensures untouched { OnErr result (callback.new ≡ callback.old) }
@@ -167,8 +172,11 @@ pub(super) fn turn_row<C: BoundedBySum, F: FnMut(DocId, Score) -> Score>(
     ensures row { IsRow scorers.new heads.new }
     ensures fits { total_top (row_lists scorers.new heads.new) ≡ total_top (row_lists scorers.old heads.old) }
     ensures ticks { ticks_of ticks.new ≡ ticks_of ticks.old + cond result.ticked 1 0 }
-    ensures none { result.found ≡ false → NoPivot threshold (row_lists scorers.old heads.old) × (row_lists scorers.new heads.new ≡ row_lists scorers.old heads.old) × (result.threshold ≡ threshold) × (callback.new ≡ callback.old) × (result.ticked ≡ false) }
-    ensures turn { result.found ≡ true → (p : ℕ) × (ls : List Member) × IsPivot threshold (row_lists scorers.old heads.old) p × (postings (row_lists scorers.new heads.new) < postings (row_lists scorers.old heads.old)) × IsPermutation ls (row_lists scorers.new heads.new) × IsTurn (InRange F.step) (C.combined combiner) threshold callback.old (row_lists scorers.old heads.old) result.threshold callback.new ls result.ticked p }
+    ensures none { result.found ≡ false →
+        LeavesAll threshold callback.old (row_lists scorers.old heads.old) result.threshold callback.new (row_lists scorers.new heads.new) }
+    ensures no_tick { result.found ≡ false → result.ticked ≡ false }
+    ensures turn { result.found ≡ true → TakesTurn (InRange F.step) (C.combined combiner)
+        threshold callback.old (row_lists scorers.old heads.old) result.threshold callback.new (row_lists scorers.new heads.new) result.ticked }
 {
     if is_alone(heads, threshold) {
         let alone = heads[0].doc;
@@ -231,11 +239,12 @@ fn score_pivot<C: BoundedBySum, F: FnMut(DocId, Score) -> Score>(
     requires below { p < TERMINATED }
     requires fits { total_top (row_lists scorers.old heads.old) ≤ greatest_score }
     requires room { ticks_of ticks.old + 1 < 2 ^ 128 }
-    requires callable { threshold <ℤ pos (C.combined combiner (front_scores p (row_lists scorers.old heads.old))) → F.pre callback.old p (pos (C.combined combiner (front_scores p (row_lists scorers.old heads.old)))) }
+    requires callable { MayTurn F.pre threshold callback.old p (C.combined combiner (front_scores p (row_lists scorers.old heads.old))) }
     ensures row { IsRow scorers.new heads.new }
     ensures lists { IsPermutation (map (past p) (row_lists scorers.old heads.old)) (row_lists scorers.new heads.new) }
     ensures tick { ticks_of ticks.new ≡ ticks_of ticks.old + 1 }
-    ensures turn { Turn (InRange F.step) threshold callback.old p (pos (C.combined combiner (front_scores p (row_lists scorers.old heads.old)))) result callback.new }
+    ensures turn { Turn (InRange F.step)
+        threshold callback.old p (pos (C.combined combiner (front_scores p (row_lists scorers.old heads.old)))) result callback.new }
 {
     let score = score_level(heads, scorers, n, p, combiner, ticks);
     let after = call_at(threshold, p, score, callback);

@@ -190,7 +190,8 @@ fn single_turn<F: FnMut(DocId, Score) -> Score>(
     ensures fewer { length (first_of row.new).entries < length (first_of row.old).entries }
     ensures later { doc < head (first_of row.new) }
     ensures past { result.ticked ≡ false → min (known.end + 1) TERMINATED ≤ head (first_of row.new) }
-    ensures turn { IsSingle (InRange F.step) (λ xs. sum xs) threshold callback.old (first_of row.old) result.threshold callback.new (first_of row.new) result.ticked }
+    ensures turn { IsSingle (InRange F.step) (λ xs. sum xs)
+        threshold callback.old (first_of row.old) result.threshold callback.new (first_of row.new) result.ticked }
     ensures ticks { ticks_of ticks.new ≡ ticks_of ticks.old + cond result.ticked 1 0 }
 {
     if is_above(known.bound, threshold) {

@@ -31,7 +31,7 @@ returns-else-best c =
       same ∙ now.2,
     ))
     (λ bar f ranked e now low. (λ ok. KeepsBest-passed limit bar (e.document, pos e.score) f.0.now.kept.items ranked (now.0 ok) (omega (arith, ints)) low, now.1, now.2))
-    es run.0 _ run.1 _ [] (λ _. KeepsBest-none limit _ c.new.result.items c.new.ensures.items threshold, refl, refl) run.2 in
+    es run.thresholds _ run.last _ [] (λ _. KeepsBest-none limit _ c.new.result.items c.new.ensures.items threshold, refl, refl) run.calls in
     let callback = c.block_wand_single_scorer.new.callback in
     let best_kept : callback.0.now.refused ≡ false → callback.0.now.kept.items ≡ best limit (pairs es) = λ ok. (kept_all.0 ok).kept ∙ ap (take limit) (by_score-pairs es) in
     search rules

@@ -21,6 +21,7 @@ returns-in-Some g c =
     let own = subst (IsLeafOf _ (term_tree c.args.weight.now) 1 c.args.reader.now.segment) c.in-Some.is c.requires.leaf in
     let run = c.block_wand_single_scorer.ensures.run in
     let g' = c.block_wand_single_scorer.new.callback in
-    let from = Plain-at (InRange (given.F-step g)) c.args.threshold _ c.args.callback.now _ run.0 run.1 g'
-    (to_z-of_z w64 c.args.threshold c.ranges.threshold) run.2 in
-    record { calls = (_, own.list, run.0, run.1, Plain-bare (InRange (given.F-step g)) c.args.threshold c.args.callback.now _ run.0 run.1 g' from) }
+    let ths = run.thresholds in
+    let from = Plain-at (InRange (given.F-step g)) c.args.threshold _ c.args.callback.now _ ths run.last g'
+    (to_z-of_z w64 c.args.threshold c.ranges.threshold) run.calls in
+    record { calls = (_, own.list, ths, run.last, Plain-bare (InRange (given.F-step g)) c.args.threshold c.args.callback.now _ ths run.last g' from) }

@@ -9,7 +9,7 @@ use Rattle.qm_term.specs.Bm25.{bm25_bound}
 use Rattle.qm_term.specs.Bm25Weight.{weighing}
 use Rattle.qm_term.specs.TermEntries.{length_ids}
 use Rattle.qm_term.specs.TermBlocks.{scored_looked}
-use Rattle.qm_term.specs.TermScorer.{AreCovered, scored_block, scored_postings}
+use Rattle.qm_term.specs.TermScorer.{AreCovered, scored_by, scored_postings}
 use Rattle.qm_term.proofs.TermEntryLemmas.{AreCovered-postings, bounded_by_ids, scored_postings-term_entries}
 use Rattle.qm_term.proofs.term_scorer.TermScorer.for_term.Goals as goal
 
@@ -36,4 +36,4 @@ returns-clause-lists c =
 pub returns-clause-looked : goal.returns-clause-looked
 unfolding scored_looked
 returns-clause-looked c =
-    ap (scored_block (weighing c.args.weight.now) (is_made_constant c.length_ids.result) (norm_ids c.length_ids.result)) c.in_ok-postings.ensures.looked
+    ap (scored_by c.args.weight.now c.length_ids.result) c.in_ok-postings.ensures.looked

@@ -4,7 +4,7 @@ use Rattle.qm_postings.specs.FieldNorms.{is_made_constant, norm_ids}
 use Rattle.qm_term.specs.Bm25.{bm25_bound}
 use Rattle.qm_term.specs.Bm25Weight.{weighing}
 use Rattle.qm_term.specs.TermBlocks.{scored_looked}
-use Rattle.qm_term.specs.TermScorer.{AreCovered, scored_block, scored_postings}
+use Rattle.qm_term.specs.TermScorer.{AreCovered, scored_by, scored_postings}
 use Rattle.qm_term.specs.TermScorerFacts.{ReadsAs-self, bounded_after, keeps_scoring}
 use Rattle.qm_term.proofs.term_scorer.TermScorer.seek_block.Goals as goal
 
@@ -12,7 +12,7 @@ pub returns-clause-looked : goal.returns-clause-looked
 unfolding scored_looked
 returns-clause-looked c =
     let s = c.args.self.now in
-    ap (scored_block (weighing s.similarity_weight) (is_made_constant s.fieldnorm_reader) (norm_ids s.fieldnorm_reader)) c.seek_block.ensures.looked
+    ap (scored_by s.similarity_weight s.fieldnorm_reader) c.seek_block.ensures.looked
 
 pub returns-clause-kept : goal.returns-clause-kept
 returns-clause-kept c = λ s. keeps_scoring s c.args.self.now _ refl refl c.seek_block.ensures.kept

@@ -5,7 +5,7 @@ use Rattle.qm_postings.specs.FieldNorms.{is_made_constant, norm_ids}
 use Rattle.qm_term.specs.Bm25.{bm25_bound}
 use Rattle.qm_term.specs.Bm25Weight.{weighing}
 use Rattle.qm_term.specs.TermBlocks.{scored_looked}
-use Rattle.qm_term.specs.TermScorer.{AreCovered, scored_postings, scored_block}
+use Rattle.qm_term.specs.TermScorer.{AreCovered, scored_postings, scored_by}
 use Rattle.qm_term.specs.TermScorerFacts.{AreCovered-from, IsBoundedBy-from, bounded_after, ReadsAs-self, keeps_scoring}
 use Rattle.qm_term.proofs.term_scorer.TermScorerDocSet.seek.Goals as goal
 
@@ -33,4 +33,4 @@ pub returns-clause-looked : goal.returns-clause-looked
 unfolding scored_looked
 returns-clause-looked c =
     let s = c.args.self.now in
-    ap (scored_block (weighing s.similarity_weight) (is_made_constant s.fieldnorm_reader) (norm_ids s.fieldnorm_reader)) c.seek.ensures.looked
+    ap (scored_by s.similarity_weight s.fieldnorm_reader) c.seek.ensures.looked

@@ -38,7 +38,10 @@ returns-clause-run g c =
     let combined = g.C.ScoreCombiner.combined c.args.combiner in
     let order = combined-permutation g.C.ScoreCombiner g.met.C.ScoreCombiner.combines g.met.C.ScoreCombiner.commutes c.args.combiner in
     let run = rw made.combines at c.finish.ensures.run in
-    let ticks : run.0 ≡ c.count.result.ticks = omega (arith, c.count.ensures.ticks, run.2, made.no_ticks) in
-    PrunesTerms-pruned call combined (g.met.C.BoundedBySum.within_sum c.args.combiner) c.args.scorers.items c.requires.valid c.args.threshold run.1 f z c.count.result.ticks
-    (subst (λ (k : ℕ). Pruned call combined c.args.threshold f ls k run.1 z) ticks
-    (pruned_permuted call combined order c.args.threshold f ls (run_lists r) run.0 run.1 z made.lists (subst (λ (t : ℤ). Pruned call combined t f (run_lists r) run.0 run.1 z) (made.same ∙ to_z-of_z w64 c.args.threshold c.ranges.threshold) run.3)))
+    let ticks : run.ticks ≡ c.count.result.ticks = omega (arith, c.count.ensures.ticks, run.counted, made.no_ticks) in
+    let is = made.same ∙ to_z-of_z w64 c.args.threshold c.ranges.threshold in
+    PrunesTerms-pruned call combined (g.met.C.BoundedBySum.within_sum c.args.combiner)
+    c.args.scorers.items c.requires.valid c.args.threshold run.last f z c.count.result.ticks
+    (subst (λ (k : ℕ). Pruned call combined c.args.threshold f ls k run.last z) ticks
+    (pruned_permuted call combined order c.args.threshold f ls (run_lists r) run.ticks run.last z made.lists
+    (subst (λ (t : ℤ). Pruned call combined t f (run_lists r) run.ticks run.last z) is run.run)))

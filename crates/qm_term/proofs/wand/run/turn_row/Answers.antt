@@ -34,7 +34,13 @@ returns-then-p-ge-TERMINATED-clause-none g c =
     let ms = map wand_member c.args.scorers.now in
     let th = c.args.threshold in
     let is : to_z w64 (of_z w64 th) ≡ th = to_z-of_z w64 th c.ranges.threshold in
-    λ _. (no_pivot_shown ms th hs c.requires.row.heads.records.each (subst (λ (t : ℤ). NoPivot t (map shown hs)) is (c.find_pivot-p.ensures.none (omega (arith, c.find_pivot-p.ensures.end, c.if-p-ge-TERMINATED.true)))), refl, is, refl, refl)
+    let none = c.find_pivot-p.ensures.none (omega (arith, c.find_pivot-p.ensures.end, c.if-p-ge-TERMINATED.true)) in
+    λ _. record {
+      none = no_pivot_shown ms th hs c.requires.row.heads.records.each (subst (λ (t : ℤ). NoPivot t (map shown hs)) is none);
+      lists = refl;
+      threshold = is;
+      callback = refl;
+    }
 
 pub is_above-requires : goal.is_above-requires
 is_above-requires g c =
@@ -77,14 +83,14 @@ returns-then-not-is_above-clause-turn g c =
     let low : pos (pivot_bounds p ls) ≤ℤ th = subst (λ (n : ℕ). pos n ≤ℤ th) c.bounds_at-bounds.ensures.bounds (rw is at (c.is_above.ensures.no c.if-not-is_above.true)) in
     let one : CutOne p (skip p ls) ls cut.0 = subst (λ (xs : List Member). CutOne p (skip p xs) xs cut.0) c.bounds_at-bounds.ensures.lists cut.1 in
     let fewer : postings cut.0 < postings ls = fewer_cut p (skip p ls) ls cut.0 (skip_past p ls v.below_end) (skip_le_end p ls) one in
-    λ _. (
-      p,
-      cut.0,
-      v,
-      omega (arith, fewer, postings_permuted cut.0 (row_lists c.skip_one.new.scorers c.skip_one.new.heads) cut.2),
-      cut.2,
-      inl (record { bounds = low; quiet = (is, refl, refl); lists = one; passes = passes_skip th p ls h v cut.0 low one }),
-    )
+    λ _. record {
+      pivot = p;
+      lists = cut.0;
+      found = v;
+      fewer = omega (arith, fewer, postings_permuted cut.0 (row_lists c.skip_one.new.scorers c.skip_one.new.heads) cut.2);
+      order = cut.2;
+      turn = inl (record { bounds = low; quiet = (is, refl, refl); lists = one; passes = passes_skip th p ls h v cut.0 low one });
+    }
 
 pub returns-then-not-align-clause-fits : goal.returns-then-not-align-clause-fits
 returns-then-not-align-clause-fits g c =
@@ -111,14 +117,14 @@ returns-then-not-align-clause-turn g c =
     let cut = c.align.ensures.cut c.if-not-align.true in
     let some : AreCut p ls cut.0 = subst (λ (xs : List Member). AreCut p xs cut.0) same cut.1 in
     let fewer : postings cut.0 < postings ls = subst (λ (xs : List Member). postings cut.0 < postings xs) same cut.2 in
-    λ _. (
-      p,
-      cut.0,
-      v,
-      omega (arith, fewer, postings_permuted cut.0 (row_lists c.align.new.scorers c.align.new.heads) cut.3),
-      cut.3,
-      inr (inl (record { bounds = above; quiet = (is, refl, refl); lists = some; passes = passes_cut th p ls cut.0 h some (λ d less held. low_before_pivot th p d ls h v less held) })),
-    )
+    λ _. record {
+      pivot = p;
+      lists = cut.0;
+      found = v;
+      fewer = omega (arith, fewer, postings_permuted cut.0 (row_lists c.align.new.scorers c.align.new.heads) cut.3);
+      order = cut.3;
+      turn = inr (inl (record { bounds = above; quiet = (is, refl, refl); lists = some; passes = passes_cut th p ls cut.0 h some (λ d less held. low_before_pivot th p d ls h v less held) }));
+    }
 
 pub score_pivot-after-requires-clause-fits : goal.score_pivot-after-requires-clause-fits
 score_pivot-after-requires-clause-fits g c =
@@ -214,21 +220,21 @@ returns-clause-turn g c =
     let after = c.score_pivot-after.result in
     let is_after : to_z w64 (of_z w64 after) ≡ after = to_z-of_z w64 after (record { sfits = c.score_pivot-after.type_inv }) in
     let moved : IsPermutation ns last = subst (λ (xs : List Member). IsPermutation (map (past p) xs) last) lists c.score_pivot-after.ensures.lists in
-    λ _. (
-      p,
-      ns,
-      v,
-      omega (arith, fewer_scored th p ls h v on_p, postings_permuted ns last moved),
-      moved,
-      inr (inr (record {
+    λ _. record {
+      pivot = p;
+      lists = ns;
+      found = v;
+      fewer = omega (arith, fewer_scored th p ls h v on_p, postings_permuted ns last moved);
+      order = moved;
+      turn = inr (inr (record {
         bounds = above;
         lists = refl;
         all_are_on = on_p;
         tick = refl;
         turn = rw (is_after, sum) (rw is at c.score_pivot-after.ensures.turn);
         scores = scores_pivot th p ls h v on_p above;
-      })),
-    )
+      }));
+    }
 
 -- ---- the first stands alone
 
@@ -340,18 +346,18 @@ returns-then-is_alone-clause-turn g c =
     let after = c.score_pivot-scored.result in
     let is_after : to_z w64 (of_z w64 after) ≡ after = to_z-of_z w64 after (record { sfits = c.score_pivot-scored.type_inv }) in
     let moved : IsPermutation ns last = subst (λ (xs : List Member). IsPermutation (map (past p) xs) last) (sym same) c.score_pivot-scored.ensures.lists in
-    λ _. (
-      p,
-      ns,
-      v,
-      omega (arith, fewer_scored th p ls h v on_p, postings_permuted ns last moved),
-      moved,
-      inr (inr (record {
+    λ _. record {
+      pivot = p;
+      lists = ns;
+      found = v;
+      fewer = omega (arith, fewer_scored th p ls h v on_p, postings_permuted ns last moved);
+      order = moved;
+      turn = inr (inr (record {
         bounds = above;
         lists = refl;
         all_are_on = on_p;
         tick = refl;
         turn = rw (is_after, sum) (rw is at c.score_pivot-scored.ensures.turn);
         scores = scores_pivot th p ls h v on_p above;
-      })),
-    )
+      }));
+    }

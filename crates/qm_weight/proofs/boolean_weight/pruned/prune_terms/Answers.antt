@@ -37,9 +37,13 @@ returns-clause-calls g c =
     let combined = g.C.ScoreCombiner.combined c.args.combiner in
     let same : gather 1 combined (map (tree_entries g.S.DocSet) c.args.should.items) ≡ gather 1 combined (map scored_left c.in_ok-terms.terms.items)
     = gathered_terms g.S.DocSet combined c.args.should.items c.requires.terms ∙ ap (λ ts. gather 1 combined (map scored_left ts)) (sym c.in_ok-terms.ensures.terms) in
-    let run = c.in_ok-block_wand.ensures.run in (
-      run.0,
-      run.1,
-      subst (λ (es : List Entry). Plain (InRange (goal.F-step g)) c.args.threshold c.args.callback.now es run.0 run.1 c.block_wand.new.callback) (sym same)
-          (Plain-at (InRange (goal.F-step g)) c.args.threshold _ c.args.callback.now _ run.0 run.1 c.block_wand.new.callback (to_z-of_z w64 c.args.threshold c.ranges.threshold) run.2),
+    let run = c.in_ok-block_wand.ensures.run in
+    let call = InRange (goal.F-step g) in
+    let th = c.args.threshold in
+    let f = c.args.callback.now in
+    let z = c.block_wand.new.callback in (
+      run.thresholds,
+      run.last,
+      subst (λ (es : List Entry). Plain call th f es run.thresholds run.last z) (sym same)
+          (Plain-at call th _ f _ run.thresholds run.last z (to_z-of_z w64 th c.ranges.threshold) run.calls),
     )

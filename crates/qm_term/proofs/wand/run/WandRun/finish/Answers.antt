@@ -1,4 +1,4 @@
-use Rattle.std.proofs.Common.{◌+◌, ◌∙◌, arith, cond, subst, sym}
+use Rattle.std.proofs.Common.{ℕ, Bool, ◌+◌, ◌∙◌, ap, arith, cond, subst, sym}
 use Rattle.qm_term.specs.HitRuns.{MayPrune}
 use Rattle.qm_term.specs.Members.{AreMembers, united}
 use Rattle.qm_combine.specs.CombineFacts.{combined-permutation}
@@ -31,18 +31,23 @@ loop-preserved g c =
     let th = run_threshold c.loop.self in
     let bar = run_threshold c.turn.new.self in
     let h : AreMembers ms = row_members c.loop.self.scorers.items c.loop.self.heads.items inside.valid.row.heads in
-    let r = c.turn.ensures.turn c.loop-test.true in
-    let ls = r.2 in
-    let turn : IsTurn call combined th c.loop.callback ms bar c.turn.new.callback ls r.1 r.0 = subst (λ x. IsTurn call (g.C.ScoreCombiner.combined x) th c.loop.callback ms bar c.turn.new.callback ls r.1 r.0) inside.combiner r.8 in
-    let i : AreMembers ls = members_permuted ls ns r.7 (row_members c.turn.new.self.scorers.items c.turn.new.self.heads.items c.turn.ensures.valid.row.heads) in
+    let made = c.turn.ensures.turn c.loop-test.true in
+    let r = made.turn in
+    let ls = r.lists in
+    let turn : IsTurn call combined th c.loop.callback ms bar c.turn.new.callback ls made.ticked r.pivot =
+      subst (λ x. IsTurn call (g.C.ScoreCombiner.combined x) th c.loop.callback ms bar c.turn.new.callback ls made.ticked r.pivot) inside.combiner r.turn in
+    let i : AreMembers ls = members_permuted ls ns r.order (row_members c.turn.new.self.scorers.items c.turn.new.self.heads.items c.turn.ensures.valid.row.heads) in
     record {
       valid = c.turn.ensures.valid;
       combiner = c.turn.ensures.combiner ∙ inside.combiner;
-      room = omega (arith, inside.room, r.4, r.5);
-      may = may_permuted call combined order pre bar c.turn.new.callback ls ns r.7 (turn_may call combined within th bar c.loop.callback c.turn.new.callback ms ls r.1 r.0 h i turn pre inside.may);
+      room = omega (arith, inside.room, r.fewer, c.turn.ensures.turns, ap (λ (b : Bool). cond {A = ℕ} b 1 0) c.loop-test.true);
+      may = may_permuted call combined order pre bar c.turn.new.callback ls ns r.order
+          (turn_may call combined within th bar c.loop.callback c.turn.new.callback ms ls made.ticked r.pivot h i turn pre inside.may);
       back = λ k last z q.
-          let b = inside.back (cond r.1 1 0 + k) last z (turn_back call combined within th bar c.loop.callback c.turn.new.callback ms ls r.1 r.0 h i turn k last z (pruned_permuted call combined order bar c.turn.new.callback ls ns k last z r.7 q)) in
-          (b.0, omega (arith, b.1, r.6), b.2);
+          let moved = pruned_permuted call combined order bar c.turn.new.callback ls ns k last z r.order q in
+          let b = inside.back (cond made.ticked 1 0 + k) last z
+            (turn_back call combined within th bar c.loop.callback c.turn.new.callback ms ls made.ticked r.pivot h i turn k last z moved) in
+          (b.0, omega (arith, b.1, made.ticks), b.2);
     }
 
 pub returns-clause-run : goal.returns-clause-run
@@ -56,5 +61,11 @@ returns-clause-run g c =
     let th = run_threshold c.loop.self in
     let h : AreMembers ms = row_members c.loop.self.scorers.items c.loop.self.heads.items inside.valid.row.heads in
     let r = c.turn.ensures.none c.loop-test.false in
-    let b = inside.back 0 th c.loop.callback (none_left call combined within th c.loop.callback ms h r.0) in
-    (b.0, th, omega (arith, b.1, r.5), subst (λ (z : _). Pruned call combined (run_threshold c.args.self.now) c.args.callback.now (run_lists c.args.self.now) b.0 th z) (sym r.3) b.2)
+    let b = inside.back 0 th c.loop.callback (none_left call combined within th c.loop.callback ms h r.none) in
+    let from = run_threshold c.args.self.now in
+    let lists = run_lists c.args.self.now in record {
+      ticks = b.0;
+      last = th;
+      counted = omega (arith, b.1, c.turn.ensures.no_tick c.loop-test.false);
+      run = subst (λ (z : _). Pruned call combined from c.args.callback.now lists b.0 th z) (sym r.callback) b.2;
+    }

@@ -20,6 +20,10 @@ room_after : (found : Bool) (b t n m : ℕ) → t + n < b → (found ≡ true �
 room_after true b t n m h more less = omega (arith, more refl)
 room_after false b t n m h more less = omega (arith, less refl)
 
+counted : (found : Bool) → ◌≡◌ {A = ℕ} (bool_byte found) (cond found 1 0)
+counted true = refl
+counted false = refl
+
 ticks_after : (found ticked : Bool) (a b : ℕ) → a ≤ b → (found ≡ false → ticked ≡ false) → a + cond ticked 1 0 ≤ b + bool_byte found
 ticks_after true true a b h n = omega arith
 ticks_after true false a b h n = omega arith
@@ -71,9 +75,9 @@ returns-clause-valid g c =
       row = subst (λ (xs : List TermScorerWithMaxScore). IsRow xs hw) (sym wt) (subst (λ (ys : List Head). IsRow ts ys) (sym wg) c.turn_row-turned.ensures.row);
       fits = omega (arith, ap total_top after, c.turn_row-turned.ensures.fits, ap total_top same, valid.fits);
       room = room_after c.turn_row-turned.result.found (2 ^ 127) self.turns (postings (row_lists ss hs)) (postings (row_lists sw hw)) valid.room
-          (λ e. omega (arith, (c.turn_row-turned.ensures.turn e).3, ap postings after, ap postings same))
-          (λ e. ap postings after ∙ ap postings (c.turn_row-turned.ensures.none e).1 ∙ ap postings same);
-      ticks = omega (arith, c.turn_row-turned.ensures.ticks, ticks_after c.turn_row-turned.result.found c.turn_row-turned.result.ticked self.ticks.count self.turns valid.ticks (λ e. (c.turn_row-turned.ensures.none e).4));
+          (λ e. omega (arith, (c.turn_row-turned.ensures.turn e).fewer, ap postings after, ap postings same))
+          (λ e. ap postings after ∙ ap postings (c.turn_row-turned.ensures.none e).lists ∙ ap postings same);
+      ticks = omega (arith, c.turn_row-turned.ensures.ticks, ticks_after c.turn_row-turned.result.found c.turn_row-turned.result.ticked self.ticks.count self.turns valid.ticks c.turn_row-turned.ensures.no_tick);
     }
 
 pub returns-clause-none : goal.returns-clause-none
@@ -98,16 +102,21 @@ returns-clause-none g c =
     let wt : sw ≡ ts = whole _ ss ts self.scorers.ok.0 (omega (arith, c.turn_row-turned.auto.scorers, ap length c.deref_mut-2.ensures.value)) in
     let after : row_lists sw hw ≡ row_lists ts gs = ap (λ (xs : List TermScorerWithMaxScore). row_lists xs hw) wt ∙ ap (row_lists ts) wg in
     λ e.
-    let r = c.turn_row-turned.ensures.none e in
-    let turns : bool_byte c.turn_row-turned.result.found ≡ 0 = ap bool_byte e in
-    let ticks : ◌≡◌ {A = ℕ} (cond c.turn_row-turned.result.ticked 1 0) 0 = ap (λ (b : Bool). cond b 1 0) r.4 in (
-      subst (λ (ms : List Member). NoPivot th ms) same (subst (λ (t : ℤ). NoPivot t (row_lists sd hd)) is r.0),
-      after ∙ r.1 ∙ same,
-      is_bar ∙ r.2 ∙ is,
-      r.3,
-      omega (arith, turns),
-      omega (arith, ticks, c.turn_row-turned.ensures.ticks),
-    )
+    let r = c.turn_row-turned.ensures.none e in record {
+      none = subst (λ (ms : List Member). NoPivot th ms) same (subst (λ (t : ℤ). NoPivot t (row_lists sd hd)) is r.none);
+      lists = after ∙ r.lists ∙ same;
+      threshold = is_bar ∙ r.threshold ∙ is;
+      callback = r.callback;
+    }
+
+pub returns-clause-turns : goal.returns-clause-turns
+returns-clause-turns g c = omega (arith, counted c.turn_row-turned.result.found)
+
+pub returns-clause-no_tick : goal.returns-clause-no_tick
+returns-clause-no_tick g c = λ e.
+    let ticks : ◌≡◌ {A = ℕ} (cond c.turn_row-turned.result.ticked 1 0) 0 =
+      ap (λ (b : Bool). cond b 1 0) (c.turn_row-turned.ensures.no_tick e) in
+    omega (arith, ticks, c.turn_row-turned.ensures.ticks)
 
 pub returns-clause-turn : goal.returns-clause-turn
 returns-clause-turn g c =
@@ -133,14 +142,19 @@ returns-clause-turn g c =
     let call = InRange (fnmut.words g.row.C g.row.F g.F.FnMut).step in
     λ e.
     let r = c.turn_row-turned.ensures.turn e in
-    let turns : bool_byte c.turn_row-turned.result.found ≡ 1 = ap bool_byte e in (
-      r.0,
-      c.turn_row-turned.result.ticked,
-      r.1,
-      subst (λ (ms : List Member). IsPivot th ms r.0) same (subst (λ (t : ℤ). IsPivot t (row_lists sd hd) r.0) is r.2),
-      omega (arith, r.3, ap postings after, ap postings same),
-      omega (arith, turns),
-      omega (arith, c.turn_row-turned.ensures.ticks),
-      subst (λ (ns : List Member). IsPermutation r.1 ns) (sym after) r.4,
-      turn_at call (g.C.ScoreCombiner.combined self.combiner) (g.met.C.BoundedBySum.within_sum self.combiner) th _ bar _ c.args.callback.now c.turn_row-turned.new.callback (row_lists ss hs) _ r.1 r.1 c.turn_row-turned.result.ticked r.0 is same is_bar refl r.5,
-    )
+    let combined = g.C.ScoreCombiner.combined self.combiner in
+    let within = g.met.C.BoundedBySum.within_sum self.combiner in
+    let f = c.args.callback.now in
+    let z = c.turn_row-turned.new.callback in
+    let ticked = c.turn_row-turned.result.ticked in record {
+      ticked = ticked;
+      ticks = omega (arith, c.turn_row-turned.ensures.ticks);
+      turn = record {
+        pivot = r.pivot;
+        lists = r.lists;
+        found = subst (λ (ms : List Member). IsPivot th ms r.pivot) same (subst (λ (t : ℤ). IsPivot t (row_lists sd hd) r.pivot) is r.found);
+        fewer = omega (arith, r.fewer, ap postings after, ap postings same);
+        order = subst (λ (ns : List Member). IsPermutation r.lists ns) (sym after) r.order;
+        turn = turn_at call combined within th _ bar _ f z (row_lists ss hs) _ r.lists r.lists ticked r.pivot is same is_bar refl r.turn;
+      };
+    }

@@ -1,0 +1,270 @@
+//! Rows on the run over several terms.
+
+ghost use Rattle.std.specs.Prelude.{◌≤◌, All, IfOk};
+ghost use Rattle.qm_term.specs.TermScorer.{IsTermScorer};
+ghost use Rattle.qm_term.specs.WandRun.{IsRun};
+
+use crate::blocks::target_of;
+use crate::spelled::{cut, read_number, read_option, read_term, read_weight};
+use cases::{
+    Asker, Fault, Memory, Pruning, Reply, behind, end_refusals, number, replies_of, threshold_of, word,
+    words_of,
+};
+use qm_combine::{BoundedBySum, DisjunctionMaxCombiner, SumCombiner};
+use qm_docset::{DocId, DocSet, TERMINATED};
+use qm_postings::SegmentReader;
+use qm_schema::{Field, IndexRecordOption, Term};
+use qm_term::{Bm25Weight, TermScorer, WandCount, WandRun, block_wand};
+use std::alloc::Global;
+
+// A combiner that such a run may have.
+#[derive(Clone, Copy, Debug)]
+enum Combiner {
+    Sum(SumCombiner),
+    Greatest(DisjunctionMaxCombiner),
+}
+
+// What a scorer is made of, the document that it is sent to, and the one whose block it then looks at.
+#[derive(Drop)]
+struct Part {
+    term: Term,
+    weight: Bm25Weight,
+    option: IndexRecordOption,
+    at: DocId,
+    look: DocId,
+    ghost place: { at ≤ TERMINATED },
+    ghost looked_at: { look ≤ TERMINATED },
+}
+
+/// Rows on a run over the scorers of several terms, which each row makes anew.
+#[derive(Drop)]
+pub struct SeveralRows<'b> {
+    segment: &'b SegmentReader,
+    combiner: Combiner,
+    parts: Vec<Part>,
+}
+
+impl<'b> SeveralRows<'b> {
+    /// The scorers of the words `COMBINER ; WORD WEIGHT OPTION ; WORD WEIGHT OPTION at DOC look DOC ..`.
+    pub fn read(
+        alloc: Global,
+        segment: &'b SegmentReader,
+        words: &[&str],
+    ) -> Result<SeveralRows<'b>, Fault> {
+        let mut parts = Vec::new(alloc);
+        let mut groups = words.split(|word| *word == ";");
+        let combiner = read_combiner(groups.next().unwrap_or(&[]))?;
+        for group in groups {
+            parts.push(read_part(alloc, group)?)?;
+        }
+        Ok(SeveralRows {
+            segment,
+            combiner,
+            parts,
+        })
+    }
+
+    // The scorers.
+    fn scorers(&self, alloc: Global) -> Result<Vec<TermScorer<'b>>, Fault>
+        ensures { IfOk result (λ row. All IsTermScorer row.items) }
+    {
+        let mut row = Vec::new(alloc);
+        // all that were made are right
+        for part in &self.parts {
+            row.push(scorer_of(self.segment, part)?)?;
+        }
+        Ok(row)
+    }
+
+    // The run, turn by turn or at once: what it counted. Its calls are written behind the text.
+    fn run(
+        &self,
+        alloc: Global,
+        by_turns: bool,
+        call: &str,
+        memory: Memory,
+        text: &mut String,
+    ) -> Result<WandCount, Fault> {
+        let row = self.scorers(alloc)?;
+        match (self.combiner, by_turns) {
+            (Combiner::Sum(it), false) => run_at_once(alloc, row, it, call, memory, text),
+            (Combiner::Sum(it), true) => run_by_turns(alloc, row, it, call, memory, text),
+            (Combiner::Greatest(it), false) => run_at_once(alloc, row, it, call, memory, text),
+            (Combiner::Greatest(it), true) => run_by_turns(alloc, row, it, call, memory, text),
+        }
+    }
+
+    // Whether the run of `TICKS TURNS T ..` scores at most so many documents, and at least one for each
+    // call, in at most so many turns, and counts the same turn by turn.
+    fn is_bounded(&self, alloc: Global, bounds: &str) -> Result<bool, Fault> {
+        let (ticks, run) = cut(bounds);
+        let (turns, _) = cut(run);
+        let (ticks, turns) = (read_number(ticks)?, read_number(turns)?);
+        let mut calls = String::new(alloc);
+        let count = self.run(alloc, false, run, Memory::Ample, &mut calls)?;
+        let called = words_of(alloc, calls.as_str())?.len() as u128;
+        let is_within = called <= count.ticks
+            && count.ticks <= u128::from(ticks)
+            && count.turns <= u128::from(turns);
+        let again = self.run(alloc, true, run, Memory::Ample, &mut calls)?;
+        Ok(is_within && again == count)
+    }
+}
+
+impl<'b> Asker for SeveralRows<'b> {
+    fn ask(
+        &mut self,
+        alloc: Global,
+        call: &str,
+        memory: Memory,
+        text: &mut String,
+    ) -> Result<(), Fault> {
+        let (name, rest) = cut(call);
+        match name {
+            "wand" => {
+                self.run(alloc, false, call, memory, text)?;
+            }
+            "turns" => {
+                self.run(alloc, true, call, memory, text)?;
+            }
+            "bounded" => write!(text, "{}", self.is_bounded(alloc, rest)?)?,
+            _ => return Err(Fault::NotUnderstood),
+        }
+        Ok(())
+    }
+}
+
+fn read_combiner(words: &[&str]) -> Result<Combiner, Fault> {
+    match word(words, 0) {
+        "sum" => Ok(Combiner::Sum(SumCombiner::default())),
+        "max" => match number(words, 1) {
+            Some(tie_breaker) => Ok(Combiner::Greatest(
+                DisjunctionMaxCombiner::with_tie_breaker(tie_breaker)?,
+            )),
+            None => Err(Fault::NotUnderstood),
+        },
+        _ => Err(Fault::NotUnderstood),
+    }
+}
+
+fn read_part(alloc: Global, words: &[&str]) -> Result<Part, Fault> {
+    let term = read_term(alloc, Field::from_field_id(0), word(words, 0))?;
+    let weight = read_weight(word(words, 1))?;
+    let option = read_option(word(words, 2))?;
+    let at = read_place("at", words)?;
+    let look = read_place("look", words)?;
+    Ok(Part {
+        term,
+        weight,
+        option,
+        at,
+        look,
+    })
+}
+
+// The document behind a name among words, or 0.
+fn read_place(name: &str, words: &[&str]) -> Result<DocId, Fault>
+    ensures { IfOk result (λ place. place ≤ TERMINATED) }
+{
+    for pair in behind(words, 3).chunks(2) {
+        if word(pair, 0) == name {
+            return target_of(word(pair, 1));
+        }
+    }
+    Ok(0)
+}
+
+// The scorer that a part makes.
+fn scorer_of<'s>(segment: &'s SegmentReader, part: &Part) -> Result<TermScorer<'s>, Fault>
+    ensures { IfOk result IsTermScorer }
+{
+    let found = TermScorer::for_term(segment, &part.term, part.option, &part.weight);
+    let Some(mut scorer) = found else {
+        return Err(Fault::NotAllowed);
+    };
+    scorer.seek(part.at);
+    scorer.seek_block(part.look);
+    Ok(scorer)
+}
+
+// The run at once.
+fn run_at_once<C: BoundedBySum>(
+    alloc: Global,
+    row: Vec<TermScorer<'_>>,
+    combiner: C,
+    call: &str,
+    memory: Memory,
+    text: &mut String,
+) -> Result<WandCount, Fault>
+    requires { All IsTermScorer row.items }
+{
+    let threshold = threshold_of(alloc, call)?;
+    let replies = replies_of(alloc, call)?;
+    let mut pruning = Pruning {
+        text,
+        replies: replies.as_slice(),
+        last: Reply::ItsScore,
+        has_scores: true,
+    };
+    memory.begin(alloc);
+    let counted = block_wand(
+        alloc,
+        row,
+        combiner,
+        threshold,
+        &mut |doc, score| pruning.call(doc, score),
+    );
+    end_refusals(alloc);
+    Ok(counted?)
+}
+
+// The run turn by turn. No turn takes memory.
+fn run_by_turns<C: BoundedBySum>(
+    alloc: Global,
+    row: Vec<TermScorer<'_>>,
+    combiner: C,
+    call: &str,
+    memory: Memory,
+    text: &mut String,
+) -> Result<WandCount, Fault>
+    requires { All IsTermScorer row.items }
+{
+    let threshold = threshold_of(alloc, call)?;
+    let replies = replies_of(alloc, call)?;
+    let mut pruning = Pruning {
+        text,
+        replies: replies.as_slice(),
+        last: Reply::ItsScore,
+        has_scores: true,
+    };
+    memory.begin(alloc);
+    let made = WandRun::new(alloc, row, combiner, threshold);
+    end_refusals(alloc);
+    let mut run = made?;
+    Memory::None.begin(alloc);
+    let is_stepwise = take_turns(&mut run, &mut pruning);
+    end_refusals(alloc);
+    if !is_stepwise {
+        write!(text, " not turn by turn")?;
+    }
+    Ok(run.count())
+}
+
+// Turns until there is none. Whether each turn was counted, as a tick or not, and behind the last one
+// nothing is done any more.
+fn take_turns<C: BoundedBySum>(run: &mut WandRun<'_, C>, pruning: &mut Pruning<'_>) -> bool
+    requires { IsRun run.old }
+    ensures { IsRun run.new }
+{
+    let mut before = run.count();
+    let mut is_stepwise = true;
+    // each turn leaves fewer postings
+    while run.turn(&mut |doc, score| pruning.call(doc, score)) {
+        let count = run.count();
+        let is_tick_at_most = count.ticks.wrapping_sub(before.ticks) <= 1;
+        is_stepwise = is_stepwise && is_tick_at_most && count.turns.wrapping_sub(before.turns) == 1;
+        before = count;
+    }
+    let is_over = !run.turn(&mut |doc, score| pruning.call(doc, score));
+    is_stepwise && is_over && run.count() == before
+}

@@ -1,0 +1,24 @@
+-- Both scorers are placed, and list what the terms do.
+use Rattle.std.proofs.Common.{◌≡◌, ◌∙◌, [], ◌∷◌, ap}
+use Rattle.std.proofs.lemmas.List.Elements.{All-cons, All-nil}
+use Rattle.qm_combine.specs.HeldSum.{held_sum}
+use Rattle.qm_docset.specs.Gather.{common_entries}
+use Rattle.example_search.specs.Both.{with_scores}
+use Rattle.example_search.proofs.both.Goals as goal
+
+pub new-requires-clause-placed : goal.new-requires-clause-placed
+new-requires-clause-placed c =
+    let first = c.in-Some.ensures.lists in
+    let second = c.in-Some-for_term.ensures.lists in
+    rw c.in_ok-members.ensures.items (record {
+      valid = All-cons _ _ _ first.valid (All-cons _ _ _ second.valid (All-nil _));
+      placed = All-cons _ _ _ first.placed (All-cons _ _ _ second.placed (All-nil _));
+    })
+
+pub returns : goal.returns
+returns c =
+    let first = c.in-Some.ensures.lists in
+    let second = c.in-Some-for_term.ensures.lists in
+    let lists = c.in_ok-common.ensures.lists.entries in
+    c.in_ok-scores_left.ensures
+    ∙ ap with_scores (rw c.in_ok-members.ensures.items at lists ∙ (λ i. common_entries held_sum (first.entries i ∷ second.entries i ∷ [])))
