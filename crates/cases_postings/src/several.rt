@@ -1,14 +1,15 @@
 //! Rows on the run over several terms.
 
 ghost use Rattle.std.specs.Prelude.{◌≤◌, All, IfOk};
+ghost use Rattle.qm_docset.specs.declared.numbers.TheConstants.{TERMINATED};
 ghost use Rattle.qm_term.specs.TermScorer.{IsTermScorer};
 ghost use Rattle.qm_term.specs.WandRun.{IsRun};
 
 use crate::blocks::target_of;
 use crate::spelled::{cut, read_number, read_option, read_term, read_weight};
 use cases::{
-    Asker, Fault, Memory, Pruning, Reply, behind, end_refusals, number, replies_of, threshold_of, word,
-    words_of,
+    Asker, Fault, Memory, Pruning, Reply, behind, end_refusals, number, replies_of, threshold_of,
+    word, words_of,
 };
 use qm_combine::{BoundedBySum, DisjunctionMaxCombiner, SumCombiner};
 use qm_docset::{DocId, DocSet, TERMINATED};
@@ -16,13 +17,6 @@ use qm_postings::SegmentReader;
 use qm_schema::{Field, IndexRecordOption, Term};
 use qm_term::{Bm25Weight, TermScorer, WandCount, WandRun, block_wand};
 use std::alloc::Global;
-
-// A combiner that such a run may have.
-#[derive(Clone, Copy, Debug)]
-enum Combiner {
-    Sum(SumCombiner),
-    Greatest(DisjunctionMaxCombiner),
-}
 
 // What a scorer is made of, the document that it is sent to, and the one whose block it then looks at.
 #[derive(Drop)]
@@ -40,7 +34,8 @@ struct Part {
 #[derive(Drop)]
 pub struct SeveralRows<'b> {
     segment: &'b SegmentReader,
-    combiner: Combiner,
+    // that of the greatest score, or none where the scores are summed up
+    tie_breaker: Option<u32>,
     parts: Vec<Part>,
 }
 
@@ -53,13 +48,13 @@ impl<'b> SeveralRows<'b> {
     ) -> Result<SeveralRows<'b>, Fault> {
         let mut parts = Vec::new(alloc);
         let mut groups = words.split(|word| *word == ";");
-        let combiner = read_combiner(groups.next().unwrap_or(&[]))?;
+        let tie_breaker = read_tie_breaker(groups.next().unwrap_or(&[]))?;
         for group in groups {
             parts.push(read_part(alloc, group)?)?;
         }
         Ok(SeveralRows {
             segment,
-            combiner,
+            tie_breaker,
             parts,
         })
     }
@@ -86,11 +81,20 @@ impl<'b> SeveralRows<'b> {
         text: &mut String,
     ) -> Result<WandCount, Fault> {
         let row = self.scorers(alloc)?;
-        match (self.combiner, by_turns) {
-            (Combiner::Sum(it), false) => run_at_once(alloc, row, it, call, memory, text),
-            (Combiner::Sum(it), true) => run_by_turns(alloc, row, it, call, memory, text),
-            (Combiner::Greatest(it), false) => run_at_once(alloc, row, it, call, memory, text),
-            (Combiner::Greatest(it), true) => run_by_turns(alloc, row, it, call, memory, text),
+        match self.tie_breaker {
+            None => run_over(
+                alloc,
+                row,
+                SumCombiner::default(),
+                by_turns,
+                call,
+                memory,
+                text,
+            ),
+            Some(tie_breaker) => {
+                let greatest = DisjunctionMaxCombiner::with_tie_breaker(tie_breaker)?;
+                run_over(alloc, row, greatest, by_turns, call, memory, text)
+            }
         }
     }
 
@@ -134,15 +138,15 @@ impl<'b> Asker for SeveralRows<'b> {
     }
 }
 
-fn read_combiner(words: &[&str]) -> Result<Combiner, Fault> {
+// The tie breaker of `max N`; none for `sum`.
+fn read_tie_breaker(words: &[&str]) -> Result<Option<u32>, Fault> {
     match word(words, 0) {
-        "sum" => Ok(Combiner::Sum(SumCombiner::default())),
-        "max" => match number(words, 1) {
-            Some(tie_breaker) => Ok(Combiner::Greatest(
-                DisjunctionMaxCombiner::with_tie_breaker(tie_breaker)?,
-            )),
-            None => Err(Fault::NotUnderstood),
-        },
+        "sum" => Ok(None),
+        "max" => {
+            let tie_breaker = number(words, 1).ok_or(Fault::NotUnderstood)?;
+            DisjunctionMaxCombiner::with_tie_breaker(tie_breaker)?;
+            Ok(Some(tie_breaker))
+        }
         _ => Err(Fault::NotUnderstood),
     }
 }
@@ -185,6 +189,25 @@ fn scorer_of<'s>(segment: &'s SegmentReader, part: &Part) -> Result<TermScorer<'
     scorer.seek(part.at);
     scorer.seek_block(part.look);
     Ok(scorer)
+}
+
+// The run over these scorers, turn by turn or at once.
+fn run_over<C: BoundedBySum>(
+    alloc: Global,
+    row: Vec<TermScorer<'_>>,
+    combiner: C,
+    by_turns: bool,
+    call: &str,
+    memory: Memory,
+    text: &mut String,
+) -> Result<WandCount, Fault>
+    requires { All IsTermScorer row.items }
+{
+    if by_turns {
+        run_by_turns(alloc, row, combiner, call, memory, text)
+    } else {
+        run_at_once(alloc, row, combiner, call, memory, text)
+    }
 }
 
 // The run at once.
