@@ -1,25 +1,22 @@
 -- A union that stands on its first document goes on.
-use Rattle.std.proofs.Common.{◌≡◌, ℕ, ◌+◌, ◌<◌, ◌≤◌, Bool, true, false, ◌&&◌, ◌||◌, nat_le, All, List, [], ◌∷◌, drop, filter, length, map, max, min, get_or, slice_get, Some, None, refl, ap, sym, subst, ◌∙◌, inl, inr, arith, true≢false, length-append}
-use Rattle.std.proofs.lemmas.Bool.{cases_Bool, cases_lt, le-leb, lt-leb}
-use Rattle.std.proofs.lemmas.List.{length-map}
+use Rattle.std.proofs.Common.{◌≡◌, ℕ, ◌+◌, ◌<◌, ◌≤◌, Bool, true, false, All, List, [], ◌∷◌, drop, map, min, slice_get, Some, None, refl, ap, sym, subst, ◌∙◌, inl, inr, arith}
+use Rattle.std.proofs.lemmas.Bool.{cases_lt, le-leb, lt-leb}
 use Rattle.std.proofs.lemmas.List.Elements.{All-head, All-tail}
-use Rattle.qm_docset.specs.Entry.{Entry, Limits, AreEntries, documents, from, head_document, head_score}
+use Rattle.qm_docset.specs.Entry.{Entry, Limits, AreEntries, from, head_document, head_score}
 use Rattle.qm_docset.specs.EntryFacts.{AreEntries-from_low, from-next}
-use Rattle.qm_docset.specs.Gather.{AreMembers, documents_below, gather, scored, scores_at}
-use Rattle.qm_docset.specs.HasFacts.{documents-gather}
-use Rattle.qm_docset.specs.Listed.{listed, IsNamed}
-use Rattle.qm_docset.specs.ListedFacts.{listed-first, listed-same}
-use Rattle.qm_docset.specs.Members.{members_between}
+use Rattle.qm_docset.specs.Gather.{AreMembers, gather, scores_at}
+use Rattle.qm_docset.specs.Listed.{IsNamed}
+use Rattle.qm_docset.specs.ListedFacts.{listed-first}
 use Rattle.qm_docset.specs.SeekFacts.{scores_at-from}
 use Rattle.qm_docset.specs.declared.numbers.TheConstants.{TERMINATED}
 use Rattle.qm_docset.proofs.MemberEntries.{first-from_Some, none-from_None}
-use Rattle.qm_docset.proofs.MembersLemmas.{HasNone, IsFirst, members_between-bound, members_between-first, members_between-same, members_between-skip, members_between-split}
+use Rattle.qm_docset.proofs.MembersLemmas.{IsFirst}
 use Rattle.qm_combine.specs.Union.{least_head}
 use Rattle.qm_combine.specs.Window.{window_end, window_from, window_has}
 use Rattle.qm_combine.specs.Windowed.{IsWindowed, windowed, windowed_entry, windowed_has}
 use Rattle.qm_combine.specs.declared.union.window.Window.{Window}
 use Rattle.qm_combine.proofs.Refilled.{scores_at-ended, window_has-past}
-use Rattle.qm_combine.proofs.Uniting.{least_head-most, scores_at-ahead}
+use Rattle.qm_combine.proofs.Uniting.{scores_at-ahead}
 use Rattle.qm_combine.proofs.Windows.{windowed-next, windowed-passed}
 
 -- what a window answers
@@ -37,15 +34,19 @@ pub from_here : (doc : ℕ) (limits : Limits) (es : List Entry) → AreEntries 0
 from_here doc limits es a here = ap (λ d. from (d + 1) es) here ∙ from-next 0 limits es a
 
 -- members that stand at or past a target
-pub least_head-reached : {X : Type 0} (placed : X → Type 0) (list : X → List Entry) (t : ℕ) (xs : List X) → t ≤ TERMINATED → All (λ m. placed m × (t ≤ head_document (list m))) xs → t ≤ least_head (map list xs)
+pub least_head-reached : {X : Type 0} (placed : X → Type 0) (list : X → List Entry) (t : ℕ) (xs : List X) → t ≤ TERMINATED
+    → All (λ m. placed m × (t ≤ head_document (list m))) xs → t ≤ least_head (map list xs)
 least_head-reached placed list t [] h reached = h
 least_head-reached {X} placed list t (x ∷ xs) h reached =
     let Reached : X → Type 0 = λ m. placed m × (t ≤ head_document (list m)) in
     omega (arith, (All-head Reached x xs reached).1, least_head-reached placed list t xs h (All-tail Reached x xs reached))
 
-module _ (has : ℕ → Bool) (score : ℕ → ℕ) (doc ahead : ℕ) (combined : List ℕ → ℕ) (limits : Limits) (bounds : List Limits) (ess : List (List Entry)) (members : AreMembers bounds ess) (w : IsWindowed has score doc ahead combined limits ess) where
+module _ (has : ℕ → Bool) (score : ℕ → ℕ) (doc ahead : ℕ) (combined : List ℕ
+    → ℕ) (limits : Limits) (bounds : List Limits) (ess : List (List Entry)) (members : AreMembers bounds ess)
+    (w : IsWindowed has score doc ahead combined limits ess) where
   -- In its window it goes on to the first document at or past a target.
-  pub goes_next : (t next high : ℕ) → doc ≤ t → IsFirst has t high next → (windowed has score next combined ess ≡ from t (windowed has score doc combined ess)) × IsWindowed has score next ahead combined limits ess
+  pub goes_next : (t next high : ℕ) → doc ≤ t → IsFirst has t high next
+      → (windowed has score next combined ess ≡ from t (windowed has score doc combined ess)) × IsWindowed has score next ahead combined limits ess
   goes_next t next high low first =
       let before = w.behind next first.member in
       let moved = windowed-next has score combined bounds ess members doc t next low first.above first.none_before first.member (omega (arith, w.next)) in (
@@ -68,7 +69,8 @@ module _ (has : ℕ → Bool) (score : ℕ → ℕ) (doc ahead : ℕ) (combined 
   ]
 
   -- From there on the members have all that is left, where the window has nothing there.
-  pub goes_on : (t : ℕ) → doc ≤ t → min t TERMINATED ≤ ahead → ((d : ℕ) → t ≤ d → has d ≡ false) → gather 1 combined ess ≡ from t (windowed has score doc combined ess)
+  pub goes_on : (t : ℕ) → doc ≤ t → min t TERMINATED ≤ ahead → ((d : ℕ) → t ≤ d → has d ≡ false)
+      → gather 1 combined ess ≡ from t (windowed has score doc combined ess)
   goes_on t low reach quiet =
       let dropped : (d : ℕ) → d < t → scores_at d ess ≡ [] = λ d below. elim (cases_lt d TERMINATED) [
         | inr ended ↦ scores_at-ended d bounds ess members ended
@@ -77,7 +79,8 @@ module _ (has : ℕ → Bool) (score : ℕ → ℕ) (doc ahead : ℕ) (combined 
       windowed-passed has score combined bounds ess members doc t ess low quiet dropped (λ d past. refl)
 
   -- Where the members were sent to a target past the window, they have what is left from there on.
-  pub goes_past : (t : ℕ) (others : List Limits) (rest : List (List Entry)) → AreMembers others rest → doc ≤ t → ((d : ℕ) → t ≤ d → has d ≡ false) → t ≤ least_head rest → map (from t) rest ≡ map (from t) ess → gather 1 combined rest ≡ from t (windowed has score doc combined ess)
+  pub goes_past : (t : ℕ) (others : List Limits) (rest : List (List Entry)) → AreMembers others rest → doc ≤ t → ((d : ℕ) → t ≤ d → has d ≡ false)
+      → t ≤ least_head rest → map (from t) rest ≡ map (from t) ess → gather 1 combined rest ≡ from t (windowed has score doc combined ess)
   goes_past t others rest after low quiet reached same =
       windowed-passed has score combined bounds ess members doc t rest low quiet
       (λ d below. scores_at-ahead d others rest after (omega arith))
@@ -91,5 +94,6 @@ module _ (has : ℕ → Bool) (score : ℕ → ℕ) (doc ahead : ℕ) (combined 
       let here = w.here below in
       let past = w.behind doc here in
       let kept : windowed_has has doc ess doc ≡ true = rw (le-leb doc doc (omega arith), here) refl in
-      let bare : (d : ℕ) → d < doc → windowed_has has doc ess d ≡ false = λ d before. rw (lt-leb doc d before, scores_at-ahead d bounds ess members (omega (arith, w.next))) refl in
+      let bare : (d : ℕ) → d < doc
+      → windowed_has has doc ess d ≡ false = λ d before. rw (lt-leb doc d before, scores_at-ahead d bounds ess members (omega (arith, w.next))) refl in
       ap head_score (listed-first doc (windowed_has has doc ess) made below named bare kept) ∙ rw here refl

@@ -1,6 +1,6 @@
 -- The words and the states of a window, by their places.
 use Rattle.std.proofs.Common.{◌≡◌, ◌≢◌, ℕ, zero, suc, ◌∷◌, ◌+◌, ◌-◌, ◌*◌, ◌/◌, ◌%◌, ◌<◌, ◌≤◌, ◌==◌, ◌||◌, ◌&&◌, Bool, true, false, not, cond, nat_le, nat_lt, List, [], length, slice_get, Some, None, get_or, set, eq-eqb, ne_eqb, lt-ltb, refl, ap, sym, ◌∙◌, inl, inr, arith, true≢false}
-use Rattle.std.proofs.lemmas.Bool.{cases_lt, cases_eq, cases_Bool, le-leb, lt-leb, leb-true, and_right}
+use Rattle.std.proofs.lemmas.Bool.{cases_lt, cases_eq, le-leb, lt-leb, leb-true, and_right}
 use Rattle.std.proofs.lemmas.List.{get_or-set_same, get_or-set_other, get_or_read, length-map}
 use Rattle.qm_docset.specs.declared.tiny_set.TinySet.{TinySet}
 use Rattle.qm_docset.specs.TinySet.{tiny_has, tiny_members}
@@ -72,12 +72,15 @@ module _ (words : List TinySet) (place : ℕ) (was word : TinySet) (inside : pla
   module _ {C : Type 0} (states : List C) (cleared state : C) (room : place < length states) where
     pub state_of_place-put : state_of_place (set words (place / 64) word) (set states place state) cleared place ≡ state
     state_of_place-put =
-        let here : words_have (set words (place / 64) word) place ≡ true = words_have-insert words place was word inside read added place ∙ rw (eq-eqb place place refl) in
+        let here : words_have (set words (place / 64) word) place ≡ true = words_have-insert words place was word inside read added place
+        ∙ rw (eq-eqb place place refl) in
         rw (here, get_or-set_same states place state cleared room)
 
-    pub state_of_place-other : (x : ℕ) → x ≢ place → state_of_place (set words (place / 64) word) (set states place state) cleared x ≡ state_of_place words states cleared x
+    pub state_of_place-other : (x : ℕ) → x ≢ place
+        → state_of_place (set words (place / 64) word) (set states place state) cleared x ≡ state_of_place words states cleared x
     state_of_place-other x other =
-        let same : words_have (set words (place / 64) word) x ≡ words_have words x = words_have-insert words place was word inside read added x ∙ rw (ne_eqb x place other) in
+        let same : words_have (set words (place / 64) word) x ≡ words_have words x = words_have-insert words place was word inside read added x
+        ∙ rw (ne_eqb x place other) in
         rw (same, get_or-set_other states place x state cleared other)
 
   -- the state that it had: cleared where it is new
@@ -87,14 +90,16 @@ module _ (words : List TinySet) (place : ℕ) (was word : TinySet) (inside : pla
         let none : words_have words place ≡ false = sym words_have-was ∙ not-true (tiny_has was (place % 64)) (sym tested ∙ new) in
         rw none
 
-    pub state_of_place-old : is_new ≡ false → (state : C) → state ≡ get_or states place state → place < length states → state_of_place words states cleared place ≡ state
+    pub state_of_place-old : is_new ≡ false → (state : C) → state ≡ get_or states place state → place < length states
+        → state_of_place words states cleared place ≡ state
     state_of_place-old old state is room =
         let there : words_have words place ≡ true = sym words_have-was ∙ not-false (tiny_has was (place % 64)) (sym tested ∙ old) in
         let known = get_or_read states place state room is cleared in
         rw there (sym known)
 
 -- states that read alike are alike
-pub state_of_place-same : {C : Type 0} (words : List TinySet) (states others : List C) (cleared : C) → ((x : ℕ) → get_or states x cleared ≡ get_or others x cleared)
+pub state_of_place-same : {C : Type 0} (words : List TinySet) (states others : List C) (cleared : C)
+    → ((x : ℕ) → get_or states x cleared ≡ get_or others x cleared)
     → (x : ℕ) → state_of_place words states cleared x ≡ state_of_place words others cleared x
 state_of_place-same words states others cleared same x = ap (λ s. cond (words_have words x) s cleared) (same x)
 
@@ -114,7 +119,8 @@ module _ {C : Type 0} (start : ℕ) (words : List TinySet) (states : List C) (co
 -- where the words before a bucket have nothing from `low` on, its word from there tells
 module _ (words : List TinySet) (bucket low : ℕ) (word : TinySet) (none : HasNone (words_have words) low (64 * bucket))
     (is : (x : ℕ) → x < 64 → tiny_has word x ≡ (nat_le low (64 * bucket + x) && words_have words (64 * bucket + x))) where
-  pub first_in : (bound lowest : ℕ) → 64 * (bucket + 1) ≤ bound → Some lowest ≡ slice_get (tiny_members word) 0 → (lowest < 64) × IsFirst (words_have words) low bound (64 * bucket + lowest)
+  pub first_in : (bound lowest : ℕ) → 64 * (bucket + 1) ≤ bound → Some lowest ≡ slice_get (tiny_members word) 0
+      → (lowest < 64) × IsFirst (words_have words) low bound (64 * bucket + lowest)
   unfolding tiny_members
   first_in bound lowest fits read =
       let f = first-from_Some (tiny_has word) 0 64 lowest read in
@@ -148,23 +154,28 @@ module _ (words : List TinySet) (bucket low : ℕ) (word : TinySet) (none : HasN
   ]
 
 -- the word of a bucket from a place in it on, and of a later bucket
-pub masked : (words : List TinySet) (from x : ℕ) (was : TinySet) → from / 64 < length words → was ≡ get_or words (from / 64) was → x < 64 → (tiny_has was x && (nat_le (from % 64) x && nat_lt x 64)) ≡ (nat_le from (64 * (from / 64) + x) && words_have words (64 * (from / 64) + x))
+pub masked : (words : List TinySet) (from x : ℕ) (was : TinySet) → from / 64 < length words → was ≡ get_or words (from / 64) was → x < 64
+    → (tiny_has was x && (nat_le (from % 64) x && nat_lt x 64)) ≡ (nat_le from (64 * (from / 64) + x) && words_have words (64 * (from / 64) + x))
 masked words from x was inside read small =
     let known = get_or_read words (from / 64) was inside read (record { bits = 0 }) in
-    let here : words_have words (64 * (from / 64) + x) ≡ tiny_has was x = words_have-at words (from / 64) x small ∙ ap (λ (w : TinySet). tiny_has w x) (sym known) in
+    let here : words_have words (64 * (from / 64) + x) ≡ tiny_has was x = words_have-at words (from / 64) x small
+    ∙ ap (λ (w : TinySet). tiny_has w x) (sym known) in
     elim (cases_lt x (from % 64)) [
       | inl before ↦ rw (lt-leb (from % 64) x before, lt-leb from (64 * (from / 64) + x) (omega arith)) (and_right (tiny_has was x) false refl)
       | inr past ↦ rw (le-leb (from % 64) x past, le-leb from (64 * (from / 64) + x) (omega arith), lt-ltb x 64 small, here) (and_true (tiny_has was x))
     ]
 
-pub unmasked : (words : List TinySet) (low i x : ℕ) (was : TinySet) → i < length words → was ≡ get_or words i was → low ≤ 64 * i → x < 64 → tiny_has was x ≡ (nat_le low (64 * i + x) && words_have words (64 * i + x))
+pub unmasked : (words : List TinySet) (low i x : ℕ) (was : TinySet) → i < length words → was ≡ get_or words i was → low ≤ 64 * i → x < 64
+    → tiny_has was x ≡ (nat_le low (64 * i + x) && words_have words (64 * i + x))
 unmasked words low i x was inside read past small =
     let known = get_or_read words i was inside read (record { bits = 0 }) in
     let here : words_have words (64 * i + x) ≡ tiny_has was x = words_have-at words i x small ∙ ap (λ (w : TinySet). tiny_has w x) (sym known) in
     rw (le-leb low (64 * i + x) (omega arith), here) refl
 
 -- the word of a bucket, with a mask from a place in it on
-pub intersected : (words : List TinySet) (from : ℕ) (was mask word : TinySet) → from / 64 < length words → was ≡ get_or words (from / 64) was → ((x : ℕ) → tiny_has word x ≡ (tiny_has was x && tiny_has mask x)) → ((x : ℕ) → tiny_has mask x ≡ (nat_le (from % 64) x && nat_lt x 64)) → (x : ℕ) → x < 64 → tiny_has word x ≡ (nat_le from (64 * (from / 64) + x) && words_have words (64 * (from / 64) + x))
+pub intersected : (words : List TinySet) (from : ℕ) (was mask word : TinySet) → from / 64 < length words → was ≡ get_or words (from / 64) was
+    → ((x : ℕ) → tiny_has word x ≡ (tiny_has was x && tiny_has mask x)) → ((x : ℕ) → tiny_has mask x ≡ (nat_le (from % 64) x && nat_lt x 64))
+    → (x : ℕ) → x < 64 → tiny_has word x ≡ (nat_le from (64 * (from / 64) + x) && words_have words (64 * (from / 64) + x))
 intersected words from was mask word inside read both is x small = both x ∙ ap (λ b. tiny_has was x && b) (is x) ∙ masked words from x was inside read small
 
 -- nothing lies before the bucket of a place, from that place on
@@ -173,7 +184,8 @@ none_before words from = λ y above before. absurd (omega arith)
 
 -- by documents
 module _ (start : ℕ) (words : List TinySet) (doc low : ℕ) (place_of : low ≡ doc - start) where
-  pub first_at : (bound p : ℕ) → IsFirst (words_have words) low bound p → slice_get (members_between (has_at start words) doc (start + bound)) 0 ≡ Some (start + p)
+  pub first_at : (bound p : ℕ) → IsFirst (words_have words) low bound p
+      → slice_get (members_between (has_at start words) doc (start + bound)) 0 ≡ Some (start + p)
   first_at bound p first =
       Some-from_first (has_at start words) doc (start + bound) (start + p) (record {
         above = omega (arith, first.above);
@@ -196,7 +208,9 @@ module _ (start : ℕ) (words : List TinySet) (doc low : ℕ) (place_of : low �
 -- ---- words are cut
 
 -- A word is cut at a place within it, after all before it were emptied.
-pub words_have-cut : (old : ℕ → Bool) (words : List TinySet) (i low : ℕ) (was word : TinySet) → i < length words → was ≡ get_or words i was → ((x : ℕ) → words_have words x ≡ (nat_le (64 * i) x && old x)) → 64 * i ≤ low → low ≤ 64 * (i + 1) → ((x : ℕ) → x < 64 → tiny_has word x ≡ (nat_le low (64 * i + x) && tiny_has was x))
+pub words_have-cut : (old : ℕ → Bool) (words : List TinySet) (i low : ℕ) (was word : TinySet) → i < length words → was ≡ get_or words i was
+    → ((x : ℕ) → words_have words x ≡ (nat_le (64 * i) x && old x)) → 64 * i ≤ low → low ≤ 64 * (i + 1)
+    → ((x : ℕ) → x < 64 → tiny_has word x ≡ (nat_le low (64 * i + x) && tiny_has was x))
     → (x : ℕ) → words_have (set words i word) x ≡ (nat_le low x && old x)
 words_have-cut old words i low was word inside read cut above below is x =
     let known = get_or_read words i was inside read (record { bits = 0 }) in
@@ -219,7 +233,8 @@ words_have-cut old words i low was word inside read cut above below is x =
     ]
 
 -- the mask of a place's bucket cuts its word there
-pub cut_word : (from x : ℕ) (was mask word : TinySet) → ((y : ℕ) → tiny_has word y ≡ (tiny_has was y && tiny_has mask y)) → ((y : ℕ) → tiny_has mask y ≡ (nat_le (from % 64) y && nat_lt y 64)) → x < 64 → tiny_has word x ≡ (nat_le from (64 * (from / 64) + x) && tiny_has was x)
+pub cut_word : (from x : ℕ) (was mask word : TinySet) → ((y : ℕ) → tiny_has word y ≡ (tiny_has was y && tiny_has mask y))
+    → ((y : ℕ) → tiny_has mask y ≡ (nat_le (from % 64) y && nat_lt y 64)) → x < 64 → tiny_has word x ≡ (nat_le from (64 * (from / 64) + x) && tiny_has was x)
 cut_word from x was mask word both is small =
     both x ∙ ap (λ b. tiny_has was x && b) (is x) ∙ elim (cases_lt x (from % 64)) [
       | inl before ↦ rw (lt-leb (from % 64) x before, lt-leb from (64 * (from / 64) + x) (omega arith)) (and_right (tiny_has was x) false refl)
@@ -227,7 +242,8 @@ cut_word from x was mask word both is small =
     ]
 
 -- the documents of words that are cut
-pub has_at-cut : (start doc : ℕ) (words others : List TinySet) → ((x : ℕ) → words_have others x ≡ (nat_le (doc - start) x && words_have words x)) → (d : ℕ) → has_at start others d ≡ (nat_le doc d && has_at start words d)
+pub has_at-cut : (start doc : ℕ) (words others : List TinySet) → ((x : ℕ) → words_have others x ≡ (nat_le (doc - start) x && words_have words x))
+    → (d : ℕ) → has_at start others d ≡ (nat_le doc d && has_at start words d)
 has_at-cut start doc words others cut d =
     elim (cases_lt d start) [
       | inl before ↦ has_at-before start others d before ∙ sym (and_right (nat_le doc d) (has_at start words d) (has_at-before start words d before))
@@ -240,28 +256,35 @@ has_at-cut start doc words others cut d =
     ]
 
 -- past all words nothing is left
-pub words_have-cut_all : (words : List TinySet) (k x : ℕ) → length words ≤ 64 → 4096 ≤ k → (nat_le 4096 x && words_have words x) ≡ (nat_le k x && words_have words x)
+pub words_have-cut_all : (words : List TinySet) (k x : ℕ) → length words ≤ 64 → 4096 ≤ k
+    → (nat_le 4096 x && words_have words x) ≡ (nat_le k x && words_have words x)
 words_have-cut_all words k x short past = elim (cases_lt x 4096) [
   | inl inside ↦ rw (lt-leb 4096 x inside, lt-leb k x (omega arith))
   | inr outside ↦ rw (words_have-past words x (omega arith)) (and_right (nat_le 4096 x) false refl ∙ sym (and_right (nat_le k x) false refl))
 ]
 
 -- the state of a document that stays
-pub state_at-same : {C : Type 0} (start start' : ℕ) (words words' : List TinySet) (states states' : List C) (combiner combiner' : C) (d : ℕ) → start' ≡ start → states' ≡ states → combiner' ≡ combiner → has_at start' words' d ≡ has_at start words d → state_at start' words' states' combiner' d ≡ state_at start words states combiner d
+pub state_at-same : {C : Type 0} (start start' : ℕ) (words words' : List TinySet) (states states' : List C) (combiner combiner' : C) (d : ℕ)
+    → start' ≡ start → states' ≡ states → combiner' ≡ combiner → has_at start' words' d ≡ has_at start words d
+    → state_at start' words' states' combiner' d ≡ state_at start words states combiner d
 state_at-same start start' words words' states states' combiner combiner' d s t c h = rw (h, s, t, c) refl
 
 -- ---- documents are counted
 
-pub length-has_at : (start : ℕ) (words : List TinySet) → length (members_between (has_at start words) 0 (start + 4096)) ≡ length (members_between (words_have words) 0 4096)
-length-has_at start words =
-    let from_start = members_between-skip (has_at start words) 0 start (start + 4096) (omega arith) (λ x above before. has_at-before start words x before) in
-    let shifted = members_between-shift (has_at start words) start 0 4096 in
+pub length-has_at : (start : ℕ) (words : List TinySet) (n : ℕ)
+    → length (members_between (has_at start words) 0 (start + n)) ≡ length (members_between (words_have words) 0 n)
+length-has_at start words n =
+    let from_start = members_between-skip (has_at start words) 0 start (start + n) (omega arith) (λ x above before. has_at-before start words x before) in
+    let shifted = members_between-shift (has_at start words) start 0 n in
     let low : start + 0 ≡ start = omega arith in
-    let same = members_between-same (λ x. has_at start words (start + x)) (words_have words) 0 4096 (λ x above below. has_at-from start words (start + x) (omega arith) ∙ (let place : start + x - start ≡ x = omega arith in rw place refl)) in
-    ap length (from_start ∙ rw low at shifted) ∙ length-map (members_between (λ x. has_at start words (start + x)) 0 4096) (λ x. start + x) ∙ ap length same
+    let place : (x : ℕ) → start + x - start ≡ x = λ x. omega arith in
+    let same = members_between-same (λ x. has_at start words (start + x)) (words_have words) 0 n
+    (λ x above below. has_at-from start words (start + x) (omega arith) ∙ ap (words_have words) (place x)) in
+    ap length (from_start ∙ rw low at shifted) ∙ length-map (members_between (λ x. has_at start words (start + x)) 0 n) (λ x. start + x) ∙ ap length same
 
 -- a place that is added, by its document
-pub has_at-put : (start doc : ℕ) (words more : List TinySet) → start ≤ doc → ((x : ℕ) → words_have more x ≡ (x == doc - start || words_have words x)) → (d : ℕ) → has_at start more d ≡ (d == doc || has_at start words d)
+pub has_at-put : (start doc : ℕ) (words more : List TinySet) → start ≤ doc → ((x : ℕ) → words_have more x ≡ (x == doc - start || words_have words x))
+    → (d : ℕ) → has_at start more d ≡ (d == doc || has_at start words d)
 has_at-put start doc words more low is d =
     elim (cases_lt d start) [
       | inl before ↦ has_at-before start more d before ∙ sym (rw (ne_eqb d doc (omega arith), has_at-before start words d before) refl)

@@ -1,6 +1,7 @@
 //! A window of documents, each with what a combiner makes of the scores that were added to it.
 
-ghost use Rattle.std.specs.Prelude.{◌≡◌, ℕ, ◌+◌, ◌<◌, ◌≤◌, ◌≢◌, slice_index_or, ◌==◌, ◌||◌, ◌++◌, length, map, min, take, vec_capacity, vec_len};
+ghost use Rattle.std.specs.Prelude.{◌≡◌, ℕ, ◌+◌, ◌*◌, ◌<◌, ◌≤◌, ◌≢◌, ◌==◌, ◌||◌, ◌++◌};
+ghost use Rattle.std.specs.Prelude.{length, map, min, slice_index_or, take, vec_capacity, vec_len};
 ghost use Rattle.qm_docset.specs.Entry.{head_document, head_score};
 ghost use Rattle.qm_docset.specs.Lists.{IsPlaced, Lists};
 ghost use Rattle.qm_docset.specs.TinySet.{tiny_members};
@@ -87,6 +88,15 @@ impl<C: ScoreCombiner> Window<C> {
         self.last
     }
 
+    // How many words there are up to that of its last.
+    fn words(&self) -> usize
+        ensures within { result ≤ 64 }
+        ensures last { min (window_last self.now + 1) (window_end self.now) ≤ window_start self.now + 64 * result }
+    {
+        let last = self.last.saturating_sub(self.start);
+        (last as usize / 64 + 1).min(64)
+    }
+
     /// Leaves no document, and spans those from `start` on, which is below [`TERMINATED`].
     pub fn reset(&mut self, start: DocId)
         requires { start < TERMINATED }
@@ -97,6 +107,7 @@ impl<C: ScoreCombiner> Window<C> {
     {
         self.start = start;
         self.last = start;
+        // the words before are empty
         for bucket in self.buckets.iter_mut() {
             bucket.clear();
         }
@@ -140,9 +151,11 @@ impl<C: ScoreCombiner> Window<C> {
         requires room { (d : ℕ) → HasRoomFor C.step C.cleared (S.limits scorer.old).top (window_state self.old d) }
         ensures head { result ≡ head_document (S.entries scorer.new) }
         ensures left { Lists S.DocSet scorer.new (from bound (S.entries scorer.old)) (S.limits scorer.old) }
-        ensures documents { (d : ℕ) → d < bound → window_has self.new d ≡ (window_has self.old d || nat_le 1 (length (scores_of d (S.entries scorer.old)))) }
+        ensures documents { (d : ℕ) → d < bound →
+            window_has self.new d ≡ (window_has self.old d || nat_le 1 (length (scores_of d (S.entries scorer.old)))) }
         ensures beyond { (d : ℕ) → bound ≤ d → window_has self.new d ≡ window_has self.old d }
-        ensures states { (d : ℕ) → d < bound → window_state self.new d ≡ fold C.step (window_state self.old d) (scores_of d (S.entries scorer.old)) }
+        ensures states { (d : ℕ) → d < bound →
+            window_state self.new d ≡ fold C.step (window_state self.old d) (scores_of d (S.entries scorer.old)) }
         ensures start { window_start self.new ≡ window_start self.old }
         ensures until { IsUntil self.old → IsUntil self.new }
         ensures combiner { window_combiner self.new ≡ window_combiner self.old }
@@ -199,8 +212,9 @@ impl<C: ScoreCombiner> Window<C> {
     }
 
     /// Puts the first of its documents at or past `doc` into the front of the places, as many as there
-    /// is room for, and answers how many they are.
+    /// is room for, and answers how many they are. Looks at no word behind that of its last.
     pub fn fill(&self, doc: DocId, places: &mut [DocId]) -> usize
+        requires until { IsUntil self.now }
         ensures count { result ≡ min (length places.old) (length (window_from self.now doc)) }
         ensures documents { take result places.new ≡ take result (window_from self.now doc) }
     {
@@ -212,7 +226,7 @@ impl<C: ScoreCombiner> Window<C> {
         let word = self.buckets[first].intersect(TinySet::range_greater_or_equal(from));
         let mut taken = fill_word(word, self.start + first as u32 * 64, places, 0);
         // what the words before the bucket have from there on was taken, as far as there was room
-        for bucket in first + 1..64 {
+        for bucket in first + 1..self.words() {
             if taken == places.len() {
                 return taken;
             }
@@ -245,6 +259,7 @@ impl<C: ScoreCombiner> Window<C> {
         ensures documents { (d : ℕ) → window_has self.new d ≡ (nat_le doc d && window_has self.old d) }
         ensures state { (d : ℕ) → doc ≤ d → window_state self.new d ≡ window_state self.old d }
         ensures last { window_last self.new ≡ window_last self.old }
+        ensures until { IsUntil self.old → IsUntil self.new }
         ensures combiner { window_combiner self.new ≡ window_combiner self.old }
     {
         let below = doc.saturating_sub(self.start).min(HORIZON);
@@ -260,26 +275,17 @@ impl<C: ScoreCombiner> Window<C> {
         }
     }
 
-    /// How many documents it has.
+    /// How many documents it has. Looks at no word behind that of its last.
     pub fn len(&self) -> u32
+        requires until { IsUntil self.now }
         ensures { result ≡ length (window_from self.now 0) }
     {
         let mut count = 0;
-        // so many have the words before
-        for bucket in &self.buckets {
-            count += bucket.len();
+        // so many have the words before the bucket
+        for bucket in 0..self.words() {
+            count += self.buckets[bucket].len();
         }
         count
-    }
-
-    // Whether it has one in sixteen of so many documents. Looks at no word behind that of its last.
-    pub(super) fn is_dense(&self, span: u32) -> bool {
-        let words = (self.last.saturating_sub(self.start) / 64 + 1).min(64);
-        let mut count = 0u32;
-        for bucket in 0..words as usize {
-            count = count.saturating_add(self.buckets[bucket].len());
-        }
-        count >= span / 16
     }
 }
 
@@ -312,8 +318,10 @@ fn put<S: Scorer, C: ScoreCombiner>(
     requires here { head_document (S.entries scorer.old) < TERMINATED }
     requires room { C.has_room (state_of_place buckets.old states.old.items cleared place) (S.limits scorer.old).top }
     ensures documents { (x : ℕ) → words_have buckets.new x ≡ (x == place || words_have buckets.old x) }
-    ensures state { state_of_place buckets.new states.new.items cleared place ≡ C.step (state_of_place buckets.old states.old.items cleared place) (head_score (S.entries scorer.old)) }
-    ensures others { (x : ℕ) → x ≢ place → state_of_place buckets.new states.new.items cleared x ≡ state_of_place buckets.old states.old.items cleared x }
+    ensures state { state_of_place buckets.new states.new.items cleared place
+        ≡ C.step (state_of_place buckets.old states.old.items cleared place) (head_score (S.entries scorer.old)) }
+    ensures others { (x : ℕ) → x ≢ place →
+        state_of_place buckets.new states.new.items cleared x ≡ state_of_place buckets.old states.old.items cleared x }
     ensures room { 4096 ≤ vec_capacity states.new }
     ensures left { Lists S.DocSet scorer.new (S.entries scorer.old) (S.limits scorer.old) }
 {

@@ -1,5 +1,5 @@
 -- A place that is new begins cleared, and one that was there goes on.
-use Rattle.std.proofs.Common.{◌≡◌, ◌<◌, ◌/◌, get_or, length, true, false, not, sym, ap, subst, ◌∙◌, arith}
+use Rattle.std.proofs.Common.{◌≡◌, ◌<◌, ◌/◌, get_or, length, sym, ap, subst, ◌∙◌, arith}
 use Rattle.qm_docset.specs.declared.tiny_set.TinySet.{TinySet}
 use Rattle.qm_docset.specs.Entry.{head_score}
 use Rattle.qm_docset.proofs.BitSetLemmas.{words_have-insert}
@@ -22,12 +22,14 @@ begins g c =
       | then-is_new b ↦ state_of_place-new words c.args.place was c.insert_mut-is_new.new.self inside read c.insert_mut-is_new.ensures.members
           states.items c.args.cleared c.insert_mut-is_new.result c.insert_mut-is_new.ensures.new b.if-is_new.true ∙ sym b.state-is
       | else-is_new b ↦ state_of_place-old words c.args.place was c.insert_mut-is_new.new.self inside read c.insert_mut-is_new.ensures.members
-          states.items c.args.cleared c.insert_mut-is_new.result c.insert_mut-is_new.ensures.new b.if-is_new.false b.index.result.now b.index.ensures there ∙ sym b.state-is
+          states.items c.args.cleared c.insert_mut-is_new.result c.insert_mut-is_new.ensures.new b.if-is_new.false b.index.result.now b.index.ensures
+          there ∙ sym b.state-is
     ]
 
 pub update-requires-clause-room : goal.update-requires-clause-room
 update-requires-clause-room g c =
-    subst (λ s. g.C.ScoreCombiner.has_room s (g.S.DocSet.limits c.args.scorer.now).top) (begins g (goal.at.update-requires-clause-room g c).Joined-is_new) c.requires.room
+    subst (λ s. g.C.ScoreCombiner.has_room s (g.S.DocSet.limits c.args.scorer.now).top)
+    (begins g (goal.at.update-requires-clause-room g c).Joined-is_new) c.requires.room
 
 pub returns-clause-documents : goal.returns-clause-documents
 returns-clause-documents g c =
@@ -35,7 +37,8 @@ returns-clause-documents g c =
     let i = c.args.place / 64 in
     let was : TinySet = get_or words i (record { bits = 0 }) in
     let inside : i < length words = omega (arith, c.requires.place, c.requires.buckets) in
-    words_have-insert words c.args.place was c.insert_mut-is_new.new.self inside (get_or-there words i (record { bits = 0 }) was inside) c.insert_mut-is_new.ensures.members
+    words_have-insert words c.args.place was c.insert_mut-is_new.new.self inside (get_or-there words i (record { bits = 0 }) was inside)
+    c.insert_mut-is_new.ensures.members
 
 pub returns-clause-state : goal.returns-clause-state
 returns-clause-state g c =

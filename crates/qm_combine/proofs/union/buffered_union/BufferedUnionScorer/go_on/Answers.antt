@@ -1,15 +1,13 @@
 -- It stands on the least document of its members, with the window there, or is at its end.
-use Rattle.std.proofs.Common.{◌≡◌, ℕ, ◌<◌, ◌≤◌, true, All, List, length, map, max, pos, subst, arith, ap, ap₂, refl, sym, ◌∙◌}
-use Rattle.qm_docset.specs.Entry.{AreEntries, Entry, Limits, head_document}
+use Rattle.std.proofs.Common.{◌≡◌, List, length, map, max, pos, subst, arith, ap, refl, sym, ◌∙◌}
+use Rattle.qm_docset.specs.Entry.{AreEntries, Limits, head_document}
 use Rattle.qm_docset.specs.Gather.{gather}
 use Rattle.qm_docset.specs.GatherFacts.{AreMembers-map}
 use Rattle.qm_docset.specs.Lists.{bounds, lists}
-use Rattle.qm_docset.specs.declared.numbers.TheConstants.{TERMINATED}
 use Rattle.qm_combine.specs.BufferedUnion.{IsBufferedUnion, union_entries}
 use Rattle.qm_combine.specs.Combiner.{IsCleared}
-use Rattle.qm_combine.specs.Union.{AreEntries-union, least_head, total_top, united_limits}
+use Rattle.qm_combine.specs.Union.{AreEntries-union, total_top, united_limits}
 use Rattle.qm_combine.specs.Window.{window_combiner, window_has, window_state}
-use Rattle.qm_combine.specs.Windowed.{windowed}
 use Rattle.qm_combine.proofs.Leading.{whole}
 use Rattle.qm_combine.proofs.Uniting.{head_document-members, least_head-most}
 use Rattle.qm_combine.proofs.Windows.{windowed-ended}
@@ -19,25 +17,36 @@ use Rattle.qm_combine.proofs.union.buffered_union.BufferedUnionScorer.go_on.Give
 
 -- the least document of the members, and what they have left
 module _ (g : Over) (c : Start g) where
-  least : c.args.self.now.ahead ≡ head_document (gather 1 (g.C.ScoreCombiner.combined (window_combiner c.args.self.now.window)) (lists g.S.DocSet c.args.self.now.members.items))
-  least = c.requires.ahead ∙ head_document-members g.S.DocSet.valid g.S.DocSet.limits g.S.DocSet.entries g.met.S.DocSet.ascending (g.C.ScoreCombiner.combined (window_combiner c.args.self.now.window)) c.args.self.now.members.items c.requires.parts.valid
+  least : c.args.self.now.ahead ≡ head_document
+      (gather 1 (g.C.ScoreCombiner.combined (window_combiner c.args.self.now.window)) (lists g.S.DocSet c.args.self.now.members.items))
+  least = c.requires.ahead ∙ head_document-members g.S.DocSet.valid g.S.DocSet.limits g.S.DocSet.entries g.met.S.DocSet.ascending
+      (g.C.ScoreCombiner.combined (window_combiner c.args.self.now.window)) c.args.self.now.members.items c.requires.parts.valid
 
-  ascends : AreEntries 0 (united_limits (bounds g.S.DocSet c.args.self.now.members.items)) (gather 1 (g.C.ScoreCombiner.combined (window_combiner c.args.self.now.window)) (lists g.S.DocSet c.args.self.now.members.items))
+  ascends : AreEntries 0 (united_limits (bounds g.S.DocSet c.args.self.now.members.items))
+      (gather 1 (g.C.ScoreCombiner.combined (window_combiner c.args.self.now.window)) (lists g.S.DocSet c.args.self.now.members.items))
   ascends =
       let s = c.args.self.now in
       let k = window_combiner s.window in
-      AreEntries-union (g.C.ScoreCombiner.combined k) (g.met.C.ScoreCombiner.bounded k) 1 g.S.DocSet.limits g.S.DocSet.entries s.members.items (λ i d below. g.met.S.DocSet.ascending _ (c.requires.parts.valid i d below)) c.requires.parts.fits
+      AreEntries-union (g.C.ScoreCombiner.combined k) (g.met.C.ScoreCombiner.bounded k) 1 g.S.DocSet.limits g.S.DocSet.entries s.members.items
+      (λ i d below. g.met.S.DocSet.ascending _ (c.requires.parts.valid i d below)) c.requires.parts.fits
 
 -- all is behind the window: nothing is left
-ended : (g : Over) (c : Then-self-eq-TERMINATED g) → union_entries g.S.DocSet g.C.ScoreCombiner.combined g.C.ScoreCombiner.value c.args.self.now.window c.args.self.now.ahead c.args.self.now.members.items ≡ gather 1 (g.C.ScoreCombiner.combined (window_combiner c.args.self.now.window)) (lists g.S.DocSet c.args.self.now.members.items)
+ended : (g : Over) (c : Then-self-eq-TERMINATED g)
+    → union_entries g.S.DocSet g.C.ScoreCombiner.combined g.C.ScoreCombiner.value c.args.self.now.window c.args.self.now.ahead
+    c.args.self.now.members.items ≡ gather 1 (g.C.ScoreCombiner.combined (window_combiner c.args.self.now.window))
+    (lists g.S.DocSet c.args.self.now.members.items)
 ended g c =
     let s = c.args.self.now in
-    let members = AreMembers-map g.S.DocSet.limits g.S.DocSet.entries s.members.items (λ k d inside. g.met.S.DocSet.ascending _ (c.requires.parts.valid k d inside)) in
-    windowed-ended (window_has s.window) (λ d. g.C.ScoreCombiner.value (window_state s.window d)) (g.C.ScoreCombiner.combined (window_combiner s.window)) _ _ members s.ahead c.requires.behind (λ d here. let below = c.requires.behind d here in omega (arith, c.requires.ahead))
+    let members = AreMembers-map g.S.DocSet.limits g.S.DocSet.entries s.members.items
+    (λ k d inside. g.met.S.DocSet.ascending _ (c.requires.parts.valid k d inside)) in
+    windowed-ended (window_has s.window) (λ d. g.C.ScoreCombiner.value (window_state s.window d))
+    (g.C.ScoreCombiner.combined (window_combiner s.window)) _ _ members s.ahead c.requires.behind (λ d here. let below =
+    c.requires.behind d here in omega (arith, c.requires.ahead))
 
 pub returns-then-self-eq-TERMINATED-clause-head : goal.returns-then-self-eq-TERMINATED-clause-head
 returns-then-self-eq-TERMINATED-clause-head g c =
-    sym c.if-self-eq-TERMINATED.true ∙ least g (goal.at.returns-then-self-eq-TERMINATED-clause-head g c).Start ∙ sym (ap head_document (ended g (goal.at.returns-then-self-eq-TERMINATED-clause-head g c).Then-self-eq-TERMINATED))
+    sym c.if-self-eq-TERMINATED.true ∙ least g (goal.at.returns-then-self-eq-TERMINATED-clause-head g c).Start
+    ∙ sym (ap head_document (ended g (goal.at.returns-then-self-eq-TERMINATED-clause-head g c).Then-self-eq-TERMINATED))
 
 pub returns-then-self-eq-TERMINATED-clause-left : goal.returns-then-self-eq-TERMINATED-clause-left
 returns-then-self-eq-TERMINATED-clause-left g c =
@@ -63,11 +72,16 @@ returns-then-self-eq-TERMINATED-clause-left g c =
     }
 
 pub refill-self-requires-clause-some : goal.refill-self-requires-clause-some
-refill-self-requires-clause-some g c = omega (arith, c.requires.ahead, least_head-most (lists g.S.DocSet c.args.self.now.members.items), c.if-self-eq-TERMINATED.false)
+refill-self-requires-clause-some g c =
+    omega (arith, c.requires.ahead, least_head-most (lists g.S.DocSet c.args.self.now.members.items), c.if-self-eq-TERMINATED.false)
 
 -- the window was filled anew
-filled : (g : Over) (c : After-refill-self g) → union_entries g.S.DocSet g.C.ScoreCombiner.combined g.C.ScoreCombiner.value c.refill-self.new.window c.args.self.now.ahead c.refill-self.new.members ≡ gather 1 (g.C.ScoreCombiner.combined (window_combiner c.args.self.now.window)) (lists g.S.DocSet c.args.self.now.members.items)
-filled g c = c.refill-self.ensures.entries ∙ ap (λ xs. gather 1 (g.C.ScoreCombiner.combined (window_combiner c.args.self.now.window)) (lists g.S.DocSet xs)) c.deref_mut.ensures.value
+filled : (g : Over) (c : After-refill-self g)
+    → union_entries g.S.DocSet g.C.ScoreCombiner.combined g.C.ScoreCombiner.value c.refill-self.new.window c.args.self.now.ahead
+    c.refill-self.new.members ≡ gather 1 (g.C.ScoreCombiner.combined (window_combiner c.args.self.now.window))
+    (lists g.S.DocSet c.args.self.now.members.items)
+filled g c = c.refill-self.ensures.entries
+    ∙ ap (λ xs. gather 1 (g.C.ScoreCombiner.combined (window_combiner c.args.self.now.window)) (lists g.S.DocSet xs)) c.deref_mut.ensures.value
 
 pub returns-clause-left : goal.returns-clause-left
 returns-clause-left g c =
@@ -82,7 +96,8 @@ returns-clause-left g c =
     let all = filled g (goal.at.returns-clause-left g c).After-refill-self in
     let union = gather 1 (g.C.ScoreCombiner.combined (window_combiner s.window)) (lists g.S.DocSet s.members.items) in
     let ascending = subst (λ (ls : List Limits). AreEntries 0 (united_limits ls) union) (sym limits) (ascends g (goal.at.returns-clause-left g c).Start) in
-    let valid : IsBufferedUnion g.S.DocSet g.C.ScoreCombiner.combined g.C.ScoreCombiner.value g.C.ScoreCombiner.cleared new w s.ahead c.refill-self.result s.max_score =
+    let valid : IsBufferedUnion g.S.DocSet g.C.ScoreCombiner.combined g.C.ScoreCombiner.value g.C.ScoreCombiner.cleared new w s.ahead
+    c.refill-self.result s.max_score =
     record {
       parts = record {
         valid = r.members.valid;
@@ -104,7 +119,8 @@ returns-clause-left g c =
     record {
       entries = ap (λ xs. union_entries g.S.DocSet g.C.ScoreCombiner.combined g.C.ScoreCombiner.value w s.ahead xs) same ∙ all;
       limits = ap (λ xs. united_limits (bounds g.S.DocSet xs)) same ∙ ap united_limits limits;
-      valid = subst (λ xs. IsBufferedUnion g.S.DocSet g.C.ScoreCombiner.combined g.C.ScoreCombiner.value g.C.ScoreCombiner.cleared xs w s.ahead c.refill-self.result s.max_score) (sym same) valid;
+      valid = subst (λ xs. IsBufferedUnion g.S.DocSet g.C.ScoreCombiner.combined g.C.ScoreCombiner.value g.C.ScoreCombiner.cleared xs w s.ahead
+          c.refill-self.result s.max_score) (sym same) valid;
       placed = tt;
     }
 

@@ -1,11 +1,10 @@
 -- What the window gives is the front of what is listed, and it goes past the last of that.
-use Rattle.std.proofs.Common.{◌≡◌, ℕ, ◌+◌, ◌-◌, ◌<◌, ◌≤◌, List, drop, get_or, length, map, min, take, refl, arith, ap, sym, ◌∙◌}
-use Rattle.qm_docset.specs.Entry.{Entry, Limits}
+use Rattle.std.proofs.Common.{ℕ, ◌-◌, ◌<◌, ◌≤◌, get_or, length, map, refl, arith, ◌∙◌}
 use Rattle.qm_docset.specs.Gather.{AreMembers}
 use Rattle.qm_docset.specs.GatherFacts.{AreMembers-map}
 use Rattle.qm_docset.specs.declared.numbers.TheConstants.{TERMINATED}
-use Rattle.qm_combine.specs.Union.{least_head, united_limits}
-use Rattle.qm_combine.specs.Window.{window_combiner, window_from, window_has, window_state}
+use Rattle.qm_combine.specs.Union.{united_limits}
+use Rattle.qm_combine.specs.Window.{window_combiner, window_from, window_state}
 use Rattle.qm_combine.proofs.Uniting.{least_head-most}
 use Rattle.qm_combine.proofs.WindowTaken.{behind-last, last-before, last-past, taken-within, window-some, window-taken}
 use Rattle.qm_combine.proofs.union.buffered_union.BufferedUnionScorer.take_window.Goals as goal
@@ -17,13 +16,21 @@ record Counted (n room all : ℕ) : Type 0 where
   few : n ≤ all
   fits : n ≤ room
 
-counted : (g : Over) (c : After-fill-count g) → Counted c.fill-count.result (length c.args.places.now) (length (window_from c.args.self.now.window c.args.self.now.doc))
+counted : (g : Over) (c : After-fill-count g)
+    → Counted c.fill-count.result (length c.args.places.now) (length (window_from c.args.self.now.window c.args.self.now.doc))
 counted g c =
     let first = window-some c.args.self.now.window c.args.self.now.doc (c.requires.valid.standing.here c.requires.here) in
-    record { some = omega (arith, first, c.fill-count.ensures.count, c.requires.places); few = omega (arith, c.fill-count.ensures.count); fits = omega (arith, c.fill-count.ensures.count) }
+    record {
+      some = omega (arith, first, c.fill-count.ensures.count, c.requires.places);
+      few = omega (arith, c.fill-count.ensures.count);
+      fits =
+          omega (arith, c.fill-count.ensures.count);
+    }
 
-are_members : (g : Over) (c : After-fill-count g) → AreMembers (map g.S.DocSet.limits c.args.self.now.members.items) (map g.S.DocSet.entries c.args.self.now.members.items)
-are_members g c = AreMembers-map g.S.DocSet.limits g.S.DocSet.entries c.args.self.now.members.items (λ k d inside. g.met.S.DocSet.ascending _ (c.requires.valid.parts.valid k d inside))
+are_members : (g : Over) (c : After-fill-count g)
+    → AreMembers (map g.S.DocSet.limits c.args.self.now.members.items) (map g.S.DocSet.entries c.args.self.now.members.items)
+are_members g c = AreMembers-map g.S.DocSet.limits g.S.DocSet.entries c.args.self.now.members.items
+    (λ k d inside. g.met.S.DocSet.ascending _ (c.requires.valid.parts.valid k d inside))
 
 pub overflow_sub-count : goal.overflow_sub-count
 overflow_sub-count g c = (counted g (goal.at.overflow_sub-count g c).After-fill-count).some
@@ -41,13 +48,17 @@ module _ (g : Over) (c : After-fill-count g) where
   past =
       let s = c.args.self.now in
       let k = counted g c in
-      last-past s.window score s.doc s.ahead (g.C.ScoreCombiner.combined (window_combiner s.window)) (united_limits (map g.S.DocSet.limits s.members.items)) _ _ (are_members g c) c.requires.valid.standing c.fill-count.result k.few c.fill-count.new.places last 0 k.some c.fill-count.ensures.documents refl
+      last-past s.window score s.doc s.ahead (g.C.ScoreCombiner.combined (window_combiner s.window))
+      (united_limits (map g.S.DocSet.limits s.members.items)) _ _ (are_members g c) c.requires.valid.standing c.fill-count.result k.few
+      c.fill-count.new.places last 0 k.some c.fill-count.ensures.documents refl
 
   before : last < c.args.self.now.ahead
   before =
       let s = c.args.self.now in
       let k = counted g c in
-      last-before s.window score s.doc s.ahead (g.C.ScoreCombiner.combined (window_combiner s.window)) (united_limits (map g.S.DocSet.limits s.members.items)) _ _ (are_members g c) c.requires.valid.standing c.fill-count.result k.few c.fill-count.new.places last 0 k.some c.fill-count.ensures.documents refl
+      last-before s.window score s.doc s.ahead (g.C.ScoreCombiner.combined (window_combiner s.window))
+      (united_limits (map g.S.DocSet.limits s.members.items)) _ _ (are_members g c) c.requires.valid.standing c.fill-count.result k.few
+      c.fill-count.new.places last 0 k.some c.fill-count.ensures.documents refl
 
   most : c.args.self.now.ahead ≤ TERMINATED
   most = omega (arith, least_head-most (map g.S.DocSet.entries c.args.self.now.members.items), c.requires.valid.standing.next)
@@ -71,13 +82,16 @@ pub returns-clause-within : goal.returns-clause-within
 returns-clause-within g c =
     let s = c.args.self.now in
     let at = (goal.at.returns-clause-within g c).After-fill-count in
-    taken-within s.window (score g at) s.doc s.ahead (g.C.ScoreCombiner.combined (window_combiner s.window)) (united_limits (map g.S.DocSet.limits s.members.items)) _ _ (are_members g at) c.requires.valid.standing c.fill-count.result (counted g at).few
+    taken-within s.window (score g at) s.doc s.ahead (g.C.ScoreCombiner.combined (window_combiner s.window))
+    (united_limits (map g.S.DocSet.limits s.members.items)) _ _ (are_members g at) c.requires.valid.standing c.fill-count.result (counted g at).few
 
 pub returns-clause-documents : goal.returns-clause-documents
 returns-clause-documents g c =
     let s = c.args.self.now in
     let at = (goal.at.returns-clause-documents g c).After-fill-count in
-    c.fill-count.ensures.documents ∙ window-taken s.window (score g at) s.doc s.ahead (g.C.ScoreCombiner.combined (window_combiner s.window)) (united_limits (map g.S.DocSet.limits s.members.items)) _ _ (are_members g at) c.requires.valid.standing c.fill-count.result (counted g at).few
+    c.fill-count.ensures.documents
+    ∙ window-taken s.window (score g at) s.doc s.ahead (g.C.ScoreCombiner.combined (window_combiner s.window))
+    (united_limits (map g.S.DocSet.limits s.members.items)) _ _ (are_members g at) c.requires.valid.standing c.fill-count.result (counted g at).few
 
 pub returns-clause-left : goal.returns-clause-left
 returns-clause-left g c =

@@ -21,7 +21,11 @@ one_document = refl
 
 pub put-requires-clause-here : goal.put-requires-clause-here
 put-requires-clause-here g c =
-    omega (arith, ap head_document c.new-scorer.ensures.cursor.entries ∙ head_document-rescored _ _ ∙ ap head_document c.new.ensures.lists.entries ∙ ap head_document one_document)
+    omega (
+      arith,
+      ap head_document c.new-scorer.ensures.cursor.entries ∙ head_document-rescored _ _ ∙ ap head_document c.new.ensures.lists.entries
+          ∙ ap head_document one_document,
+    )
 
 pub put-requires-clause-room : goal.put-requires-clause-room
 unfolding window_state window_has
@@ -30,20 +34,24 @@ put-requires-clause-room g c =
     let here : window_state w c.args.doc ≡ state_of_place c.as_mut_slice.result.now w.states.items w.combiner (c.args.doc - w.start) =
     state_at-from w.start w.buckets.items w.states.items w.combiner c.args.doc c.requires.span.0
     ∙ ap (λ ws. state_of_place ws w.states.items w.combiner (c.args.doc - w.start)) (sym c.as_mut_slice.ensures.value) in
-    let top : nat_abs c.args.score ≡ nat_abs c.new-scorer.result.score = sym (ap (λ (l : Limits). l.top) c.new-scorer.ensures.cursor.limits ∙ ap nat_abs (to_z-of_z w64 c.args.score c.ranges.score)) in
+    let top : nat_abs c.args.score ≡ nat_abs c.new-scorer.result.score =
+    sym (ap (λ (l : Limits). l.top) c.new-scorer.ensures.cursor.limits ∙ ap nat_abs (to_z-of_z w64 c.args.score c.ranges.score)) in
     subst (λ n. g.C.ScoreCombiner.has_room (state_of_place c.as_mut_slice.result.now w.states.items w.combiner (c.args.doc - w.start)) n) top
     (subst (λ s. g.C.ScoreCombiner.has_room s (nat_abs c.args.score)) here c.requires.room)
 
 -- what the row of words holds in the end
-words : (g : Over) (c : After-put g) → take c.args.self.now.buckets.len (c.put.new.buckets ++ drop (length c.put.new.buckets) c.args.self.now.buckets.items) ≡ c.put.new.buckets
-words g c = whole c.args.self.now.buckets.len c.put.new.buckets c.args.self.now.buckets.items (c.put.auto.buckets ∙ ap length c.as_mut_slice.ensures.value) c.args.self.now.buckets.ok.0
+words : (g : Over) (c : After-put g)
+    → take c.args.self.now.buckets.len (c.put.new.buckets ++ drop (length c.put.new.buckets) c.args.self.now.buckets.items) ≡ c.put.new.buckets
+words g c = whole c.args.self.now.buckets.len c.put.new.buckets c.args.self.now.buckets.items (c.put.auto.buckets
+    ∙ ap length c.as_mut_slice.ensures.value) c.args.self.now.buckets.ok.0
 
 pub returns-clause-documents : goal.returns-clause-documents
 unfolding window_has
 returns-clause-documents g c = λ d.
     let w = c.args.self.now in
     ap (λ ws. has_at w.start ws d) (words g (goal.at.returns-clause-documents g c).After-put)
-    ∙ has_at-put w.start c.args.doc w.buckets.items c.put.new.buckets c.requires.span.0 (λ x. c.put.ensures.documents x ∙ ap (λ ws. x == c.args.doc - w.start || words_have ws x) c.as_mut_slice.ensures.value) d
+    ∙ has_at-put w.start c.args.doc w.buckets.items c.put.new.buckets c.requires.span.0 (λ x. c.put.ensures.documents x
+    ∙ ap (λ ws. x == c.args.doc - w.start || words_have ws x) c.as_mut_slice.ensures.value) d
 
 pub returns-clause-state : goal.returns-clause-state
 unfolding window_has window_state
@@ -51,7 +59,8 @@ returns-clause-state g c =
     let w = c.args.self.now in
     let a = (goal.at.returns-clause-state g c).After-put in
     let low = c.requires.span.0 in
-    let here : head_document (all_left c.new.result) < TERMINATED = omega (arith, ap head_document c.new.ensures.lists.entries, ap head_document one_document) in
+    let here : head_document (all_left c.new.result) < TERMINATED =
+    omega (arith, ap head_document c.new.ensures.lists.entries, ap head_document one_document) in
     let score = ap head_score c.new-scorer.ensures.cursor.entries ∙ head_score-rescored _ _ here in
     let then_ : state_of_place c.as_mut_slice.result.now w.states.items w.combiner (c.args.doc - w.start) ≡ window_state w c.args.doc =
     ap (λ ws. state_of_place ws w.states.items w.combiner (c.args.doc - w.start)) c.as_mut_slice.ensures.value
@@ -67,10 +76,12 @@ returns-clause-others g c = λ d other.
     let a = (goal.at.returns-clause-others g c).After-put in
     let low = c.requires.span.0 in
     ap (λ ws. state_at w.start ws c.put.new.states.items w.combiner d) (words g a) ∙ elim (cases_lt d w.start) [
-      | inl before ↦ state_at-before w.start c.put.new.buckets c.put.new.states.items w.combiner d before ∙ sym (state_at-before w.start w.buckets.items w.states.items w.combiner d before)
+      | inl before ↦ state_at-before w.start c.put.new.buckets c.put.new.states.items w.combiner d before
+          ∙ sym (state_at-before w.start w.buckets.items w.states.items w.combiner d before)
       | inr past ↦
           state_at-from w.start c.put.new.buckets c.put.new.states.items w.combiner d past ∙ c.put.ensures.others (d - w.start) (omega arith)
-          ∙ ap (λ ws. state_of_place ws w.states.items w.combiner (d - w.start)) c.as_mut_slice.ensures.value ∙ sym (state_at-from w.start w.buckets.items w.states.items w.combiner d past)
+          ∙ ap (λ ws. state_of_place ws w.states.items w.combiner (d - w.start)) c.as_mut_slice.ensures.value
+          ∙ sym (state_at-from w.start w.buckets.items w.states.items w.combiner d past)
     ]
 
 pub returns-clause-until : goal.returns-clause-until

@@ -1,5 +1,5 @@
 -- No document lies past the last.
-use Rattle.std.proofs.Common.{◌≡◌, ℕ, ◌<◌, ◌≤◌, List, slice_get, ap, sym, arith}
+use Rattle.std.proofs.Common.{ℕ, List, slice_get, ap, sym, arith}
 use Rattle.std.proofs.lemmas.Bool.{false_from_ne_true}
 use Rattle.qm_docset.proofs.MembersLemmas.{members_between-none}
 use Rattle.qm_combine.specs.Window.{window_end, window_has}

@@ -1,11 +1,11 @@
 -- A document that is there lies in the window.
-use Rattle.std.proofs.Common.{◌≡◌, ◌<◌, ◌≤◌, ◌-◌, false, get_or, length, pos, w64, ap, sym, arith, ◌∙◌, true, ℕ, refl, true≢false, inl, inr}
+use Rattle.std.proofs.Common.{◌≡◌, ◌<◌, ◌≤◌, ◌-◌, get_or, length, pos, w64, ap, sym, arith, ◌∙◌, true, ℕ, refl, true≢false, inl, inr}
 use Rattle.std.proofs.lemmas.Bool.{cases_lt}
 use Rattle.std.proofs.lemmas.Int.{to_z-of_z}
 use Rattle.std.proofs.lemmas.List.{get_or_read}
 use Rattle.qm_combine.specs.Window.{window_has, window_state}
 use Rattle.qm_combine.specs.declared.union.window.Window.{Window}
-use Rattle.qm_combine.proofs.WindowWords.{has_at, has_at-before, get_or-past}
+use Rattle.qm_combine.proofs.WindowWords.{has_at-before, get_or-past}
 use Rattle.qm_combine.proofs.union.window.Window.score.Goals as goal
 
 starts : {C : Type 0} (w : Window C) (d : ℕ) → window_has w d ≡ true → w.start ≤ d
@@ -34,4 +34,5 @@ returns-else-place-len g c =
     let w = c.args.self.now in
     let none : get_or w.states.items (c.args.doc - w.start) w.combiner ≡ w.combiner =
     get_or-past w.states.items (c.args.doc - w.start) w.combiner (omega (arith, c.if-place-len.false, w.states.ok.0)) in
-    to_z-of_z w64 c.score-else-place-len.result (record { sfits = c.score-else-place-len.type_inv }) ∙ c.score-else-place-len.ensures ∙ sym (ap (λ s. pos (g.C.ScoreCombiner.value s)) (rw c.requires none))
+    to_z-of_z w64 c.score-else-place-len.result (record { sfits = c.score-else-place-len.type_inv }) ∙ c.score-else-place-len.ensures
+    ∙ sym (ap (λ s. pos (g.C.ScoreCombiner.value s)) (rw c.requires none))

@@ -15,9 +15,14 @@ invariant-loop-doc g l = record {
   low : l.fn.self.start ≤ l.doc;
   last_low : l.last ≤ l.doc;
   until : (d : ℕ) → 1 ≤ length (taken l.doc d (g.S.DocSet.entries l.fn.scorer)) → d ≤ l.last;
-  documents : (x : ℕ) → x < 4096 → words_have l.buckets x ≡ (words_have l.fn.self.buckets.items x || nat_le 1 (length (taken l.doc (l.fn.self.start + x) (g.S.DocSet.entries l.fn.scorer))));
+  documents : (x : ℕ) → x < 4096
+      → words_have l.buckets x ≡ (words_have l.fn.self.buckets.items x || nat_le 1
+      (length (taken l.doc (l.fn.self.start + x) (g.S.DocSet.entries l.fn.scorer))));
   room : 4096 ≤ vec_capacity l.states;
-  states : (x : ℕ) → x < 4096 → state_of_place l.buckets l.states.items l.fn.self.combiner x ≡ fold g.C.ScoreCombiner.step (state_of_place l.fn.self.buckets.items l.fn.self.states.items l.fn.self.combiner x) (taken l.doc (l.fn.self.start + x) (g.S.DocSet.entries l.fn.scorer));
+  states : (x : ℕ) → x < 4096
+      → state_of_place l.buckets l.states.items l.fn.self.combiner x ≡ fold g.C.ScoreCombiner.step
+      (state_of_place l.fn.self.buckets.items l.fn.self.states.items l.fn.self.combiner x)
+      (taken l.doc (l.fn.self.start + x) (g.S.DocSet.entries l.fn.scorer));
 }
 
 abbrev pub decreases-loop-doc : goal.decreases-loop-doc
