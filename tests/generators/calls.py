@@ -85,10 +85,10 @@ class Player:
         if chance < 0.04:
             return END
         if chance < 0.1 or head == END:
-            return self.random.randint(0, self.last + 2)
+            return min(self.random.randint(0, self.last + 2), END)
         if chance < 0.6:
             return self.random.choice(self.left.left()[:12])[0]
-        return max(0, head + self.random.randint(-2, 9))
+        return min(max(0, head + self.random.randint(-2, 9)), END)
 
     def seek(self):
         self.is_placed = True

@@ -158,3 +158,40 @@ def by_chance(random):
         for _ in range(2):
             yield line
             yield from calls.of_scorer(random, listed, random.choice([6, 20, 40]), deleted)
+
+
+# ---- the windows of a union
+
+# where words of 64 and windows of 4096 begin and end, and the last document that there may be
+EDGES = (0, 63, 64, 4095, 4096, 4097)
+LAST_DOCUMENT = END - 1
+
+
+def about_edges(random):
+    """Documents where words and windows begin and end, here and there a stretch of many, and the last one."""
+    base = random.choice([0, 0, 0, 1, 64, 10000])
+    found = {base + doc for doc in EDGES if random.random() < 0.5}
+    if random.random() < 0.5:
+        first = base + random.choice([0, 1, 60, 300, 4000, 4090])
+        found |= set(range(first, first + random.choice([5, 70, 400]), random.choice([1, 1, 3, 17])))
+    if random.random() < 0.3:
+        found.add(LAST_DOCUMENT)
+    return sorted(found)
+
+
+def windows(random):
+    """Unions of documents about the edges of windows."""
+    alive = sorted({*EDGES, *random.sample(range(5000), 60)} - {random.choice(EDGES)})
+    yield "given"
+    yield f"  alive 5000 {' '.join(map(str, alive))}"
+    for _ in range(4):
+        count = random.choice([1, 2, 2, 3, 4])
+        leaves = [
+            leaf(about_edges(random), random.choice(MANNERS), random.choice([0, 1, 2, 7]), random.choice([0, 1]))
+            for _ in range(count)
+        ]
+        combiner, most = random.choice(COMBINERS), sum(it.most for it in leaves)
+        lists = [it.listed for it in leaves]
+        line, listed = bounded(f"union {combiner} {END} {joined(leaves)}", most, at_least(1, combiner, lists))
+        yield line
+        yield from calls.of_scorer(random, listed, random.choice([6, 20, 40]), set(listed) - set(alive))

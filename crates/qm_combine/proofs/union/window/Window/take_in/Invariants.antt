@@ -1,0 +1,29 @@
+use Rattle.std.proofs.Common.{◌≡◌, ℕ, ◌+◌, ◌<◌, ◌≤◌, ◌||◌, nat_le, length, fold, min, vec_capacity}
+use Rattle.qm_docset.specs.Entry.{from, head_document}
+use Rattle.qm_docset.specs.Words.{words_have}
+use Rattle.qm_combine.specs.WindowStates.{state_of_place}
+use Rattle.qm_combine.proofs.TakenIn.{taken}
+use Rattle.qm_combine.proofs.union.window.Window.take_in.Given as goal
+
+abbrev pub invariant-loop-doc : goal.invariant-loop-doc
+invariant-loop-doc g l = record {
+  here : l.doc ≡ head_document (g.S.DocSet.entries l.scorer);
+  left : g.S.DocSet.entries l.scorer ≡ from (min l.doc l.bound) (g.S.DocSet.entries l.fn.scorer);
+  limits : g.S.DocSet.limits l.scorer ≡ g.S.DocSet.limits l.fn.scorer;
+  valid : g.S.DocSet.valid l.scorer;
+  placed : g.S.DocSet.placed l.scorer;
+  low : l.fn.self.start ≤ l.doc;
+  last_low : l.last ≤ l.doc;
+  until : (d : ℕ) → 1 ≤ length (taken l.doc d (g.S.DocSet.entries l.fn.scorer)) → d ≤ l.last;
+  documents : (x : ℕ) → x < 4096
+      → words_have l.buckets x ≡ (words_have l.fn.self.buckets.items x || nat_le 1
+      (length (taken l.doc (l.fn.self.start + x) (g.S.DocSet.entries l.fn.scorer))));
+  room : 4096 ≤ vec_capacity l.states;
+  states : (x : ℕ) → x < 4096
+      → state_of_place l.buckets l.states.items l.fn.self.combiner x ≡ fold g.C.ScoreCombiner.step
+      (state_of_place l.fn.self.buckets.items l.fn.self.states.items l.fn.self.combiner x)
+      (taken l.doc (l.fn.self.start + x) (g.S.DocSet.entries l.fn.scorer));
+}
+
+abbrev pub decreases-loop-doc : goal.decreases-loop-doc
+decreases-loop-doc g l = length (g.S.DocSet.entries l.scorer)

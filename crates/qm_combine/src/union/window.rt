@@ -1,0 +1,354 @@
+//! A window of documents, each with what a combiner makes of the scores that were added to it.
+
+ghost use Rattle.std.specs.Prelude.{◌≡◌, ℕ, ◌+◌, ◌*◌, ◌<◌, ◌≤◌, ◌≢◌, ◌==◌, ◌||◌, ◌++◌};
+ghost use Rattle.std.specs.Prelude.{length, map, min, slice_index_or, take, vec_capacity, vec_len};
+ghost use Rattle.qm_docset.specs.Entry.{head_document, head_score};
+ghost use Rattle.qm_docset.specs.Lists.{IsPlaced, Lists};
+ghost use Rattle.qm_docset.specs.TinySet.{tiny_members};
+ghost use Rattle.qm_docset.specs.Words.{words_have};
+ghost use Rattle.qm_docset.specs.declared.numbers.TheConstants.{TERMINATED};
+ghost use Rattle.qm_combine.specs.WindowStates.{state_of_place};
+
+use crate::all_scorer::AllScorer;
+use crate::const_scorer::ConstScorer;
+use crate::score_combiner::ScoreCombiner;
+use crate::scorer::Scorer;
+use qm_docset::{DocId, DocSet, Score, TERMINATED, TinySet};
+use qm_schema::QueryError;
+use std::alloc::Global;
+
+/// How many documents a [`Window`] spans.
+pub const HORIZON: u32 = 4096;
+
+/// The documents that scores were added to, out of the [`HORIZON`] from its start on, each with what a
+/// combiner makes of its scores.
+///
+/// A document is a bit in one of 64 words, beside a state of the combiner. A state counts only where
+/// the document's bit is set, and begins cleared when it is, so that to leave no document clears
+/// words alone. No call but [`new`](Window::new) takes memory.
+#[derive(Drop)]
+pub struct Window<C> {
+    start: DocId,
+    // no document lies past it
+    last: DocId,
+    buckets: Vec<TinySet>,
+    // one for each place up to the greatest that was ever reached
+    states: Vec<C>,
+    // cleared
+    combiner: C,
+    ghost sixty_four: { vec_len buckets ≡ 64 },
+    ghost room: { 4096 ≤ vec_capacity states },
+    ghost within: { start < TERMINATED },
+}
+
+impl<C: ScoreCombiner> Window<C> {
+    ghost use Rattle.std.specs.Prelude.{◌≤ℤ◌, ◌&&◌, nat_le, nat_abs, false, true, pos, slice_get, IfOk, IsOkUnless};
+    ghost use Rattle.std.specs.List.{fold};
+    ghost use Rattle.qm_docset.specs.Entry.{from};
+    ghost use Rattle.qm_combine.specs.Combiner.{HasRoomFor};
+    ghost use Rattle.qm_combine.specs.Windowed.{scores_of};
+    ghost use Rattle.qm_combine.specs.Window.{IsUntil, window_combiner, window_end, window_from, window_has, window_last, window_start, window_state};
+
+    /// A window from document 0 on that has no document. The combiner is cleared first.
+    ///
+    /// Refuses with [`QueryError::Memory`] alone, where there is no room for 64 words and [`HORIZON`]
+    /// states. The room is taken, and no state is made: that costs a state when its place is first
+    /// reached.
+    pub fn new(alloc: Global, combiner: C) -> Result<Window<C>, QueryError>
+        ensures only { IsOkUnless result QueryError.Memory }
+        ensures start { IfOk result (λ w. window_start w ≡ 0) }
+        ensures documents { IfOk result (λ w. (d : ℕ) → window_has w d ≡ false) }
+        ensures until { IfOk result IsUntil }
+        ensures combiner { IfOk result (λ w. window_combiner w ≡ C.cleared combiner) }
+    {
+        let mut combiner = combiner;
+        combiner.clear();
+        let buckets = vec![in alloc; TinySet::empty(); 64]?;
+        let states = Vec::with_capacity(alloc, HORIZON as usize)?;
+        Ok(Window {
+            start: 0,
+            last: 0,
+            buckets,
+            states,
+            combiner,
+        })
+    }
+
+    /// The first document that lies behind the window.
+    pub fn end(&self) -> DocId
+        ensures { result ≡ window_end self.now }
+    {
+        self.start + HORIZON
+    }
+
+    /// A document that none of its own lies past.
+    pub fn last(&self) -> DocId
+        ensures { result ≡ window_last self.now }
+    {
+        self.last
+    }
+
+    // How many words there are up to that of its last.
+    fn words(&self) -> usize
+        ensures within { result ≤ 64 }
+        ensures last { min (window_last self.now + 1) (window_end self.now) ≤ window_start self.now + 64 * result }
+    {
+        let last = self.last.saturating_sub(self.start);
+        (last as usize / 64 + 1).min(64)
+    }
+
+    /// Leaves no document, and spans those from `start` on, which is below [`TERMINATED`].
+    pub fn reset(&mut self, start: DocId)
+        requires { start < TERMINATED }
+        ensures start { window_start self.new ≡ start }
+        ensures documents { (d : ℕ) → window_has self.new d ≡ false }
+        ensures until { IsUntil self.new }
+        ensures combiner { window_combiner self.new ≡ window_combiner self.old }
+    {
+        self.start = start;
+        self.last = start;
+        // the words before are empty
+        for bucket in self.buckets.iter_mut() {
+            bucket.clear();
+        }
+    }
+
+    /// Adds a score to a document that the window spans; one that it lacked begins cleared. Asks that
+    /// the score is not below 0 and that the document's state has room for it.
+    pub fn add(&mut self, doc: DocId, score: Score)
+        requires span { (window_start self.old ≤ doc) × (doc < window_end self.old) }
+        requires score { pos 0 ≤ℤ score }
+        requires room { C.has_room (window_state self.old doc) (nat_abs score) }
+        ensures start { window_start self.new ≡ window_start self.old }
+        ensures documents { (d : ℕ) → window_has self.new d ≡ (d == doc || window_has self.old d) }
+        ensures state { window_state self.new doc ≡ C.step (window_state self.old doc) (nat_abs score) }
+        ensures others { (d : ℕ) → d ≢ doc → window_state self.new d ≡ window_state self.old d }
+        ensures until { IsUntil self.old → IsUntil self.new }
+        ensures combiner { window_combiner self.new ≡ window_combiner self.old }
+    {
+        let place = (doc - self.start) as usize;
+        self.last = self.last.max(doc);
+        let mut scorer = ConstScorer::new(AllScorer::new(1), score);
+        put(
+            self.buckets.as_mut_slice(),
+            &mut self.states,
+            self.combiner,
+            place,
+            &mut scorer,
+        );
+    }
+
+    /// Adds for each document below `bound` that a scorer has left its score there, and answers the
+    /// document at or past `bound` that the scorer then stands on.
+    ///
+    /// Asks that the scorer is placed, at or past the window's start, that `bound` is at most the
+    /// window's end, and that each state has room for the scorer's `max_score`. The combiner asks for
+    /// the scores: one that needs none asks for none. Costs a step of the scorer for each document.
+    pub fn take_in<S: Scorer>(&mut self, scorer: &mut S, bound: DocId) -> DocId
+        requires scorer { IsPlaced S.DocSet scorer.old }
+        requires bound { bound ≤ window_end self.old }
+        requires first { window_start self.old ≤ head_document (S.entries scorer.old) }
+        requires room { (d : ℕ) → HasRoomFor C.step C.cleared (S.limits scorer.old).top (window_state self.old d) }
+        ensures head { result ≡ head_document (S.entries scorer.new) }
+        ensures left { Lists S.DocSet scorer.new (from bound (S.entries scorer.old)) (S.limits scorer.old) }
+        ensures documents { (d : ℕ) → d < bound →
+            window_has self.new d ≡ (window_has self.old d || nat_le 1 (length (scores_of d (S.entries scorer.old)))) }
+        ensures beyond { (d : ℕ) → bound ≤ d → window_has self.new d ≡ window_has self.old d }
+        ensures states { (d : ℕ) → d < bound →
+            window_state self.new d ≡ fold C.step (window_state self.old d) (scores_of d (S.entries scorer.old)) }
+        ensures start { window_start self.new ≡ window_start self.old }
+        ensures until { IsUntil self.old → IsUntil self.new }
+        ensures combiner { window_combiner self.new ≡ window_combiner self.old }
+    {
+        let start = self.start;
+        let end = bound.min(TERMINATED);
+        let cleared = self.combiner;
+        let buckets = self.buckets.as_mut_slice();
+        let states = &mut self.states;
+        let mut last = start;
+        let mut doc = scorer.doc();
+        // what the scorer had below the document is added, none of it past the last
+        while doc < end {
+            put(buckets, states, cleared, (doc - start) as usize, scorer);
+            last = doc;
+            doc = scorer.advance();
+        }
+        self.last = self.last.max(last);
+        doc
+    }
+
+    /// The first of its documents at or past `doc`, or `None` where there is none.
+    pub fn next(&self, doc: DocId) -> Option<DocId>
+        ensures { result ≡ slice_get (window_from self.now doc) 0 }
+    {
+        let from = doc.saturating_sub(self.start);
+        if from >= HORIZON {
+            return None;
+        }
+        let first = (from / 64) as usize;
+        let mut word = self.buckets[first].intersect(TinySet::range_greater_or_equal(from));
+        if let Some(lowest) = word.pop_lowest() {
+            return Some(self.start + first as u32 * 64 + lowest);
+        }
+        // no word before the bucket has a document from there on
+        for bucket in first + 1..64 {
+            let mut word = self.buckets[bucket];
+            if let Some(lowest) = word.pop_lowest() {
+                return Some(self.start + bucket as u32 * 64 + lowest);
+            }
+        }
+        None
+    }
+
+    /// The same as [`next`](Window::next), in a few instructions where `doc` lies past the last.
+    pub fn next_until_last(&self, doc: DocId) -> Option<DocId>
+        requires { IsUntil self.now }
+        ensures { result ≡ slice_get (window_from self.now doc) 0 }
+    {
+        if self.last < doc {
+            return None;
+        }
+        self.next(doc)
+    }
+
+    /// Puts the first of its documents at or past `doc` into the front of the places, as many as there
+    /// is room for, and answers how many they are. Looks at no word behind that of its last.
+    pub fn fill(&self, doc: DocId, places: &mut [DocId]) -> usize
+        requires until { IsUntil self.now }
+        ensures count { result ≡ min (length places.old) (length (window_from self.now doc)) }
+        ensures documents { take result places.new ≡ take result (window_from self.now doc) }
+    {
+        let from = doc.saturating_sub(self.start);
+        if from >= HORIZON {
+            return 0;
+        }
+        let first = (from / 64) as usize;
+        let word = self.buckets[first].intersect(TinySet::range_greater_or_equal(from));
+        let mut taken = fill_word(word, self.start + first as u32 * 64, places, 0);
+        // what the words before the bucket have from there on was taken, as far as there was room
+        for bucket in first + 1..self.words() {
+            if taken == places.len() {
+                return taken;
+            }
+            taken = fill_word(
+                self.buckets[bucket],
+                self.start + bucket as u32 * 64,
+                places,
+                taken,
+            );
+        }
+        taken
+    }
+
+    /// What the combiner makes of the scores of a document, which the window has.
+    pub fn score(&self, doc: DocId) -> Score
+        requires { window_has self.now doc ≡ true }
+        ensures { result ≡ pos (C.value (window_state self.now doc)) }
+    {
+        let place = (doc - self.start) as usize;
+        if place < self.states.len() {
+            self.states[place].score()
+        } else {
+            self.combiner.score()
+        }
+    }
+
+    /// Leaves of its documents those at or past `doc`.
+    pub fn drop_below(&mut self, doc: DocId)
+        ensures start { window_start self.new ≡ window_start self.old }
+        ensures documents { (d : ℕ) → window_has self.new d ≡ (nat_le doc d && window_has self.old d) }
+        ensures state { (d : ℕ) → doc ≤ d → window_state self.new d ≡ window_state self.old d }
+        ensures last { window_last self.new ≡ window_last self.old }
+        ensures until { IsUntil self.old → IsUntil self.new }
+        ensures combiner { window_combiner self.new ≡ window_combiner self.old }
+    {
+        let below = doc.saturating_sub(self.start).min(HORIZON);
+        let full = (below / 64) as usize;
+        // the words before the bucket are empty, and the others as they were
+        for bucket in 0..full {
+            self.buckets[bucket].clear();
+        }
+        if full < 64 {
+            self.buckets[full] = self.buckets[full].intersect(TinySet::range_greater_or_equal(
+                below,
+            ));
+        }
+    }
+
+    /// How many documents it has. Looks at no word behind that of its last.
+    pub fn len(&self) -> u32
+        requires until { IsUntil self.now }
+        ensures { result ≡ length (window_from self.now 0) }
+    {
+        let mut count = 0;
+        // so many have the words before the bucket
+        for bucket in 0..self.words() {
+            count += self.buckets[bucket].len();
+        }
+        count
+    }
+}
+
+/// Makes the states up to a place that were not made yet, each cleared. Takes no memory.
+fn make_states<C: ScoreCombiner>(states: &mut Vec<C>, cleared: C, place: usize)
+    requires place { place < 4096 }
+    requires room { 4096 ≤ vec_capacity states.old }
+    ensures place { place < vec_len states.new }
+    ensures same { (x : ℕ) → slice_index_or states.new.items x cleared ≡ slice_index_or states.old.items x cleared }
+    ensures room { 4096 ≤ vec_capacity states.new }
+{
+    // what was made stays as it is, and the others are cleared
+    while states.len() <= place {
+        states.push(cleared).unwrap();
+    }
+}
+
+/// Adds a scorer's score at a place of a window; a place that is new begins cleared.
+fn put<S: Scorer, C: ScoreCombiner>(
+    buckets: &mut [TinySet],
+    states: &mut Vec<C>,
+    cleared: C,
+    place: usize,
+    scorer: &mut S,
+)
+    requires place { place < 4096 }
+    requires buckets { length buckets.old ≡ 64 }
+    requires states { 4096 ≤ vec_capacity states.old }
+    requires scorer { IsPlaced S.DocSet scorer.old }
+    requires here { head_document (S.entries scorer.old) < TERMINATED }
+    requires room { C.has_room (state_of_place buckets.old states.old.items cleared place) (S.limits scorer.old).top }
+    ensures documents { (x : ℕ) → words_have buckets.new x ≡ (x == place || words_have buckets.old x) }
+    ensures state { state_of_place buckets.new states.new.items cleared place
+        ≡ C.step (state_of_place buckets.old states.old.items cleared place) (head_score (S.entries scorer.old)) }
+    ensures others { (x : ℕ) → x ≢ place →
+        state_of_place buckets.new states.new.items cleared x ≡ state_of_place buckets.old states.old.items cleared x }
+    ensures room { 4096 ≤ vec_capacity states.new }
+    ensures left { Lists S.DocSet scorer.new (S.entries scorer.old) (S.limits scorer.old) }
+{
+    make_states(states, cleared, place);
+    let is_new = buckets[place / 64].insert_mut((place % 64) as u32);
+    let mut state = if is_new { cleared } else { states[place] };
+    state.update(scorer);
+    states[place] = state;
+}
+
+/// Puts the numbers of a word, from `start` on, behind the places that are taken, as many as there is
+/// room for, and answers how many are taken then.
+fn fill_word(word: TinySet, start: DocId, places: &mut [DocId], before: usize) -> usize
+    requires before { before ≤ length places.old }
+    requires span { start + 64 ≤ 4294967295 }
+    ensures count { result ≡ min (length places.old) (before + length (tiny_members word)) }
+    ensures documents { take result places.new ≡ take result (take before places.old ++ map (λ x. start + x) (tiny_members word)) }
+{
+    let mut word = word;
+    let mut taken = before;
+    // what is taken, and what the word has left
+    while taken < places.len() {
+        let Some(lowest) = word.pop_lowest() else {
+            return taken;
+        };
+        places[taken] = start + lowest;
+        taken += 1;
+    }
+    taken
+}
