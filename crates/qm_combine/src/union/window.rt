@@ -113,6 +113,20 @@ impl<C: ScoreCombiner> Window<C> {
         }
     }
 
+    /// The same as [`reset`](Window::reset), and looks at no word behind that of its last.
+    pub fn reset_until_last(&mut self, start: DocId)
+        requires start { start < TERMINATED }
+        requires until { IsUntil self.old }
+        ensures start { window_start self.new ≡ start }
+        ensures documents { (d : ℕ) → window_has self.new d ≡ false }
+        ensures until { IsUntil self.new }
+        ensures combiner { window_combiner self.new ≡ window_combiner self.old }
+    {
+        self.drop_below(self.last.saturating_add(1));
+        self.start = start;
+        self.last = start;
+    }
+
     /// Adds a score to a document that the window spans; one that it lacked begins cleared. Asks that
     /// the score is not below 0 and that the document's state has room for it.
     pub fn add(&mut self, doc: DocId, score: Score)

@@ -28,12 +28,12 @@ loop-member-init g c = record {
   behind = refl;
   done = refl;
   least = refl;
-  start = c.reset.ensures.start;
-  until = c.reset.ensures.until;
-  combiner = c.reset.ensures.combiner;
-  beyond = λ d past. c.reset.ensures.documents d;
-  documents = λ d below. c.reset.ensures.documents d ∙ sym (ap (λ (r : List ℕ). nat_le 1 (length r)) (scores_at-nil d));
-  states = λ d below. window_state-lacks c.reset.new.self d (c.reset.ensures.documents d) ∙ c.reset.ensures.combiner
+  start = c.reset_until_last.ensures.start;
+  until = c.reset_until_last.ensures.until;
+  combiner = c.reset_until_last.ensures.combiner;
+  beyond = λ d past. c.reset_until_last.ensures.documents d;
+  documents = λ d below. c.reset_until_last.ensures.documents d ∙ sym (ap (λ (r : List ℕ). nat_le 1 (length r)) (scores_at-nil d));
+  states = λ d below. window_state-lacks c.reset_until_last.new.self d (c.reset_until_last.ensures.documents d) ∙ c.reset_until_last.ensures.combiner
       ∙ sym (ap (fold g.C.ScoreCombiner.step (window_combiner c.args.window.now)) (scores_at-nil d));
 }
 
