@@ -1,27 +1,26 @@
 #!/usr/bin/env python3
-"""Measures what passing over blocks saves: pruned runs beside the plain loop over the same documents.
+"""Measures what passing over blocks saves: the ten best documents by a pruned run, beside the plain loop.
 
-    python3 examples/measure_pruning.py [--built FILE] [--documents N] [--queries N]
+    python3 examples/measure_pruning.py [--documents N] [--searches N]
 
-The program `qm_search` (that which `rt ci` left, or FILE) is given N documents that hold a word, with lengths from 1
-to 100, once in the order of their lengths and once in mixed order, and then `prune` lines. `prune T term a` runs by
-the bounds of blocks, `prune T boost 1 term a` is the plain loop over the same list, and both must print the same;
-so with two words. A figure is the processor time of a query: that of a run with many queries less that of one with
-none, the least of five. No gate hangs on it, since it means something on a quiet machine alone.
+It builds the program of measure_pruning/main.txt beside the crates of this repository, with no proof, and lets
+it find the ten best of N documents (100,000) by one, two and five frequent words, with the documents in the
+order of their lengths and in mixed order: how many documents the run scored, of how many postings, and the
+processor time of a search, that of many less that of none, the least of three. Both ways must find the same.
+The times mean something on a quiet machine alone; no gate hangs on them.
 """
 
 import os
-import random
 import resource
+import shutil
 import subprocess
 import sys
+import tempfile
 
-ROOT = os.path.realpath(os.path.join(os.path.dirname(os.path.abspath(__file__)), ".."))
-ROUNDS = 5
-QUERIES = {
-    "one word": ("term a", "boost 1 term a"),
-    "two words": ("bool 0 2 ? term a ? term b", "boost 1 bool 0 2 ? term a ? term b"),
-}
+HERE = os.path.dirname(os.path.abspath(__file__))
+ROOT = os.path.dirname(HERE)
+CRATES = "qm_combine qm_docset qm_phrase qm_postings qm_schema qm_scorer qm_term qm_weight".split()
+ROUNDS = 3
 
 
 def option(words, name, default):
@@ -29,47 +28,54 @@ def option(words, name, default):
     return words[words.index(name) + 1] if name in words else default
 
 
-def documents(count, is_mixed):
-    """Documents that hold a and every other one b, as often as chance has it, with words that fill them up."""
-    chance = random.Random(7)
-    lengths = sorted(chance.randint(1, 100) for _ in range(count))
-    if is_mixed:
-        chance.shuffle(lengths)
-    lines = []
-    for length in lengths:
-        words = ["a"] * min(length, chance.choice([1, 1, 1, 2, 3])) + ["b"] * chance.choice([0, 1])
-        lines.append("doc " + " ".join(words + ["x"] * (length - len(words))))
-    return "\n".join(lines) + "\n"
+def build(room):
+    """A repository of the crates below the program, and the program; answers where it lies."""
+    for name in CRATES:
+        shutil.copytree(f"{ROOT}/crates/{name}", f"{room}/crates/{name}", ignore=shutil.ignore_patterns("out"))
+    shutil.copytree(f"{ROOT}/tests", f"{room}/tests")
+    with open(f"{ROOT}/crates.txt", encoding="utf-8") as given:
+        lines = [line for line in given if line.split(":")[0] in CRATES]
+    with open(f"{room}/crates.txt", "w", encoding="utf-8") as listed:
+        listed.write("".join(lines) + f"measure_pruning: {' '.join(CRATES)}\n")
+    os.makedirs(f"{room}/crates/measure_pruning/src")
+    shutil.copy(f"{HERE}/measure_pruning/main.txt", f"{room}/crates/measure_pruning/src/main.rt")
+    program = f"{room}/program"
+    subprocess.run([sys.executable, f"{room}/tests/unproved.py", "measure_pruning", program], check=True)
+    return program
 
 
-def run(program, script):
-    """The processor time that the program takes for a script, and what it prints."""
-    before = resource.getrusage(resource.RUSAGE_CHILDREN)
-    ran = subprocess.run([program], input=script.encode(), stdout=subprocess.PIPE, check=True)
-    after = resource.getrusage(resource.RUSAGE_CHILDREN)
-    return after.ru_utime + after.ru_stime - before.ru_utime - before.ru_stime, ran.stdout
+def run(program, *words):
+    """Processor time of one run, how many documents it scored, and what it found."""
+    before = resource.getrusage(resource.RUSAGE_CHILDREN).ru_utime
+    given = " ".join(map(str, words))
+    printed = subprocess.run([program], input=given, check=True, stdout=subprocess.PIPE, text=True).stdout.split()
+    return resource.getrusage(resource.RUSAGE_CHILDREN).ru_utime - before, int(printed[0]), printed[2:]
 
 
-def cost(program, text, query, count):
-    """Microseconds of processor time for one `prune` of the query, and what that prints."""
-    line = f"prune 0 {query}\n"
-    without = min(run(program, text)[0] for _ in range(ROUNDS))
-    times = [run(program, text + line * count) for _ in range(ROUNDS)]
-    return (min(it for it, _ in times) - without) / count * 1e6, times[0][1]
+def search(program, documents, order, words, way, times):
+    """Microseconds of a search, how many documents it scored, and what it found."""
+    without = min(run(program, documents, order, words, "none", 1)[0] for _ in range(ROUNDS))
+    runs = [run(program, documents, order, words, way, times) for _ in range(ROUNDS)]
+    return (min(it[0] for it in runs) - without) / times * 1e6, *runs[0][1:]
 
 
 def main(words):
-    program = option(words, "--built", f"{ROOT}/crates/qm_search/out/qm_search")
-    count, queries = int(option(words, "--documents", 100_000)), int(option(words, "--queries", 1000))
+    documents, times = int(option(words, "--documents", 100_000)), int(option(words, "--searches", 200))
     is_well = True
-    for order in ("length", "mixed"):
-        text = documents(count, order == "mixed")
-        for name, (pruned, plain) in QUERIES.items():
-            by_blocks, said = cost(program, text, pruned, queries)
-            by_all, expected = cost(program, text, plain, queries)
-            is_well = is_well and said == expected
-            print(f"{name}, {order} order: {by_blocks:.1f} of {by_all:.1f} us, {by_blocks / by_all:.2f}")
-    print("both print the same" if is_well else "THEY PRINT DIFFERENTLY")
+    with tempfile.TemporaryDirectory() as room:
+        program = build(room)
+        for order in ("length", "mixed"):
+            for count in (1, 2, 5):
+                for kind in ("", "-max") if count > 1 else ("",):
+                    pruned, scored, found = search(program, documents, order, count, f"pruned{kind}", times)
+                    plain, _, expected = search(program, documents, order, count, f"plain{kind}", times)
+                    is_well = is_well and found == expected
+                    print(
+                        f"{order} order, {count} words{' by the greatest' if kind else ''}: scored {scored}, "
+                        f"{pruned:.0f} of {plain:.0f} us, {pruned / plain:.2f}",
+                        flush=True,
+                    )
+    print("both ways find the same" if is_well else "THE WAYS FIND DIFFERENT DOCUMENTS")
     return 0 if is_well else 1
 
 
