@@ -35,7 +35,7 @@ loop-preserved g c =
     let r = made.turn in
     let ls = r.lists in
     let turn : IsTurn call combined th c.loop.callback ms bar c.turn.new.callback ls made.ticked r.pivot =
-      subst (λ x. IsTurn call (g.C.ScoreCombiner.combined x) th c.loop.callback ms bar c.turn.new.callback ls made.ticked r.pivot) inside.combiner r.turn in
+    subst (λ x. IsTurn call (g.C.ScoreCombiner.combined x) th c.loop.callback ms bar c.turn.new.callback ls made.ticked r.pivot) inside.combiner r.turn in
     let i : AreMembers ls = members_permuted ls ns r.order (row_members c.turn.new.self.scorers.items c.turn.new.self.heads.items c.turn.ensures.valid.row.heads) in
     record {
       valid = c.turn.ensures.valid;
@@ -46,7 +46,7 @@ loop-preserved g c =
       back = λ k last z q.
           let moved = pruned_permuted call combined order bar c.turn.new.callback ls ns k last z r.order q in
           let b = inside.back (cond made.ticked 1 0 + k) last z
-            (turn_back call combined within th bar c.loop.callback c.turn.new.callback ms ls made.ticked r.pivot h i turn k last z moved) in
+          (turn_back call combined within th bar c.loop.callback c.turn.new.callback ms ls made.ticked r.pivot h i turn k last z moved) in
           (b.0, omega (arith, b.1, made.ticks), b.2);
     }
 

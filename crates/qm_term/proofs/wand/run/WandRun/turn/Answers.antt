@@ -115,7 +115,7 @@ returns-clause-turns g c = omega (arith, counted c.turn_row-turned.result.found)
 pub returns-clause-no_tick : goal.returns-clause-no_tick
 returns-clause-no_tick g c = λ e.
     let ticks : ◌≡◌ {A = ℕ} (cond c.turn_row-turned.result.ticked 1 0) 0 =
-      ap (λ (b : Bool). cond b 1 0) (c.turn_row-turned.ensures.no_tick e) in
+    ap (λ (b : Bool). cond b 1 0) (c.turn_row-turned.ensures.no_tick e) in
     omega (arith, ticks, c.turn_row-turned.ensures.ticks)
 
 pub returns-clause-turn : goal.returns-clause-turn
