@@ -226,11 +226,11 @@ def of_unscored(random, tree, segment, most_explained=3):
 # ---- calls on a query
 
 
-def tops(tree, segments, limits):
+def tops(tree, segments, limits, call="top"):
     """Rows for the best documents over all segments, of which there are so many at most."""
     ranked = best(None, tree, segments)
     for limit in limits:
-        yield row(f"top {limit}", spelled.addresses(ranked[:limit]))
+        yield row(f"{call} {limit}", spelled.addresses(ranked[:limit]))
 
 
 def of_query(random, query, tree, segments):
@@ -239,6 +239,8 @@ def of_query(random, query, tree, segments):
     yield row("total", alive)
     limits = [1, 2, 3, 10, alive // 2, max(alive - 1, 0), alive, alive + 1, MOST]
     yield from tops(tree, segments, [random.choice([0, 1]), *random.sample(limits, 3)])
+    if random.random() < 0.1:
+        yield from tops(tree, segments, [random.choice(limits)], "refused each top")
     yield row("terms", " ".join(f"{word}:{str(wanted).lower()}" for (_, word), wanted in query_terms(query)))
     number = random.randrange(len(segments) + 1)
     if number == len(segments):

@@ -6,10 +6,9 @@ use Rattle.std.specs.List.{fold}
 use Rattle.std.specs.Ordering.{int_cmp, is_lt, nat_cmp, ordering_reverse, ordering_then}
 use Rattle.std.specs.declared.cmp.Ordering.{Ordering}
 use Rattle.std.specs.declared.cmp.Ordering.TheVariants.{Less, Equal, Greater}
-use Rattle.std.proofs.Common.{arith, refl, sym, ap, subst, ◌∙◌, get_or, inl, inr, true≢false}
-use Rattle.std.proofs.lemmas.Bool.{cases_Bool}
+use Rattle.std.proofs.Common.{arith, refl, sym, ap, ◌∙◌, get_or, true≢false}
 use Rattle.std.proofs.lemmas.Int.{ints, by_lt_z}
-use Rattle.std.proofs.lemmas.List.Elements.{All-cons, All-head, All-nil, All-tail}
+use Rattle.std.proofs.lemmas.List.Elements.{All-head, All-nil, All-tail}
 use Rattle.qm_postings.specs.Address.{address_cmp}
 use Rattle.qm_postings.specs.declared.address.DocAddress.{DocAddress}
 use Rattle.qm_weight.specs.Best.{by_score, placed}

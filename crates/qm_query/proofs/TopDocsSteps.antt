@@ -1,14 +1,12 @@
 -- What is kept of the documents that a search has gone through: step by step the best of them.
-use Rattle.std.specs.Prelude.{◌≡◌, ◌⊎◌, ℕ, suc, ◌+◌, ◌<◌, ◌≤◌, min, ℤ, pos, negsuc, ◌≤ℤ◌, Bool, true, false, if◌then◌else◌, List, [], ◌∷◌, ◌++◌, All, Result, Ok, Err, IfOk, IsTrue, filter, length, map, take}
-use Rattle.std.specs.BinaryHeap.{IsUpperBound, heap_items}
-use Rattle.std.specs.Int.Signed.{lt_z}
+use Rattle.std.specs.Prelude.{◌≡◌, ℕ, ℤ, pos, ◌≤ℤ◌, Bool, true, false, if◌then◌else◌, List, [], ◌∷◌, ◌++◌, All, Result, Ok, Err, IfOk, IsTrue, filter, length, map, take}
+use Rattle.std.specs.BinaryHeap.{heap_items}
 use Rattle.std.specs.List.{fold}
-use Rattle.std.specs.Ordering.{is_lt, ordering_then}
+use Rattle.std.specs.Ordering.{is_lt}
 use Rattle.std.specs.declared.cmp.Ordering.TheVariants.{Less}
 use Rattle.std.proofs.Common.{arith, refl, sym, ap, subst, ◌∙◌, get_or, inl, inr}
-use Rattle.std.proofs.lemmas.Bool.{cases_Bool}
 use Rattle.std.proofs.lemmas.Int.{ints}
-use Rattle.std.proofs.lemmas.List.{append-nil, append_assoc, length-take, map-append, take-map, take_all}
+use Rattle.std.proofs.lemmas.List.{append-nil, append_assoc, map-append, take-map, take_all}
 use Rattle.std.proofs.lemmas.List.Elements.{All-cons, All-from_recursion, All-head, All-map, All-nil, All-tail, All-take}
 use Rattle.std.proofs.lemmas.List.Sums.{fold-append}
 use Rattle.qm_docset.specs.Entry.{Entry}
@@ -23,7 +21,7 @@ use Rattle.qm_weight.specs.Tree.{Tree, is_scoring, list, matching, score}
 use Rattle.qm_query.specs.KeptDocument.{IsThreshold, answer_of, kept_of, ranked, worst_last}
 use Rattle.qm_query.specs.KeptDocuments.{AreBest, Collects, ranked_kept}
 use Rattle.qm_query.specs.Ranking.{put, ranked_with}
-use Rattle.qm_query.specs.TopDocs.{AreBestOf, AreByAddress, addressed, alive_matches, alive_matches_from, score_first}
+use Rattle.qm_query.specs.TopDocs.{AreBestOf, AreByAddress, alive_matches, alive_matches_from, score_first}
 use Rattle.qm_query.specs.TopDocsOrder.{AreByAddress-from}
 use Rattle.qm_query.specs.declared.top_docs.kept_document.KeptDocument.{KeptDocument}
 use Rattle.qm_query.specs.declared.top_docs.kept_documents.KeptDocuments.{KeptDocuments}
@@ -95,7 +93,7 @@ module _ (ord : ℕ) (segment : Segment) (ds : List (DocAddress × ℤ)) (e : En
   passed_by : (alive : Bool) (kept : KeptDocuments) (threshold : ℤ) → KeepsBest kept ds → IsThreshold kept.limit (heap_items kept.documents) threshold → pos e.score ≤ℤ threshold
       → KeepsBest kept (if alive then ds ++ pair_of ord e ∷ [] else ds)
   passed_by false kept threshold now is low up ok = now up ok
-  passed_by true kept threshold now (inl none) low up ok = absurd (omega (arith, ints, none, low))
+  passed_by true kept threshold now (inl none) low up ok = absurd (omega (arith, ints, none.0, low))
   passed_by true kept threshold now (inr worst) low up ok =
       let was = now (AreByAddress-front ds (pair_of ord e ∷ []) up) ok in
       let before : All (λ (y : KeptDocument). address_cmp y.address (pair_of ord e).0 ≡ Less) (ranked_kept kept) =

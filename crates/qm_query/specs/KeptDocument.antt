@@ -1,6 +1,6 @@
 -- Documents that are kept among the best: their order, in which the worst is the greatest, and the threshold while
 -- they are kept.
-use Rattle.std.specs.Prelude.{◌≡◌, ◌⊎◌, ℕ, ℤ, negsuc, List, length}
+use Rattle.std.specs.Prelude.{◌≡◌, ◌⊎◌, ℕ, ◌<◌, ℤ, negsuc, List, length}
 use Rattle.std.specs.BinaryHeap.{IsUpperBound}
 use Rattle.std.specs.Cmp.{IsTotalOrder, back_total, int_cmp_total, nat_cmp_total, on_total, then_total}
 use Rattle.std.specs.Ordering.{flip_args, int_cmp, on, then_cmp}
@@ -32,7 +32,7 @@ kept_of d = record { score = d.1; address = d.0 }
 abbrev pub answer_of : KeptDocument → ℤ × DocAddress
 answer_of d = (d.score, d.address)
 
--- The threshold while these are kept: -1, or the score of the worst where there are as many as there may be.
+-- The threshold while these are kept: -1 while there are fewer than there may be, and then the score of the worst.
 abbrev pub IsThreshold : ℕ → List KeptDocument → ℤ → Type 0
 IsThreshold limit kept threshold =
-    (threshold ≡ negsuc 0) ⊎ ((worst : KeptDocument) × (length kept ≡ limit) × IsUpperBound worst_last worst kept × (threshold ≡ worst.score))
+    ((threshold ≡ negsuc 0) × (0 < limit → length kept < limit)) ⊎ ((worst : KeptDocument) × (length kept ≡ limit) × IsUpperBound worst_last worst kept × (threshold ≡ worst.score))

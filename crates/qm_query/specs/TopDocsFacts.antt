@@ -1,8 +1,8 @@
 -- What a user learns of the best documents of a search: they are in order, as many as are wanted or as there are,
 -- and each document that is found and not among them stands behind all of them.
-use Rattle.std.specs.Prelude.{◌≡◌, ◌⊎◌, ℕ, zero, suc, ◌+◌, ◌<◌, ◌≤◌, min, ℤ, ◌<ℤ◌, ◌≤ℤ◌, true, false, if◌then◌else◌, List, [], ◌∷◌, ◌++◌, All, Contains, drop, length, map, take}
+use Rattle.std.specs.Prelude.{◌≡◌, ◌⊎◌, ℕ, zero, suc, ◌+◌, ◌≤◌, min, ℤ, ◌<ℤ◌, ◌≤ℤ◌, true, false, if◌then◌else◌, List, [], ◌∷◌, ◌++◌, All, Contains, drop, length, map, take}
 use Rattle.std.specs.Int.Signed.{lt_z}
-use Rattle.std.specs.List.{fold, sum_by}
+use Rattle.std.specs.List.{fold}
 use Rattle.std.specs.List.Sorted.{IsPermutation}
 use Rattle.std.specs.declared.cmp.Ordering.TheVariants.{Less}
 use Rattle.std.proofs.Common.{arith, refl, sym, ap, subst, ◌∙◌, get_or, inl, inr, length-drop}
@@ -18,7 +18,7 @@ use Rattle.qm_postings.specs.Reading.{Reader}
 use Rattle.qm_postings.specs.Statistics.{Searched}
 use Rattle.qm_postings.specs.declared.address.DocAddress.{DocAddress}
 use Rattle.qm_postings.specs.declared.statistics.Bm25StatisticsProvider.{Ghosts}
-use Rattle.qm_weight.specs.Best.{best, by_score, placed}
+use Rattle.qm_weight.specs.Best.{by_score, placed}
 use Rattle.qm_weight.specs.Counts.{alive_count, alive_matching}
 use Rattle.qm_weight.specs.Tree.{Tree}
 use Rattle.qm_query.specs.Query.{Query}
