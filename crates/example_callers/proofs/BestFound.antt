@@ -24,7 +24,7 @@ module _ (all : List (DocAddress × ℤ)) where
   pub best_found : (r : Option (ℤ × DocAddress)) (found : List (ℤ × DocAddress)) → r ≡ slice_get found 0 → length found ≤ 1 → IsAnswerOf found → IfSome r (λ b. All (λ d. (score_first d ≡ b) ⊎ StandsBefore b (score_first d)) all)
   best_found r found is few others = subst (λ o. IfSome o (λ b. All (λ d. (score_first d ≡ b) ⊎ StandsBefore b (score_first d)) all)) (sym is) (first_best found few others)
 
-  not_there : (d : DocAddress × ℤ) → Contains {X = ℤ × DocAddress} [] (score_first d) ⊎ ((0 ≡ 1) × All (λ e. StandsBefore e (score_first d)) []) → ⊥
+  not_there : (d : DocAddress × ℤ) → Contains {X = ℤ × DocAddress} [] (score_first d) ⊎ ((length {A = ℤ × DocAddress} [] ≡ 1) × All (λ e. StandsBefore e (score_first d)) []) → ⊥
   not_there d (inl is) = omega (arith, is.1)
   not_there d (inr full) = omega (arith, full.0)
 
