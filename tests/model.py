@@ -363,6 +363,18 @@ def pruned(pairs, threshold, answers):
     return calls
 
 
+def best(limit, tree, segments):
+    """The best documents of all segments that were not deleted, each with its segment and its score: the highest
+    scores first, and of one score the first segment and the first document."""
+    found = [
+        (number, doc, points)
+        for number, segment in enumerate(segments)
+        for doc, points in scored(tree, 1, segment)
+        if doc not in segment.deleted
+    ]
+    return sorted(found, key=lambda it: (-it[2], it[0], it[1]))[:limit]
+
+
 # ---- blocks
 
 

@@ -17,6 +17,7 @@ from model import (
     END,
     GREATEST,
     LEAST,
+    best,
     fits,
     matching,
     prefix_count,
@@ -165,6 +166,10 @@ def rows_of_queries():
     query = Boolean((("+", Term(body("a"))), ("?", Term(body("b")))))
     tree = tree_of(query, searcher, True)
     yield "by segments", [scored(tree, 1, it) for it in two], [[(0, 499), (1, 500)], [(0, 525)]]
+    for limit, want in [(0, []), (1, [(1, 0, 525)]), (2, [(1, 0, 525), (0, 0, 499)]), (3, [(1, 0, 525), (0, 0, 499)])]:
+        yield f"the best {limit}", best(limit, tree, two), want
+    alike = [segment(["a", "a b", "a"]), segment(["a b", "a"], deleted=[1]), segment(["a"])]
+    yield "the best of equal ones", best(4, word("a"), alike), [(0, 0, 500), (0, 2, 500), (2, 0, 500), (0, 1, 333)]
     unscored = tree_of(Boost(3, Term(body("a"))), searcher, False)
     yield "without scores", unscored, Term(body("a"), None, False)
     greatest = DisjunctionMax(700, (Term(body("a")), Term(body("b"))))

@@ -11,6 +11,7 @@ from model import (
     LEAST,
     Phrase,
     Prefix,
+    best,
     phrase_count,
     prefix_count,
     pruned,
@@ -19,6 +20,7 @@ from model import (
     slices,
 )
 
+MOST = 18446744073709551615  # the greatest number of documents that may be asked for
 SPELLED_ANSWERS = {GREATEST: "greatest", LEAST: "least"}
 
 # several rows ask for the same list
@@ -224,10 +226,21 @@ def of_unscored(random, tree, segment, most_explained=3):
 # ---- calls on a query
 
 
+def tops(tree, segments, limits, call="top"):
+    """Rows for the best documents over all segments, of which there are so many at most."""
+    ranked = best(None, tree, segments)
+    for limit in limits:
+        yield row(f"{call} {limit}", spelled.addresses(ranked[:limit]))
+
+
 def of_query(random, query, tree, segments):
     """Rows on a query over all segments."""
     alive = sum(len(segment.alive(found(tree, segment))) for segment in segments)
     yield row("total", alive)
+    limits = [1, 2, 3, 10, alive // 2, max(alive - 1, 0), alive, alive + 1, MOST]
+    yield from tops(tree, segments, [random.choice([0, 1]), *random.sample(limits, 3)])
+    if random.random() < 0.1:
+        yield from tops(tree, segments, [random.choice(limits)], "refused each top")
     yield row("terms", " ".join(f"{word}:{str(wanted).lower()}" for (_, word), wanted in query_terms(query)))
     number = random.randrange(len(segments) + 1)
     if number == len(segments):

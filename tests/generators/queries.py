@@ -84,7 +84,7 @@ def of_scorer(random, segment, field, depth):
 def corpus(random):
     """Some segments over one field, with the block that makes them, and a searcher over them."""
     field = random.choice(chance.FIELDS)
-    made = [chance.segment(random, chance.size(random), field) for _ in range(random.choice([1, 1, 2, 3]))]
+    made = [chance.segment(random, chance.size(random), field) for _ in range(random.choice([1, 1, 2, 3, 4]))]
     segments, words = zip(*made)
     weighed, default = weights(random)
     block = spelled.given(segments, words, random.choice(chance.BLOCKS), weighed, default, field)

@@ -17,6 +17,10 @@ def pairs(listed):
     return " ".join(f"{doc}:{points}" for doc, points in listed)
 
 
+def addresses(found):
+    return " ".join(f"{number}/{doc}:{points}" for number, doc, points in found)
+
+
 def row(call, answer=""):
     return f"  {call} = {answer}" if answer != "" else f"  {call} ="
 

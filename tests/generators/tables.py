@@ -182,6 +182,8 @@ def queries_of_kinds(asked):
         for name, scoring in [("query", True), ("unscored", False)]:
             tree = tree_of(query, searcher, scoring)
             yield f"{name} {spelled.query(query)}"
+            if scoring:
+                yield from calls.tops(tree, segments, range(4))
             for number, it in enumerate(segments):
                 yield f"  segment {number}"
                 if scoring:

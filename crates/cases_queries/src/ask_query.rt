@@ -7,6 +7,7 @@ use crate::getters::get;
 use crate::given::first_word;
 use crate::kinds::kind_of_weight;
 use crate::runs::run_each;
+use crate::top::write_top;
 use crate::weigh::{Scales, specialize, weigh};
 use crate::world::World;
 use cases::{Asker, Fault, Memory, end_refusals, number, words_of};
@@ -123,6 +124,9 @@ fn ask(
 ) -> Result<(), Fault> {
     if call == "total" {
         return count_all(alloc, scales.world, query, memory, text);
+    }
+    if let Some(limit) = call.strip_prefix("top ") {
+        return write_top(alloc, scales.world, query, limit, memory, text);
     }
     if let Some(address) = address_of(alloc, call)? {
         return explain_at(alloc, scales.world, query, address, memory, text);

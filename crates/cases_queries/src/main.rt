@@ -31,6 +31,7 @@ mod schema_rows;
 mod scorer_blocks;
 mod similarity;
 mod terms;
+mod top;
 mod tree;
 mod tree_runs;
 mod weigh;

@@ -9,6 +9,7 @@ mod library_use;
 mod phrase_callers;
 mod query_callers;
 mod term_callers;
+mod top_docs_callers;
 mod weight_callers;
 
 pub use best::{BestPairs, best_pairs};
@@ -20,4 +21,5 @@ pub use library_use::phrase_and_word;
 pub use phrase_callers::{count_behind_buffer, positions_behind_buffer, scored_phrase};
 pub use query_callers::{best_document, matches, matching_documents};
 pub use term_callers::{best_of_term, end_of_block};
+pub use top_docs_callers::{best_address, first_page};
 pub use weight_callers::{best_matches, join_matches};

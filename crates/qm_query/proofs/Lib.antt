@@ -4,3 +4,6 @@ pub mod OneField
 pub mod Rows
 pub mod VisitSteps
 pub mod SearchFacts
+pub mod RankingFacts
+pub mod KeptOrder
+pub mod TopDocsSteps

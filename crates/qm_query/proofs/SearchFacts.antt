@@ -5,6 +5,7 @@ use Rattle.qm_postings.specs.Reading.{Reader}
 use Rattle.qm_postings.specs.Statistics.{Searched}
 use Rattle.qm_postings.specs.Segment.{Segment}
 use Rattle.qm_postings.specs.contracts.searcher.SearcherBm25StatisticsProvider.TheImpl.{ghosts}
+use Rattle.qm_postings.specs.declared.address.DocAddress.{DocAddress}
 use Rattle.qm_postings.specs.declared.statistics.Bm25StatisticsProvider.{Ghosts}
 use Rattle.qm_schema.specs.Schema.{FieldFacts}
 use Rattle.qm_schema.specs.Term.{TermKey}
@@ -23,6 +24,7 @@ use Rattle.qm_query.specs.Query.{Query, Subqueries, Disjuncts, all, none, term, 
 use Rattle.qm_query.specs.QueryTree.{clause_trees, disjunct_trees, if_scoring, leaf_weighing, query_tree, read_option}
 use Rattle.qm_query.specs.ScoringTrees.{scoring_if_enabled}
 use Rattle.qm_query.specs.Searches.{IsCountOf, IsCountRefusal, IsExplainedIn, IsExplanationOf, IsUnexplained, IsUnexplainedIn, count_in, with_scores, without_scores}
+use Rattle.qm_query.specs.TopDocs.{AreBestOf, AreTopDocs, IsTopDocsRefusal}
 use Rattle.qm_query.specs.WeightRefusals.{IsByProvider, IsClauseRefused, IsDisjunctRefused, IsLeafRefusal, IsPrefixByProvider, IsRefused, IsWeightRefusal}
 use Rattle.qm_query.specs.declared.enable_scoring.EnableScoring.{EnableScoring}
 use Rattle.qm_query.specs.declared.enable_scoring.EnableScoring.TheVariants.{Enabled, Disabled}
@@ -229,6 +231,28 @@ module _ (S : Ghosts Searched) (searcher : Searched) (under : EnableScoring Sear
       let here = on_refusal S searcher q under error on fields refused in
       subst (λ o. IsUnexplainedIn S searcher q o ord d error) (sym there)
       (unweighed_tree S searcher q reader.segment d error (weight_refusal_of_weights S (with_scores searcher) asked q error here) here)
+
+-- ---- the best documents
+
+-- what a query's own weight finds best, the query does; and so it is refused
+module _ (S : Ghosts Searched) (searcher : Searched) (under : EnableScoring Searched) (q : Query) (on : provider_of under ≡ Some searcher) where
+  module _ (t : Tree) (same : t ≡ query_tree S under q) where
+    searched_tree : t ≡ query_tree S (with_scores searcher) q
+    searched_tree = same ∙ on_tree S searcher q under on
+
+    searched_scores : IsTrue (is_scoring t)
+    searched_scores = subst (λ u. IsTrue (is_scoring u)) (sym searched_tree) (scoring_if_enabled S (with_scores searcher) q refl)
+
+    pub found_best : {V : Type 0} (items : V → List (ℤ × DocAddress)) (k : ℕ) (r : Result V QueryError) → IfOk r (λ v. IsTrue (is_scoring t) → AreBestOf k t searcher.segments (items v)) → IfOk r (λ v. AreTopDocs S searcher q k (items v))
+    found_best items k (Ok v) found = record { are = subst (λ u. AreBestOf k u searcher.segments (items v)) searched_tree (found searched_scores) }
+    found_best items k (Err e) found = found
+
+    pub best_refused : {V : Type 0} (r : Result V QueryError) → IfErr r (IsRefusalOf t 1) → IfErr r (IsTopDocsRefusal S searcher q)
+    best_refused (Ok v) refused = refused
+    best_refused (Err e) refused = record { refused = inr (subst (λ u. IsRefusalOf u 1 e) searched_tree refused) }
+
+  pub best_unweighed : (error : QueryError) → schema_of under ≡ searcher.schema → IsWeightRefusal S under q error → IsTopDocsRefusal S searcher q error
+  best_unweighed error fields refused = record { refused = inl (on_refusal S searcher q under error on fields refused) }
 
 -- ---- the searcher as the provider
 

@@ -13,3 +13,9 @@ pub mod QueryScorers
 pub mod QueryTerms
 pub mod ScoringTrees
 pub mod Searches
+pub mod Ranking
+pub mod KeptDocument
+pub mod TopDocs
+pub mod KeptDocuments
+pub mod TopDocsOrder
+pub mod TopDocsFacts

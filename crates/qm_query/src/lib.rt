@@ -24,6 +24,7 @@ mod rescoring;
 mod scorers;
 mod searches;
 mod term_query;
+mod top_docs;
 mod visits;
 
 pub use all_query::AllQuery;
@@ -39,3 +40,4 @@ pub use phrase_query::PhraseQuery;
 pub use query::{Query, QueryClone};
 pub use scorers::query_scorer;
 pub use term_query::TermQuery;
+pub use top_docs::TopDocs;

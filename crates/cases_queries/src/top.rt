@@ -1,0 +1,35 @@
+//! The best documents of all segments.
+
+use crate::world::World;
+use cases::{Fault, Memory, end_refusals, write_space};
+use qm_docset::Score;
+use qm_postings::DocAddress;
+use qm_query::{AnyQuery, TopDocs};
+use std::alloc::Global;
+
+/// Writes the best documents that a query finds, at most as many as the word says, each as its segment,
+/// its document and its score.
+pub fn write_top(
+    alloc: Global,
+    world: &World,
+    query: &AnyQuery,
+    limit: &str,
+    memory: Memory,
+    text: &mut String,
+) -> Result<(), Fault> {
+    let Ok(limit) = limit.parse() else {
+        return Err(Fault::NotUnderstood);
+    };
+    memory.begin(alloc);
+    let found = TopDocs::with_limit(limit).search(alloc, query, &world.searcher);
+    end_refusals(alloc);
+    write_found(&found?, text)
+}
+
+fn write_found(found: &[(Score, DocAddress)], text: &mut String) -> Result<(), Fault> {
+    for (score, address) in found {
+        write_space(text)?;
+        write!(text, "{}/{}:{score}", address.segment_ord, address.doc_id)?;
+    }
+    Ok(())
+}

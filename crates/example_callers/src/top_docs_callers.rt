@@ -1,0 +1,47 @@
+//! Callers of a search for the best documents: what they answer follows from its contract, and from what
+//! `TopDocsFacts` of qm_query says of every such answer.
+
+ghost use Rattle.std.specs.Prelude.{◌≡◌, ◌⊎◌, ◌<◌, IfOk, IfSome, None, [], All, nat_lt};
+ghost use Rattle.qm_query.specs.QueryTree.{query_tree};
+ghost use Rattle.qm_query.specs.Searches.{count_in, with_scores};
+ghost use Rattle.qm_query.specs.TopDocs.{AreTopDocs, StandsBefore, all_found, score_first};
+
+use qm_docset::Score;
+use qm_postings::{Bm25StatisticsProvider, DocAddress, Searcher};
+use qm_query::{Query, TopDocs};
+use qm_schema::QueryError;
+use std::alloc::Global;
+
+/// The best of the documents that a query finds in the segments of a searcher and that weren't deleted,
+/// with its score: every other one scores less, or as much and comes behind it by address. None where
+/// none is found.
+pub fn best_address<Q: Query>(
+    alloc: Global,
+    query: &Q,
+    searcher: &Searcher,
+) -> Result<Option<(Score, DocAddress)>, QueryError>
+    ensures none { IfOk result (λ best. best ≡ None → all_found ⟦<Searcher as Bm25StatisticsProvider>⟧ searcher.now (Q.query query.now) ≡ []) }
+    ensures best { let all = all_found ⟦<Searcher as Bm25StatisticsProvider>⟧ searcher.now (Q.query query.now) in
+        IfOk result (λ best. IfSome best (λ b. All (λ d. (score_first d ≡ b) ⊎ StandsBefore b (score_first d)) all)) }
+{
+    let found = TopDocs::with_limit(1).search(alloc, query, searcher)?;
+    Ok(found.first().copied())
+}
+
+/// The best documents that a query finds, at most so many, and whether it finds more.
+pub fn first_page<Q: Query>(
+    alloc: Global,
+    query: &Q,
+    searcher: &Searcher,
+    size: usize,
+) -> Result<(Vec<(Score, DocAddress)>, bool), QueryError>
+    requires size { size < 18446744073709551615 }
+    ensures page { IfOk result (λ page. AreTopDocs ⟦<Searcher as Bm25StatisticsProvider>⟧ searcher.now (Q.query query.now) size page.0.items) }
+    ensures more { let tree = query_tree ⟦<Searcher as Bm25StatisticsProvider>⟧ (with_scores searcher.now) (Q.query query.now) in
+        IfOk result (λ page. page.1 ≡ nat_lt size (count_in tree searcher.now.segments)) }
+{
+    let mut found = TopDocs::with_limit(size + 1).search(alloc, query, searcher)?;
+    let has_more = found.len() > size;
+    found.truncate(size);
+    Ok((found, has_more))
+}

@@ -1,0 +1,74 @@
+-- The best of all documents that a query finds in the segments of a searcher.
+use Rattle.std.specs.Prelude.{◌≡◌, ◌⊎◌, ℕ, suc, ℤ, pos, ◌<ℤ◌, List, [], ◌∷◌, ◌++◌, All, length, map}
+use Rattle.std.specs.List.{sum_by}
+use Rattle.std.specs.declared.cmp.Ordering.TheVariants.{Less}
+use Rattle.qm_docset.specs.Entry.{FirstAndOthers}
+use Rattle.qm_postings.specs.Address.{address_cmp}
+use Rattle.qm_postings.specs.Reading.{Reader}
+use Rattle.qm_postings.specs.Segment.{Segment, alive_documents}
+use Rattle.qm_postings.specs.Statistics.{Searched}
+use Rattle.qm_postings.specs.declared.address.DocAddress.{DocAddress}
+use Rattle.qm_postings.specs.declared.statistics.Bm25StatisticsProvider.{Ghosts}
+use Rattle.qm_schema.specs.declared.error.QueryError.{QueryError}
+use Rattle.qm_weight.specs.Best.{best}
+use Rattle.qm_weight.specs.Counts.{alive_matching}
+use Rattle.qm_weight.specs.Tree.{Tree, score}
+use Rattle.qm_query.specs.Query.{Query}
+use Rattle.qm_query.specs.QueryScorers.{IsQueryRefusal}
+use Rattle.qm_query.specs.QueryTree.{query_tree}
+use Rattle.qm_query.specs.Searches.{with_scores}
+
+-- ---- what is found, by address
+
+-- a document of the segment of that number, and its score
+abbrev pub addressed : ℕ → Tree → Segment → ℕ → DocAddress × ℤ
+addressed ord tree segment d = (record { segment_ord = ord; doc_id = d }, pos (score tree 1 segment d))
+
+-- the documents of a segment that a tree matches and that were not deleted, each with its score
+abbrev pub alive_matches : ℕ → Tree → Segment → List (DocAddress × ℤ)
+alive_matches ord tree segment = map (addressed ord tree segment) (alive_matching tree segment)
+
+-- those of segment after segment, which are numbered from that number on
+abbrev pub alive_matches_from : ℕ → Tree → List Reader → List (DocAddress × ℤ)
+alive_matches_from ord tree [] = []
+alive_matches_from ord tree (reader ∷ readers) = alive_matches ord tree reader.segment ++ alive_matches_from (suc ord) tree readers
+
+-- all documents that the query finds and that were not deleted, each with its score, by address
+abbrev pub all_found : Ghosts Searched → Searched → Query → List (DocAddress × ℤ)
+all_found S searcher query = alive_matches_from 0 (query_tree S (with_scores searcher) query) searcher.segments
+
+-- each comes before all behind it by address
+abbrev pub AreByAddress : List (DocAddress × ℤ) → Type 0
+AreByAddress [] = Unit {0}
+AreByAddress (d ∷ ds) = FirstAndOthers (All (λ e. address_cmp d.0 e.0 ≡ Less) ds) (AreByAddress ds)
+
+-- ---- the best of them
+
+-- as an answer has it: the score before the address
+abbrev pub score_first : DocAddress × ℤ → ℤ × DocAddress
+score_first d = (d.1, d.0)
+
+-- one stands before another in an answer: it scores more, or as much and comes first by address
+abbrev pub StandsBefore : ℤ × DocAddress → ℤ × DocAddress → Type 0
+StandsBefore d e = (e.0 <ℤ d.0) ⊎ ((e.0 ≡ d.0) × (address_cmp d.1 e.1 ≡ Less))
+
+-- each stands before all behind it
+abbrev pub AreInOrder : List (ℤ × DocAddress) → Type 0
+AreInOrder [] = Unit {0}
+AreInOrder (d ∷ ds) = FirstAndOthers (All (StandsBefore d) ds) (AreInOrder ds)
+
+-- These are the best k: by score downwards, and where the scores are the same by address upwards.
+pub record AreTopDocs (S : Ghosts Searched) (searcher : Searched) (query : Query) (k : ℕ) (found : List (ℤ × DocAddress)) : Type 0 where
+  pub are : found ≡ map score_first (best k (all_found S searcher query))
+
+-- The query's weight with scoring on is refused so, or the scorer of its tree.
+pub record IsTopDocsRefusal (S : Ghosts Searched) (searcher : Searched) (query : Query) (error : QueryError) : Type 0 where
+  pub refused : IsQueryRefusal S (with_scores searcher) query 1 error
+
+-- the same of a tree
+abbrev pub AreBestOf : ℕ → Tree → List Reader → List (ℤ × DocAddress) → Type 0
+AreBestOf k tree segments found = found ≡ map score_first (best k (alive_matches_from 0 tree segments))
+
+-- how many documents of all segments were not deleted
+abbrev pub alive_in : List Reader → ℕ
+alive_in segments = sum_by (λ reader. length (alive_documents reader.segment)) segments

@@ -1,0 +1,131 @@
+//! The best documents of all segments of a searcher.
+
+ghost use Rattle.std.specs.Prelude.{◌≡◌, IfErr, IfOk, IsTrue, OnOk};
+ghost use Rattle.qm_weight.specs.Scorers.{IsRefusalOf};
+ghost use Rattle.qm_weight.specs.Tree.{is_scoring};
+ghost use Rattle.qm_weight.specs.Weights.{tree_of};
+ghost use Rattle.qm_query.specs.KeptDocuments.{AreKeptToo};
+ghost use Rattle.qm_query.specs.TopDocs.{AreBestOf, AreTopDocs, IsTopDocsRefusal, alive_in};
+
+mod kept_document;
+mod kept_documents;
+
+use crate::enable_scoring::EnableScoring;
+use crate::query::Query;
+use kept_documents::KeptDocuments;
+use qm_docset::Score;
+use qm_postings::{Bm25StatisticsProvider, DocAddress, Searcher, SegmentReader};
+use qm_schema::QueryError;
+use qm_weight::{AnyWeight, Weight};
+use std::alloc::Global;
+use std::marker::Model;
+
+/// The best documents that a query finds, at most so many: tantivy's `TopDocs`.
+///
+/// Contracts see it as that number.
+#[derive(Clone, Copy, Debug)]
+pub struct TopDocs {
+    limit: usize,
+}
+
+impl Model for TopDocs {
+    ghost use Rattle.std.specs.Prelude.{ℕ};
+
+    ghost Value = { ℕ };
+
+    ghost view = { λ t. t.limit };
+
+    ghost inverse = { λ n. record { limit = n } };
+}
+
+impl TopDocs {
+    /// At most `limit` documents: any number will do, and with 0 there is none. Takes no memory.
+    pub fn with_limit(limit: usize) -> TopDocs
+        ensures { result ≡ limit }
+    {
+        TopDocs { limit }
+    }
+
+    /// The best documents of all segments of a searcher that a query matches and that weren't deleted,
+    /// each with its score, in points, and its address: by score downwards, then by address upwards,
+    /// and at most so many. The searcher gives the weights of the terms.
+    ///
+    /// Refused as [`Query::weight`] is, with a limit of 0 too, and then as `Weight::for_each_pruning` is
+    /// for a segment: with [`QueryError::ScoreBound`] only where the query doesn't fit, and else with
+    /// [`QueryError::Memory`] alone. Takes room for the smaller of the limit and the number of documents
+    /// that weren't deleted, so that a great limit is no refusal by itself.
+    ///
+    /// Builds the weight once, and costs what `Weight::for_each_pruning` does for each segment, with a
+    /// threshold that is carried from one to the next: -1, and once as many documents are kept as the
+    /// limit says the least of their scores. A document that is kept costs the logarithm of the limit,
+    /// and they are sorted once at the end.
+    pub fn search<Q: Query>(
+        &self,
+        alloc: Global,
+        query: &Q,
+        searcher: &Searcher,
+    ) -> Result<Vec<(Score, DocAddress)>, QueryError>
+        ensures best { IfOk result (λ found. AreTopDocs ⟦<Searcher as Bm25StatisticsProvider>⟧ searcher.now (Q.query query.now) self.now found.items) }
+        ensures refused { IfErr result (IsTopDocsRefusal ⟦<Searcher as Bm25StatisticsProvider>⟧ searcher.now (Q.query query.now)) }
+    {
+        let weight = query.weight(alloc, EnableScoring::enabled_from_searcher(searcher))?;
+        best_alive(&weight, alloc, searcher, self.limit)
+    }
+}
+
+// The best documents of all segments that match and weren't deleted.
+fn best_alive(
+    weight: &AnyWeight,
+    alloc: Global,
+    searcher: &Searcher,
+    limit: usize,
+) -> Result<Vec<(Score, DocAddress)>, QueryError>
+    ensures best { IfOk result (λ found. IsTrue (is_scoring (tree_of weight.now)) → AreBestOf limit (tree_of weight.now) searcher.now.segments found.items) }
+    ensures refused { IfErr result (IsRefusalOf (tree_of weight.now) 1) }
+{
+    if limit == 0 {
+        return Ok(Vec::new(alloc));
+    }
+    let room = limit.min(count_alive_documents(searcher));
+    let mut kept = KeptDocuments::with_limit(alloc, limit, room)?;
+    let mut segment_ord = 0;
+    // the best documents of the segments so far are kept
+    for reader in searcher.segment_readers() {
+        collect_segment(weight, alloc, reader, segment_ord, &mut kept)?;
+        segment_ord += 1;
+    }
+    kept.into_best(alloc)
+}
+
+// How many documents of all segments weren't deleted.
+fn count_alive_documents(searcher: &Searcher) -> usize
+    ensures { result ≡ alive_in searcher.now.segments }
+{
+    let mut count = 0;
+    // those of the segments so far are counted
+    for reader in searcher.segment_readers() {
+        count += reader.num_docs() as usize;
+    }
+    count
+}
+
+// Enters the documents of one more segment that match and weren't deleted, by a pruned run.
+fn collect_segment(
+    weight: &AnyWeight,
+    alloc: Global,
+    reader: &SegmentReader,
+    segment_ord: u32,
+    kept: &mut KeptDocuments,
+) -> Result<(), QueryError>
+    ensures kept { OnOk result (AreKeptToo segment_ord (tree_of weight.now) reader.now.segment kept.old kept.new) }
+    ensures refused { IfErr result (IsRefusalOf (tree_of weight.now) 1) }
+{
+    let threshold = kept.threshold();
+    weight.for_each_pruning(
+        alloc,
+        threshold,
+        reader,
+        &mut |doc, score| { kept.collect(reader, segment_ord, doc, score) },
+    )?;
+    Ok(())
+}
