@@ -36,7 +36,7 @@ returns-clause-kept c =
     let reader : h.1 ≡ f.1 = search rules in
     let number : h.2 ≡ f.2 = search rules in (
       λ begun. KeepsBest-collected ord segment ds e f.0.now h.0.now (now.0 begun) ok limit
-      (λ fine. subst (λ r. Collects ord r.now.segment e.document (pos e.score) f.0.now h.0.now) now.4 (subst (λ n. Collects n.now f.1.now.segment e.document (pos e.score) f.0.now h.0.now) now.5 (collected fine))),
+          (λ fine. subst (λ r. Collects ord r.now.segment e.document (pos e.score) f.0.now h.0.now) now.4 (subst (λ n. Collects n.now f.1.now.segment e.document (pos e.score) f.0.now h.0.now) now.5 (collected fine))),
       is,
       limit ∙ now.2,
       name ∙ now.3,
