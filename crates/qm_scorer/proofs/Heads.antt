@@ -14,7 +14,7 @@ use Rattle.qm_combine.specs.WithoutFacts.{head_document-without}
 use Rattle.qm_scorer.specs.Bare.{IsBounded}
 use Rattle.qm_scorer.specs.BareFacts.{head_document-bare}
 use Rattle.qm_scorer.specs.MoveFacts.{product-fits}
-use Rattle.qm_scorer.specs.Tree.{IsRow, IsRowPlaced, IsTree, IsTreePlaced, StandAt, row_lists, tree_entries, tree_head, tree_limits}
+use Rattle.qm_scorer.specs.Tree.{IsRow, IsRowPlaced, IsTree, IsTreePlaced, StandAt, row_limits, row_lists, tree_entries, tree_head, tree_limits}
 use Rattle.qm_scorer.specs.TreeFacts.{tree-ascends}
 use Rattle.qm_scorer.specs.declared.any_scorer.AnyScorer.{AnyScorer, Row_of-AnyScorer, end_of-AnyScorer, more_of-AnyScorer, items-the_row-AnyScorer, All as Every, BitSet, Boost', Const', Disjunction', Empty, Exclude', Intersection', Own, Phrase, PhrasePrefix, RequiredOptional', Term, Union'}
 
@@ -29,6 +29,10 @@ module _ {S : Type 0} (D : Ghosts S) where
   pub row_lists-items : (n : _) (row : Row_of-AnyScorer S n) → row_lists D row ≡ map (tree_entries D) (items-the_row-AnyScorer S n row)
   row_lists-items n end_of-AnyScorer = refl
   row_lists-items n (more_of-AnyScorer x others) = ap (λ r. tree_entries D x ∷ r) (row_lists-items _ others)
+
+  pub row_limits-items : (n : _) (row : Row_of-AnyScorer S n) → row_limits D row ≡ map (tree_limits D) (items-the_row-AnyScorer S n row)
+  row_limits-items n end_of-AnyScorer = refl
+  row_limits-items n (more_of-AnyScorer x others) = ap (λ r. tree_limits D x ∷ r) (row_limits-items _ others)
 
   pub IsRow-items : (n : _) (row : Row_of-AnyScorer S n) → IsRow D row → All (IsTree D) (items-the_row-AnyScorer S n row)
   IsRow-items n end_of-AnyScorer h = All-nil (IsTree D)
@@ -74,7 +78,7 @@ module _ {S : Type 0} (D : Ghosts S) where
   tree-head own (Const' p inner score) h here = tree-head own inner h.0 here ∙ sym (head_document-rescored _ _)
   tree-head own (RequiredOptional' p required optional top) h here = tree-head own required h.0 here ∙ sym (head_document-rescored _ _)
   tree-head own (Exclude' p inner out top) h here = tree-head own inner h.0 here.0 ∙ sym (head_document-without _ 0 _ _ (tree-ascends D own inner h.0) here.1)
-  tree-head own (Union' p room row shape current) h here = h.2.first
+  tree-head own (Union' p room row window ahead doc span top) h here = h.2.standing.first
   tree-head own (Disjunction' p room row shape current) h here = h.2.first
   tree-head own (Intersection' p leader room row num_docs top) h here = tree-head own leader h.0 here.0 ∙ head_document-led own leader _ row h.0 h.1 (λ below. (here.1 below).1)
 

@@ -1,5 +1,5 @@
 -- What a tree is after its leaf or its node was asked for a score, by what that call ensures.
-use Rattle.std.proofs.Common.{arith, ◌≡◌, ℕ, ◌*◌, ◌<◌, ◌≤◌, ℤ, pos, List, sym, ap, subst, ◌∙◌}
+use Rattle.std.proofs.Common.{arith, refl, ◌≡◌, ℕ, ◌*◌, ◌<◌, ◌≤◌, ℤ, pos, List, [], ◌∷◌, sum, sym, ap, subst, ◌∙◌}
 use Rattle.std.specs.declared.boxed.Box.{Box}
 use lib.Signed.{mag}
 use Rattle.qm_docset.specs.Entry.{Entry, greatest_score, head_document, head_score}
@@ -24,9 +24,11 @@ use Rattle.qm_scorer.specs.declared.group_node.GroupNode.{GroupNode, size-GroupN
 use Rattle.qm_scorer.specs.declared.group_node.Shape.{Shape}
 use Rattle.qm_scorer.specs.declared.intersection_node.IntersectionNode.{IntersectionNode, size-IntersectionNode}
 use Rattle.qm_scorer.specs.declared.optional_node.OptionalNode.{OptionalNode, size-OptionalNode}
-use Rattle.qm_scorer.proofs.Depth.{size-Boost, size-Const, size-Disjunction, size-Exclude, size-RequiredOptional, size-Union}
+use Rattle.qm_scorer.specs.United.{union_list}
+use Rattle.qm_scorer.specs.declared.union_node.UnionNode.{UnionNode}
+use Rattle.qm_scorer.proofs.Depth.{size-Boost, size-Const, size-Disjunction, size-Exclude, size-RequiredOptional}
 use Rattle.qm_scorer.proofs.IntersectionArms.{left-depth, left-entries, left-head, left-top, left-valid, lent-entries}
-use Rattle.qm_scorer.proofs.Opened.{closed-Disjunction, closed-Union, entries-Disjunction, entries-Union, placed-Intersection}
+use Rattle.qm_scorer.proofs.Opened.{closed-Disjunction, entries-Disjunction, entries-Union, placed-Intersection}
 
 -- a score that fits its type is a score of a cursor
 pub score_fits : (z : ℤ) (n : ℕ) → z ≡ pos n → mag z < 9223372036854775808 → n ≤ greatest_score
@@ -161,20 +163,20 @@ module _ {S : Type 0} (D : Ghosts S) where
 
   -- ---- nodes over rows of trees
 
-  pub scored-Union : {lent : GroupNode S} {n : ℕ} (node : Box (GroupNode S) _) (after : GroupNode S) → lent ≡ node.value → n ≡ head_score (group_entries D lent) → n ≤ greatest_score → group_lists D after ≡ group_lists D lent → IsGroupNode D after → after.shape ≡ lent.shape → after.current ≡ lent.current → size-GroupNode S after ≤ size-GroupNode S lent → Scored (Union node) (Union (record node { value = after })) n
-  scored-Union {lent} node after same score fits lists valid shape current depth =
-      let before : tree_entries D (Union node) ≡ group_entries D lent = entries-Union D node ∙ ap (group_entries D) (sym same) in
-      let new = record node { value = after } in
-      record {
-        score = score ∙ sym (ap head_score before);
+  pub scored-Union : {lent : UnionNode S} {n : ℕ} (node : Box (UnionNode S) _) (after : UnionNode S) → lent ≡ node.value → IsTree D (Union node) → n ≡ head_score (union_list D lent) → n ≤ greatest_score → after ≡ lent → Scored (Union node) (Union (record node { value = after })) n
+  scored-Union {lent} {n} node after same valid score fits kept =
+      let is : after ≡ node.value = kept ∙ same in
+      let made : Scored (Union node) (Union node) n = record {
+        score = score ∙ ap (λ m. head_score (union_list D m)) same ∙ sym (ap head_score (entries-Union D node));
         fits = fits;
-        entries = entries-Union D new ∙ (λ i. gathered_list (shape i) (lists i)) ∙ sym before;
-        top = ap (λ (s : Shape). s.top) shape ∙ ap (λ (m : GroupNode S). m.shape.top) same;
-        valid = closed-Union D new valid;
+        entries = refl;
+        top = refl;
+        valid = valid;
         placed = tt;
-        head = current ∙ ap (λ (m : GroupNode S). m.current) same;
-        depth = size-Union node new (subst (λ m. size-GroupNode S after ≤ size-GroupNode S m) same depth);
-      }
+        head = refl;
+        depth = omega arith;
+      } in
+      subst (λ (m : UnionNode S). Scored (Union node) (Union (record node { value = m })) n) (sym is) made
 
   pub scored-Disjunction : {lent : GroupNode S} {n : ℕ} (node : Box (GroupNode S) _) (after : GroupNode S) → lent ≡ node.value → n ≡ head_score (group_entries D lent) → n ≤ greatest_score → group_lists D after ≡ group_lists D lent → IsGroupNode D after → after.shape ≡ lent.shape → after.current ≡ lent.current → size-GroupNode S after ≤ size-GroupNode S lent → Scored (Disjunction node) (Disjunction (record node { value = after })) n
   scored-Disjunction {lent} node after same score fits lists valid shape current depth =

@@ -1,9 +1,9 @@
 -- What a tree of scorers lists, by recursion over its nodes: each node lists what the combinator of
 -- its kind does. `D` are the ghost members of the caller's own scorers.
-use Rattle.std.specs.Prelude.{◌≡◌, ℕ, ◌*◌, ◌<◌, ◌≤◌, List, [], ◌∷◌, sum}
+use Rattle.std.specs.Prelude.{◌≡◌, ℕ, ◌*◌, ◌<◌, ◌≤◌, List, [], ◌∷◌, max, sum}
 use Rattle.std.specs.List.{All as Each}
 use Rattle.qm_docset.specs.BitSetDocSet.{IsBitSetCursor, IsOnMember, remaining_members}
-use Rattle.qm_docset.specs.Entry.{Entry, Limits, head_document, no_limits}
+use Rattle.qm_docset.specs.Entry.{Entry, Limits, greatest_score, head_document, no_limits}
 use Rattle.qm_docset.specs.Exclusion.{has_document}
 use Rattle.qm_docset.specs.Gather.{common_entries, gather, scores_at}
 use Rattle.qm_docset.specs.declared.bitset_docset.BitSetDocSet.{BitSetDocSet}
@@ -15,13 +15,17 @@ use Rattle.qm_combine.specs.AllDocuments.{IsOverAll, all_left}
 use Rattle.qm_combine.specs.Constant.{IsConstant, IsConstantPlaced, constant_left, constant_limits}
 use Rattle.qm_combine.specs.HeldSum.{held_sum}
 use Rattle.qm_combine.specs.Rescored.{rescored, with_optional}
-use Rattle.qm_combine.specs.Union.{least_head}
+use Rattle.qm_combine.specs.Combiner.{IsCleared}
+use Rattle.qm_combine.specs.Union.{least_head, total_top, united_limits}
+use Rattle.qm_combine.specs.Window.{IsUntil, window_combiner, window_has, window_state}
+use Rattle.qm_combine.specs.Windowed.{IsWindowed, windowed}
+use Rattle.qm_combine.specs.declared.union.window.Window.{Window}
 use Rattle.qm_combine.specs.Without.{without}
 use Rattle.qm_combine.specs.WithoutFacts.{IsKept}
 use Rattle.qm_phrase.specs.PhrasePrefixScorer.{IsOnPhrasePrefix, IsPhrasePrefix, phrase_prefix_left, phrase_prefix_scorer_limits}
 use Rattle.qm_phrase.specs.PhraseScorer.{IsOnPhrase, IsPhrase, phrase_left, phrase_scorer_limits}
 use Rattle.qm_term.specs.TermScorer.{IsTermScorer, scored_left, scored_limits}
-use Rattle.qm_scorer.specs.AnyCombiner.{AreTakenBy, any_combined}
+use Rattle.qm_scorer.specs.AnyCombiner.{AreTakenBy, any_cleared, any_combined, any_value}
 use Rattle.qm_scorer.specs.Bare.{IsBounded, bare, scores_to}
 use Rattle.qm_scorer.specs.declared.any_combiner.AnyCombiner.{AnyCombiner}
 use Rattle.qm_scorer.specs.declared.any_scorer.AnyScorer.{AnyScorer, Row_of-AnyScorer, end_of-AnyScorer, more_of-AnyScorer, All, BitSet, Boost', Const', Disjunction', Empty, Exclude', Intersection', Own, Phrase, PhrasePrefix, RequiredOptional', Term, Union'}
@@ -54,6 +58,29 @@ pub record IsGroup (shape : Shape) (current : ℕ) (ess : List (List Entry)) : T
   pub least : current ≡ least_head ess
   pub room : HasRoom shape.combiner ess
 
+-- ---- unions
+
+-- the score that a window keeps of a document
+abbrev pub kept_score : Window AnyCombiner → ℕ → ℕ
+kept_score w d = any_value (window_state w d)
+
+-- what a union lists from a document on of what its window keeps and its members have left
+abbrev pub united : Window AnyCombiner → ℕ → List (List Entry) → List Entry
+united w doc ess = windowed (window_has w) (kept_score w) doc (any_combined (window_combiner w)) ess
+
+-- a window with a combiner that was cleared and has room for all scores of the members, and the bound on
+-- what it makes of them
+pub record HasParts (w : Window AnyCombiner) (top : ℕ) (limits : List Limits) : Type 0 where
+  pub fits : total_top limits ≤ greatest_score
+  pub bound : top ≡ max 1 (total_top limits)
+  pub start : IsCleared any_cleared (window_combiner w)
+  pub until : IsUntil w
+
+-- a union that stands on its first document
+pub record IsUnited (w : Window AnyCombiner) (doc ahead top : ℕ) (limits : List Limits) (ess : List (List Entry)) : Type 0 where
+  pub parts : HasParts w top limits
+  pub standing : IsWindowed (window_has w) (kept_score w) doc ahead (any_combined (window_combiner w)) (united_limits limits) ess
+
 -- ---- trees
 
 module _ {S : Type 0} (D : Ghosts S) where
@@ -71,7 +98,7 @@ module _ {S : Type 0} (D : Ghosts S) where
     tree_entries (Const' p inner score) = rescored (λ _. score) (tree_entries inner)
     tree_entries (RequiredOptional' p required optional top) = with_optional sum (tree_entries required) (tree_entries optional)
     tree_entries (Exclude' p inner out top) = without (has_document (tree_entries out)) (tree_entries inner)
-    tree_entries (Union' p room row shape current) = gathered_list shape (row_lists row)
+    tree_entries (Union' p room row window ahead doc span top) = united window doc (row_lists row)
     tree_entries (Disjunction' p room row shape current) = gathered_list shape (row_lists row)
     tree_entries (Intersection' p leader room row num_docs top) = common_entries held_sum (tree_entries leader ∷ row_lists row)
 
@@ -104,12 +131,17 @@ module _ {S : Type 0} (D : Ghosts S) where
   tree_top (Const' p inner score) = score
   tree_top (RequiredOptional' p required optional top) = top
   tree_top (Exclude' p inner out top) = top
-  tree_top (Union' p room row shape current) = shape.top
+  tree_top (Union' p room row window ahead doc span top) = top
   tree_top (Disjunction' p room row shape current) = shape.top
   tree_top (Intersection' p leader room row num_docs top) = top
 
   abbrev pub tree_limits : AnyScorer S → Limits
   tree_limits x = scores_to (tree_top x)
+
+  -- the same of each of a row of trees
+  abbrev pub row_limits : {n : _} → Row_of-AnyScorer S n → List Limits
+  row_limits end_of-AnyScorer = []
+  row_limits (more_of-AnyScorer x others) = tree_limits x ∷ row_limits others
 
   -- the document that it stands on, where it is placed
   abbrev pub tree_head : AnyScorer S → ℕ
@@ -124,7 +156,7 @@ module _ {S : Type 0} (D : Ghosts S) where
   tree_head (Const' p inner score) = tree_head inner
   tree_head (RequiredOptional' p required optional top) = tree_head required
   tree_head (Exclude' p inner out top) = tree_head inner
-  tree_head (Union' p room row shape current) = current
+  tree_head (Union' p room row window ahead doc span top) = doc
   tree_head (Disjunction' p room row shape current) = current
   tree_head (Intersection' p leader room row num_docs top) = tree_head leader
 
@@ -146,7 +178,7 @@ module _ {S : Type 0} (D : Ghosts S) where
     IsTreePlaced (Const' p inner score) = IsTreePlaced inner
     IsTreePlaced (RequiredOptional' p required optional top) = IsTreePlaced required
     IsTreePlaced (Exclude' p inner out top) = IsTreePlaced inner × IsKept (has_document (tree_entries out)) (tree_entries inner)
-    IsTreePlaced (Union' p room row shape current) = Unit {0}
+    IsTreePlaced (Union' p room row window ahead doc span top) = Unit {0}
     IsTreePlaced (Disjunction' p room row shape current) = Unit {0}
     IsTreePlaced (Intersection' p leader room row num_docs top) = IsTreePlaced leader × (head_document (tree_entries leader) < TERMINATED → IsRowPlaced row × StandAt (head_document (tree_entries leader)) (row_lists row))
 
@@ -169,7 +201,7 @@ module _ {S : Type 0} (D : Ghosts S) where
     IsTree (Const' p inner score) = IsTree inner × IsBounded score (rescored (λ _. score) (tree_entries inner))
     IsTree (RequiredOptional' p required optional top) = IsTree required × IsTree optional × IsTreePlaced optional × IsBounded top (with_optional sum (tree_entries required) (tree_entries optional))
     IsTree (Exclude' p inner out top) = IsTree inner × IsTree out × IsBounded top (without (has_document (tree_entries out)) (tree_entries inner))
-    IsTree (Union' p room row shape current) = IsRow row × IsRowPlaced row × IsGroup shape current (row_lists row)
+    IsTree (Union' p room row window ahead doc span top) = IsRow row × IsRowPlaced row × IsUnited window doc ahead top (row_limits row) (row_lists row)
     IsTree (Disjunction' p room row shape current) = IsRow row × IsRowPlaced row × IsGroup shape current (row_lists row)
     IsTree (Intersection' p leader room row num_docs top) = IsTree leader × IsRow row × IsBounded top (common_entries held_sum (tree_entries leader ∷ row_lists row))
 

@@ -1,5 +1,5 @@
 -- What a tree lists are a cursor's entries, within its bound.
-use Rattle.std.proofs.Common.{arith}
+use Rattle.std.proofs.Common.{arith, subst, sym}
 use Rattle.qm_docset.specs.BitSetDocSetFacts.{AreEntries-remaining}
 use Rattle.qm_docset.specs.Entry.{AreEntries}
 use Rattle.qm_docset.specs.declared.docset.DocSet.{Ghosts}
@@ -10,6 +10,7 @@ use Rattle.qm_postings.specs.FieldNorms.{norm_ids}
 use Rattle.qm_phrase.specs.PhraseFacts.{AreEntries-phrase}
 use Rattle.qm_phrase.specs.PhrasePrefixFacts.{AreEntries-prefix}
 use Rattle.qm_phrase.specs.PhrasePrefixScorer.{prefix_lists}
+use Rattle.qm_scorer.specs.Bare.{scores_to}
 use Rattle.qm_scorer.specs.BareFacts.{AreEntries-bare}
 use Rattle.qm_scorer.specs.Tree.{IsTree, postings_cursors, tree_entries, tree_limits}
 use Rattle.qm_scorer.specs.declared.any_scorer.AnyScorer.{AnyScorer, All, BitSet, Boost', Const', Disjunction', Empty, Exclude', Intersection', Own, Phrase, PhrasePrefix, RequiredOptional', Term, Union'}
@@ -28,6 +29,6 @@ module _ {S : Type 0} (D : Ghosts S) where
   tree-ascends own (Const' p inner score) h = h.1.entries
   tree-ascends own (RequiredOptional' p required optional top) h = h.3.entries
   tree-ascends own (Exclude' p inner out top) h = h.2.entries
-  tree-ascends own (Union' p room row shape current) h = h.2.bounded.entries
+  tree-ascends own (Union' p room row window ahead doc span top) h = subst (λ t. AreEntries 0 (scores_to t) (tree_entries D (Union' p room row window ahead doc span top))) (sym h.2.parts.bound) h.2.standing.ascending
   tree-ascends own (Disjunction' p room row shape current) h = h.2.bounded.entries
   tree-ascends own (Intersection' p leader room row num_docs top) h = h.2.entries

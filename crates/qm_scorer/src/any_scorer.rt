@@ -18,6 +18,7 @@ use crate::intersection_node::{
 };
 use crate::optional_node::{OptionalNode, score_optional};
 use crate::passing::{advance_tree, count_tree, fill_tree, total_tree};
+use crate::union_node::{UnionNode, danger_union, score_union, seek_union};
 use qm_combine::{AllScorer, ConstScorer, EmptyScorer, Scorer};
 use qm_docset::{
     AliveBitSet, BitSetDocSet, COLLECT_BLOCK_BUFFER_LEN, DocId, DocSet, Score, SeekDangerResult,
@@ -63,7 +64,7 @@ pub enum AnyScorer<'a, S> {
     /// The documents of one scorer that another does not have.
     Exclude(Box<ExcludeNode<'a, S>>),
     /// The documents that any of several scorers has, with their scores combined.
-    Union(Box<GroupNode<'a, S>>),
+    Union(Box<UnionNode<'a, S>>),
     /// The documents that a minimum of several scorers has, with their scores combined.
     Disjunction(Box<GroupNode<'a, S>>),
     /// The documents that all of several scorers have, with the sums of their scores.
@@ -89,7 +90,7 @@ pub(crate) fn doc_tree<'a, S: Scorer>(scorer: &AnyScorer<'a, S>) -> DocId
         AnyScorer::Const(node) => doc_tree(&node.inner),
         AnyScorer::RequiredOptional(node) => doc_tree(&node.required),
         AnyScorer::Exclude(node) => doc_tree(&node.inner),
-        AnyScorer::Union(node) => node.current,
+        AnyScorer::Union(node) => node.doc,
         AnyScorer::Disjunction(node) => node.current,
         AnyScorer::Intersection(node) => doc_tree(&node.leader),
     }
@@ -142,7 +143,7 @@ fn seek_other<'a, S: Scorer>(scorer: &mut AnyScorer<'a, S>, target: DocId) -> Do
         AnyScorer::Const(node) => seek_tree(&mut node.inner, target),
         AnyScorer::RequiredOptional(node) => seek_tree(&mut node.required, target),
         AnyScorer::Exclude(node) => seek_exclude(node, target),
-        AnyScorer::Union(node) => seek_group(node, target),
+        AnyScorer::Union(node) => seek_union(node, target),
         AnyScorer::Disjunction(node) => seek_group(node, target),
         AnyScorer::Intersection(node) => seek_intersection(node, target),
     }
@@ -221,14 +222,14 @@ fn danger_other<'a, S: Scorer>(scorer: &mut AnyScorer<'a, S>, target: DocId) -> 
         AnyScorer::Const(node) => danger_tree(&mut node.inner, target),
         AnyScorer::RequiredOptional(node) => danger_tree(&mut node.required, target),
         AnyScorer::Exclude(node) => danger_exclude(node, target),
-        AnyScorer::Union(node) => danger_group(node, target),
+        AnyScorer::Union(node) => danger_union(node, target),
         AnyScorer::Disjunction(node) => danger_group(node, target),
         AnyScorer::Intersection(node) => danger_intersection(node, target),
     }
 }
 
 // The score of the document that a tree stands on.
-#[cycle(scores)]
+#[cycle(moves)]
 #[inline(always)]
 #[tactic(auto, using(crate::specs::MoveFacts::scores))]
 pub(crate) fn score_tree<'a, S: Scorer>(scorer: &mut AnyScorer<'a, S>) -> u64
@@ -251,7 +252,7 @@ pub(crate) fn score_tree<'a, S: Scorer>(scorer: &mut AnyScorer<'a, S>) -> u64
 }
 
 // The same, whatever the tree is.
-#[cycle(scores)]
+#[cycle(moves)]
 #[inline(never)]
 #[tactic(auto, using(crate::specs::MoveFacts::scores))]
 fn score_other<'a, S: Scorer>(scorer: &mut AnyScorer<'a, S>) -> u64
@@ -279,7 +280,7 @@ fn score_other<'a, S: Scorer>(scorer: &mut AnyScorer<'a, S>) -> u64
         AnyScorer::Const(node) => score_const(node),
         AnyScorer::RequiredOptional(node) => score_optional(node),
         AnyScorer::Exclude(node) => score_exclude(node),
-        AnyScorer::Union(node) => score_group(node),
+        AnyScorer::Union(node) => score_union(node),
         AnyScorer::Disjunction(node) => score_group(node),
         AnyScorer::Intersection(node) => score_intersection(node),
     }
@@ -303,7 +304,7 @@ impl<'a, S: Scorer> AnyScorer<'a, S> {
             AnyScorer::Const(node) => node.score as Score,
             AnyScorer::RequiredOptional(node) => node.top as Score,
             AnyScorer::Exclude(node) => node.top as Score,
-            AnyScorer::Union(node) => node.shape.top as Score,
+            AnyScorer::Union(node) => node.top as Score,
             AnyScorer::Disjunction(node) => node.shape.top as Score,
             AnyScorer::Intersection(node) => node.top as Score,
         }

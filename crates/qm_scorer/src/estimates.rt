@@ -2,10 +2,12 @@
 //! remain, and about what it costs to go through them. One walk serves both.
 
 ghost use Rattle.std.specs.Prelude.{All};
+ghost use Rattle.qm_combine.specs.Window.{IsUntil};
 ghost use Rattle.qm_scorer.specs.Tree.{IsTree};
 
 use crate::any_scorer::AnyScorer;
 use crate::group_node::GroupNode;
+use crate::union_node::UnionNode;
 use qm_combine::Scorer;
 use qm_docset::DocSet;
 
@@ -62,7 +64,7 @@ pub(crate) fn estimate_tree<'a, S: Scorer>(scorer: &AnyScorer<'a, S>, estimate: 
         AnyScorer::Const(node) => estimate_tree(&node.inner, estimate),
         AnyScorer::RequiredOptional(node) => estimate_tree(&node.required, estimate),
         AnyScorer::Exclude(node) => estimate_tree(&node.inner, estimate),
-        AnyScorer::Union(node) => estimate_group(node, estimate),
+        AnyScorer::Union(node) => estimate_union(node, estimate),
         AnyScorer::Disjunction(node) => estimate_group(node, estimate),
         AnyScorer::Intersection(node) => {
             estimate_shared(
@@ -84,4 +86,17 @@ fn estimate_group<'a, S: Scorer>(node: &GroupNode<'a, S>, estimate: Estimate) ->
         sum = join_estimates(sum, estimate_tree(member, estimate), estimate);
     }
     sum
+}
+
+// The estimate of a union: besides what its members have left, what its window holds of them.
+#[cycle(estimates)]
+fn estimate_union<'a, S: Scorer>(node: &UnionNode<'a, S>, estimate: Estimate) -> u64
+    requires members { All (IsTree S.DocSet) node.now.members.items }
+    requires until { IsUntil node.now.window }
+{
+    let mut sum = 0;
+    for member in &node.members {
+        sum = join_estimates(sum, estimate_tree(member, estimate), estimate);
+    }
+    sum.saturating_add(u64::from(node.window.len()))
 }

@@ -9,6 +9,7 @@ ghost use Rattle.qm_scorer.specs.Built.{IsAtLeastOf, IsUnionOf};
 ghost use Rattle.qm_scorer.specs.Group.{IsGroupNode, IsMadeOf, group_entries};
 ghost use Rattle.qm_scorer.specs.Intersection.{ListsShared};
 ghost use Rattle.qm_scorer.specs.Tree.{IsTree, tree_entries, tree_top};
+ghost use Rattle.qm_scorer.specs.United.{IsUnitedOf};
 
 use crate::any_combiner::AnyCombiner;
 use crate::any_scorer::{AnyScorer, doc_tree};
@@ -16,7 +17,8 @@ use crate::bounds::GREATEST_SCORE;
 use crate::builders::bound_of;
 use crate::group_node::{GroupNode, Shape, next_match};
 use crate::intersection_node::{IntersectionNode, align};
-use qm_combine::{DoNothingCombiner, EmptyScorer, Scorer, by_cost, sum_of_bounds};
+use crate::union_node::{FIRST_SPAN, UnionNode, go_on};
+use qm_combine::{DoNothingCombiner, EmptyScorer, Scorer, Window, by_cost, least_document, sum_of_bounds};
 use qm_docset::DocSet;
 use qm_schema::QueryError;
 use std::alloc::Global;
@@ -25,8 +27,10 @@ use std::alloc::Global;
 /// scores there: none where there are no scorers. A scorer that is given twice counts twice.
 ///
 /// Refuses with [`QueryError::ScoreBound`] exactly where the `max_score` of the scorers add up to more
-/// than 9223372036854775807, and else with [`QueryError::Memory`] alone. No scorer is moved. A step, a
-/// seek and a score of the union each ask every scorer.
+/// than 9223372036854775807, and else with [`QueryError::Memory`] alone, where there is no room for a
+/// node and a [`Window`]. The scorers are moved past the first window, which is filled out of 64 documents
+/// from their least on. A step or a seek of the union asks the window alone, and where that has nothing
+/// more, the scorers for each of their documents and scores in the next.
 pub fn union<'a, S: Scorer>(
     alloc: Global,
     members: Vec<AnyScorer<'a, S>>,
@@ -37,8 +41,36 @@ pub fn union<'a, S: Scorer>(
     ensures only { IfErr result IsBoundOrMemory }
     ensures lists { IfOk result (IsUnionOf ⟦<AnyScorer<'a, S> as DocSet>⟧ combiner members.entry.items) }
 {
-    let node = group_of(members, combiner, 1)?;
+    let node = union_of(alloc, members, combiner)?;
     Ok(AnyScorer::Union(Box::new(alloc, node)?))
+}
+
+// A union of the members, on its first document.
+fn union_of<'a, S: Scorer>(
+    alloc: Global,
+    members: Vec<AnyScorer<'a, S>>,
+    combiner: AnyCombiner,
+) -> Result<UnionNode<'a, S>, QueryError>
+    requires placed { ArePlaced ⟦<AnyScorer<'a, S> as DocSet>⟧ members.items }
+    ensures refused { IsRefusedByBounds ⟦<AnyScorer<'a, S> as DocSet>⟧ members.entry.items result }
+    ensures only { IfErr result IsBoundOrMemory }
+    ensures made { IfOk result (IsUnitedOf S.DocSet combiner members.entry.items) }
+{
+    let Some(sum) = sum_of_bounds(&members) else {
+        return Err(QueryError::ScoreBound);
+    };
+    let window = Window::new(alloc, combiner)?;
+    let ahead = least_document(&members);
+    let mut node = UnionNode {
+        members,
+        window,
+        ahead,
+        doc: 0,
+        span: FIRST_SPAN,
+        top: sum.max(1) as u64,
+    };
+    go_on(&mut node, FIRST_SPAN);
+    Ok(node)
 }
 
 /// The documents that at least `minimum` of several scorers have, each with what the combiner, cleared,
@@ -46,9 +78,10 @@ pub fn union<'a, S: Scorer>(
 /// twice. Asks for a minimum of 1 or more, which may be `usize::MAX`.
 ///
 /// Refuses with [`QueryError::ScoreBound`] exactly where the `max_score` of the scorers add up to more
-/// than 9223372036854775807, and else with [`QueryError::Memory`] alone. The scorers go on up to the
-/// first document that enough of them have. A step and a seek ask every scorer twice for each document
-/// that any has until enough have one, and a score asks every scorer.
+/// than 9223372036854775807, and else with [`QueryError::Memory`] alone. A minimum of 1 makes the scorer
+/// that [`union`] makes. Else the scorers go on up to the first document that enough of them have. A step
+/// and a seek then ask every scorer twice for each document that any has until enough have one, and a
+/// score asks every scorer.
 pub fn at_least<'a, S: Scorer>(
     alloc: Global,
     members: Vec<AnyScorer<'a, S>>,
@@ -61,6 +94,9 @@ pub fn at_least<'a, S: Scorer>(
     ensures only { IfErr result IsBoundOrMemory }
     ensures lists { IfOk result (IsAtLeastOf ⟦<AnyScorer<'a, S> as DocSet>⟧ minimum combiner members.entry.items) }
 {
+    if minimum == 1 {
+        return union(alloc, members, combiner);
+    }
     let node = group_of(members, combiner, minimum)?;
     Ok(AnyScorer::Disjunction(Box::new(alloc, node)?))
 }

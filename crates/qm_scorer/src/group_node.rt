@@ -155,7 +155,7 @@ fn take_score(combiner: &mut AnyCombiner, score: u64)
 
 // The score of the node's document: what the combiner, cleared, makes of those of the members that
 // stand on it.
-#[cycle(scores)]
+#[cycle(moves)]
 #[tactic(auto, using(crate::specs::MoveFacts::scores))]
 pub(crate) fn score_group<'a, S: Scorer>(node: &mut GroupNode<'a, S>) -> u64
     requires valid { IsGroupNode S.DocSet node.old }

@@ -15,6 +15,7 @@ mod group_node;
 mod intersection_node;
 mod optional_node;
 mod passing;
+mod union_node;
 
 pub use any_combiner::AnyCombiner;
 pub use any_scorer::AnyScorer;
@@ -26,3 +27,4 @@ pub use group_builders::{at_least, intersect_scorers, union};
 pub use group_node::GroupNode;
 pub use intersection_node::IntersectionNode;
 pub use optional_node::OptionalNode;
+pub use union_node::UnionNode;

@@ -1,15 +1,15 @@
 -- A tree goes on by seeks of what stands below it.
-use Rattle.std.proofs.Common.{rules, drop, true≢false, ◌≡◌, ◌+◌, ◌*◌, ◌<◌, ◌≤◌, [], ◌∷◌, ◌++◌, All, get_or, length, map, set, take, true, arith, refl, sym, ap, subst, ◌∙◌, inl, inr}
+use Rattle.std.proofs.Common.{rules, drop, true≢false, ◌≡◌, ◌+◌, ◌*◌, ◌<◌, ◌≤◌, [], ◌∷◌, ◌++◌, All, get_or, length, map, set, take, true, arith, refl, sym, ap, subst, ◌∙◌, inl, inr, false, ℕ, ◌-◌, List, max, min, nat_abs, to_z, w64, pos, slice_get, Some, None, fold}
 use denote.Param.Weighed.{at_most, most}
 use Rattle.std.proofs.lemmas.Bool.{cases_lt}
 use Rattle.std.proofs.lemmas.Grind.{take-set_at}
-use Rattle.std.proofs.lemmas.List.{get_or-set_same, length-map, length-set, take_all, with_items_is}
-use Rattle.std.proofs.lemmas.List.Elements.{All-push, All-set}
+use Rattle.std.proofs.lemmas.List.{get_or-set_same, length-map, length-set, take_all, with_items_is, get_or_read_under}
+use Rattle.std.proofs.lemmas.List.Elements.{All-push, All-set, All-get_or}
 use Rattle.qm_docset.specs.Cursor.{IsSeekAnswer}
-use Rattle.qm_docset.specs.Entry.{Limits, from, head_document}
-use Rattle.qm_docset.specs.EntryFacts.{from-from, from-next, from-reached, head_document-bounds}
+use Rattle.qm_docset.specs.Entry.{Limits, from, head_document, head_score, Entry, greatest_score}
+use Rattle.qm_docset.specs.EntryFacts.{from-from, from-next, from-reached, head_document-bounds, AreEntries-from_low}
 use Rattle.qm_docset.specs.Exclusion.{has_document}
-use Rattle.qm_docset.specs.Gather.{common_entries, scores_at}
+use Rattle.qm_docset.specs.Gather.{common_entries, scores_at, gather}
 use Rattle.qm_docset.specs.RowFacts.{from-row}
 use Rattle.qm_docset.specs.declared.docset.SeekDangerResult.TheVariants.{SeekLowerBound}
 use Rattle.qm_docset.specs.declared.numbers.TheConstants.{TERMINATED}
@@ -18,38 +18,62 @@ use Rattle.qm_docset.proofs.Gathering.{head_document-from}
 use Rattle.qm_combine.specs.AllDocuments.{all_left}
 use Rattle.qm_combine.specs.Constant.{constant_left}
 use Rattle.qm_combine.specs.HeldSum.{held_sum}
-use Rattle.qm_combine.specs.RescoredFacts.{IsSeekAnswer-rescored}
+use Rattle.qm_combine.specs.RescoredFacts.{IsSeekAnswer-rescored, head_score-rescored}
 use Rattle.qm_combine.specs.SharedSeek.{StandOn}
-use Rattle.qm_combine.specs.Union.{least_head}
+use Rattle.qm_combine.specs.Union.{least_head, total_top, united_limits}
 use Rattle.qm_combine.specs.Without.{without}
-use Rattle.qm_combine.specs.WithoutFacts.{IsKept, from-without, head_document-le, head_document-past, head_document-without, without-stepped}
-use Rattle.qm_combine.proofs.EachMember.{map-map-set_same, take-map-set_more}
-use Rattle.qm_combine.proofs.Leading.{IsSeekAnswer-shared, common_entries-caught_up, common_entries-cut, common_entries-passed, common_entries-sought, head_document-together, leader_bound-common_entries}
-use Rattle.qm_combine.proofs.Uniting.{least_head-push}
+use Rattle.qm_combine.specs.WithoutFacts.{IsKept, from-without, head_document-le, head_document-past, head_document-without, without-stepped, head_score-without}
+use Rattle.qm_combine.proofs.EachMember.{map-map-set_same, take-map-set_more, map-set_same, All-same_lists, get_or-map-map, score_cast}
+use Rattle.qm_combine.proofs.Leading.{IsSeekAnswer-shared, common_entries-caught_up, common_entries-cut, common_entries-passed, common_entries-sought, head_document-together, leader_bound-common_entries, head_score-together}
+use Rattle.qm_combine.proofs.Uniting.{least_head-push, least_head-most, least_head-le, scores_at-more, scores_at-more_ahead}
 use Rattle.qm_phrase.specs.PhrasePrefixScorer.{phrase_prefix_left}
 use Rattle.qm_phrase.specs.PhraseScorer.{phrase_left}
 use Rattle.qm_term.specs.TermScorer.{scored_left}
 use Rattle.qm_scorer.specs.Group.{IsGroupNode, group_entries, group_lists}
-use Rattle.qm_scorer.specs.Tree.{IsTree, IsTreePlaced, postings_cursors, set_cursors, tree_entries, tree_limits}
+use Rattle.qm_scorer.specs.Tree.{HasRoom, IsTree, IsTreePlaced, postings_cursors, set_cursors, tree_entries, tree_limits, HasParts, kept_score, tree_head, tree_top, united}
 use Rattle.qm_scorer.specs.TreeFacts.{tree-ascends}
 use Rattle.qm_scorer.proofs.Groups.{HasRoom-moved, group-ended, group-enough, group-moved, group-passed, group-reached, group-there, least_head-from}
-use Rattle.qm_scorer.proofs.Depth.{most-set, same-All, same-BitSet, same-Empty, same-Own, same-Phrase, same-PhrasePrefix, same-Term, size-kept, size-led, size-members, size-others}
-use Rattle.qm_scorer.proofs.Heads.{tree-head}
+use Rattle.qm_scorer.proofs.Depth.{most-set, same-All, same-BitSet, same-Empty, same-Own, same-Phrase, same-PhrasePrefix, same-Term, size-kept, size-led, size-members, size-others, size-united}
+use Rattle.qm_scorer.proofs.Heads.{tree-head, boost-fits, tree-here}
 use Rattle.qm_scorer.proofs.Moving.{asked, both_found, on_found, placed_where, same, still_found}
-use Rattle.qm_scorer.proofs.MoveArms.{added, answered-as, answered-leaf, head-rescored, moved-Boost, moved-Const, moved-Disjunction, moved-Exclude, moved-Intersection, moved-RequiredOptional, moved-Union, sought-as, sought-leaf}
+use Rattle.qm_scorer.proofs.MoveArms.{added, answered-as, answered-leaf, head-rescored, moved-Boost, moved-Const, moved-Disjunction, moved-Exclude, moved-Intersection, moved-RequiredOptional, moved-Union, sought-as, sought-leaf, swept-leaf}
 use Rattle.qm_scorer.specs.BareFacts.{bare-nil}
 use Rattle.qm_scorer.proofs.Opened.{entries-Disjunction, entries-Intersection, entries-Union, opened-Disjunction, opened-Union, placed-Intersection}
-use Rattle.qm_scorer.specs.declared.any_scorer.AnyScorer as aq
 use Rattle.qm_scorer.specs.declared.any_scorer.AnyScorer.{AnyScorer, size-AnyScorer}
 use Rattle.qm_scorer.specs.declared.any_scorer.AnyScorer.TheVariants.{All as Every, BitSet, Boost, Const, Disjunction, Empty, Exclude, Intersection, Own, Phrase, PhrasePrefix, RequiredOptional, Term, Union, outs-Boost, outs-Const, outs-Disjunction, outs-Exclude, outs-Intersection, outs-RequiredOptional, outs-Union}
+use Rattle.qm_scorer.specs.declared.group_node.Shape.{Shape}
+use Rattle.qm_scorer.specs.declared.intersection_node.IntersectionNode.{size_is-IntersectionNode}
+use Rattle.qm_scorer.proofs.IntersectionArms.{left-document, lent-trees, lent-here, lent-together}
+use Rattle.std.proofs.lemmas.Int.{to_z_pos}
+use Rattle.qm_docset.specs.GatherFacts.{AreMembers-map, scores_at-nil}
+use Rattle.qm_combine.specs.Combiner.{IsCleared}
+use Rattle.qm_combine.specs.Window.{window_combiner, window_end, window_has, window_state}
+use Rattle.qm_combine.proofs.Standing.{answers_first, answers_none, goes_next, goes_on, goes_past}
+use Rattle.qm_combine.proofs.TakenIn.{from-all_passed, next-past, step_min}
+use Rattle.qm_combine.proofs.Windows.{windowed-ended}
+use Rattle.qm_scorer.specs.AnyCombiner.{any_cleared, any_combined, AnyHasRoom, any_step}
+use Rattle.qm_scorer.specs.Bare.{scores_to}
+use Rattle.qm_scorer.specs.United.{AreMembersStanding, IsUnionNode, union_limits, union_list, union_lists}
+use Rattle.qm_scorer.specs.declared.union_node.UnionNode.{UnionNode, size-UnionNode, size_is-UnionNode}
+use Rattle.qm_scorer.proofs.Refilling.{IsRefilling, IsReset, refilled-behind, refilled-entries, refilled-here, refilled-least, refilling-first, refilling-long, refilling-more, refilling-none, refilling-room}
+use Rattle.qm_scorer.proofs.Taking.{IsAdded, head_score-within, taken-room, taken_in-bare, taken_to-all, taken_to-more, taken_to-none}
+use Rattle.qm_scorer.proofs.Uniting.{cut_twice, least_head-cut_from, parts-same, united-made}
+use Rattle.qm_scorer.proofs.+moves.Goals.{group_node::danger_group-else-doc-target-via-else-doc-target, group_node::danger_group-else-doc-target-via-then-doc-target+else-target-lt-TERMINATED, group_node::seek_group-else-node-target, group_node::seek_group-then-node-target, union_node::danger_union-else-doc-target-via-else-doc-target, union_node::danger_union-else-doc-target-via-then-doc-target+else-target-lt-TERMINATED, group_node::score_group-else-doc_tree-doc, group_node::score_group-then-doc_tree-doc}
+use Rattle.std.specs.List.{sum}
+use Rattle.std.proofs.lemmas.List.Sums.{fold-append, sum_by-cons, sum_by_more}
+use Rattle.qm_scorer.specs.MoveFacts.{head_score-bounded}
+use Rattle.qm_combine.specs.Rescored.{with_optional}
+use Rattle.qm_combine.proofs.OptionalScores.{scores_at-passed, scores_at-reached, with_optional-reached}
+use Rattle.qm_scorer.specs.AnyCombinerFacts.{any-taken}
+use Rattle.qm_scorer.specs.declared.group_node.GroupNode.{GroupNode, size-GroupNode}
+use Rattle.qm_scorer.proofs.GroupScores.{group-kept, group-score, room-next}
+use Rattle.qm_scorer.proofs.ScoreArms.{asked-Boost, asked-Const, asked-Exclude, asked-RequiredOptional, score_fits, scored-Boost, scored-Const, scored-Disjunction, scored-Exclude, scored-Intersection, scored-RequiredOptional, scored-Union, scored-as, scored-leaf}
+use Rattle.qm_scorer.specs.declared.any_scorer.AnyScorer as aq
 use Rattle.qm_scorer.specs.declared.exclude_node.ExcludeNode as q
 use Rattle.qm_scorer.specs.declared.group_node.GroupNode as gq
-use Rattle.qm_scorer.specs.declared.group_node.Shape.{Shape}
 use Rattle.qm_scorer.specs.declared.intersection_node.IntersectionNode as iq
-use Rattle.qm_scorer.specs.declared.intersection_node.IntersectionNode.{size_is-IntersectionNode}
-use Rattle.qm_scorer.proofs.IntersectionArms.{left-document, lent-trees}
+use Rattle.qm_scorer.specs.declared.union_node.UnionNode as uq
 use Rattle.qm_scorer.proofs.+moves.Goals as goal
-use Rattle.qm_scorer.proofs.+moves.Goals.{group_node::danger_group-else-doc-target-via-else-doc-target, group_node::danger_group-else-doc-target-via-then-doc-target+else-target-lt-TERMINATED, group_node::seek_group-else-node-target, group_node::seek_group-then-node-target}
 
 pub exclude_node::pass_excluded-returns-then-not-contains_document : goal.exclude_node::pass_excluded-returns-then-not-contains_document
 exclude_node::pass_excluded-returns-then-not-contains_document g t c =
@@ -388,6 +412,402 @@ group_node::danger_group-returns-else-doc-target g t c =
     ] in
     record { answer = answer; entries = sought.entries; valid = sought.valid; shape = sought.shape; depth = sought.depth }
 
+-- ---- a tree that is taken through a window
+
+pub union_node::take_tree-returns-in-Term : goal.union_node::take_tree-returns-in-Term
+union_node::take_tree-returns-in-Term g t c =
+    let e = c.take_in.ensures in
+    swept-leaf g.S.DocSet Term (λ s. scored_left s.value) (λ _. refl) (same-Term g.row.S.Denot) c.args.window.now c.take_in.new.self c.args.bound c.take_in.result c.in-Term.leaf c.take_in.new.scorer c.in-Term.leaf-is c.in-Term.is e.head e.left.entries (ap (λ (l : Limits). l.top) e.left.limits) e.left.valid e.left.placed (record { documents = e.documents; beyond = e.beyond; states = e.states; start = e.start; until = e.until; combiner = e.combiner }) (search rules)
+
+pub union_node::take_other-returns-in-All : goal.union_node::take_other-returns-in-All
+union_node::take_other-returns-in-All g t c =
+    let e = c.take_in.ensures in
+    swept-leaf g.S.DocSet Every all_left (λ _. refl) (same-All g.row.S.Denot) c.args.window.now c.take_in.new.self c.args.bound c.take_in.result c.in-All.leaf c.take_in.new.scorer c.in-All.leaf-is c.in-All.is e.head e.left.entries refl e.left.valid e.left.placed (record { documents = e.documents; beyond = e.beyond; states = e.states; start = e.start; until = e.until; combiner = e.combiner }) (search rules)
+
+pub union_node::take_other-returns-in-Own : goal.union_node::take_other-returns-in-Own
+union_node::take_other-returns-in-Own g t c =
+    let e = c.take_in-in-Own.ensures in
+    swept-leaf g.S.DocSet Own g.S.DocSet.entries (λ _. refl) (same-Own g.row.S.Denot) c.args.window.now c.take_in-in-Own.new.self c.args.bound c.take_in-in-Own.result c.in-Own.leaf c.take_in-in-Own.new.scorer c.in-Own.leaf-is c.in-Own.is e.head e.left.entries (ap (λ (l : Limits). l.top) e.left.limits) e.left.valid e.left.placed (record { documents = e.documents; beyond = e.beyond; states = e.states; start = e.start; until = e.until; combiner = e.combiner }) (search rules)
+
+pub union_node::take_other-returns-in-BitSet : goal.union_node::take_other-returns-in-BitSet
+union_node::take_other-returns-in-BitSet g t c =
+    let e = c.take_in-in-BitSet.ensures in
+    swept-leaf g.S.DocSet BitSet (λ s. constant_left set_cursors s.value) (λ _. refl) (same-BitSet g.row.S.Denot) c.args.window.now c.take_in-in-BitSet.new.self c.args.bound c.take_in-in-BitSet.result c.in-BitSet.leaf c.take_in-in-BitSet.new.scorer c.in-BitSet.leaf-is c.in-BitSet.is e.head e.left.entries (ap (λ (l : Limits). l.top) e.left.limits) e.left.valid e.left.placed (record { documents = e.documents; beyond = e.beyond; states = e.states; start = e.start; until = e.until; combiner = e.combiner }) (search rules)
+
+pub union_node::take_other-returns-in-Phrase : goal.union_node::take_other-returns-in-Phrase
+union_node::take_other-returns-in-Phrase g t c =
+    let e = c.take_in-in-Phrase.ensures in
+    swept-leaf g.S.DocSet Phrase (λ s. phrase_left postings_cursors s.value) (λ _. refl) (same-Phrase g.row.S.Denot) c.args.window.now c.take_in-in-Phrase.new.self c.args.bound c.take_in-in-Phrase.result c.in-Phrase.leaf c.take_in-in-Phrase.new.scorer c.in-Phrase.leaf-is c.in-Phrase.is e.head e.left.entries (ap (λ (l : Limits). l.top) e.left.limits) e.left.valid e.left.placed (record { documents = e.documents; beyond = e.beyond; states = e.states; start = e.start; until = e.until; combiner = e.combiner }) (search rules)
+
+pub union_node::take_other-returns-in-PhrasePrefix : goal.union_node::take_other-returns-in-PhrasePrefix
+union_node::take_other-returns-in-PhrasePrefix g t c =
+    let e = c.take_in-in-PhrasePrefix.ensures in
+    swept-leaf g.S.DocSet PhrasePrefix (λ s. phrase_prefix_left postings_cursors s.value) (λ _. refl) (same-PhrasePrefix g.row.S.Denot) c.args.window.now c.take_in-in-PhrasePrefix.new.self c.args.bound c.take_in-in-PhrasePrefix.result c.in-PhrasePrefix.leaf c.take_in-in-PhrasePrefix.new.scorer c.in-PhrasePrefix.leaf-is c.in-PhrasePrefix.is e.head e.left.entries (ap (λ (l : Limits). l.top) e.left.limits) e.left.valid e.left.placed (record { documents = e.documents; beyond = e.beyond; states = e.states; start = e.start; until = e.until; combiner = e.combiner }) (search rules)
+
+pub union_node::take_by_steps-loop-doc-init : goal.union_node::take_by_steps-loop-doc-init
+union_node::take_by_steps-loop-doc-init g t c =
+    let D = g.S.DocSet in
+    let m = c.args.member.now in
+    let es = tree_entries D m in
+    let ascends = tree-ascends D g.met.S.DocSet.ascending m c.requires.valid in
+    let here : c.doc_tree-doc.result ≡ head_document es = c.doc_tree-doc.ensures ∙ tree-head D g.met.S.DocSet.ascending m c.requires.valid c.requires.placed in
+    record {
+      here = here;
+      left = sym (from-reached (min c.doc_tree-doc.result c.args.bound) 0 _ es (omega (arith, here)) ascends);
+      top = refl;
+      valid = c.requires.valid;
+      placed = c.requires.placed;
+      low = omega (arith, here, c.requires.first);
+      taken = taken_to-none _ es ascends c.args.window.now c.doc_tree-doc.result here;
+      depth = omega arith;
+    }
+
+pub union_node::take_by_steps-add-requires-clause-room : goal.union_node::take_by_steps-add-requires-clause-room
+union_node::take_by_steps-add-requires-clause-room g t c =
+    let D = g.S.DocSet in
+    let m = c.args.member.now in
+    let inv = c.loop-doc.invariant in
+    let n : ℕ = nat_abs (to_z w64 c.score_tree-score.result) in
+    let is : n ≡ c.score_tree-score.result = ap nat_abs (to_z_pos w64 c.score_tree-score.result (omega (arith, c.score_tree-score.ensures.fits))) in
+    let within = head_score-within 0 _ _ (tree-ascends D g.met.S.DocSet.ascending c.loop-doc.member inv.valid) in
+    taken-room c.args.window.now c.loop-doc.window c.loop-doc.doc n (tree_top D m) (tree_entries D m) inv.taken (c.requires.room c.loop-doc.doc) (omega (arith, is, c.score_tree-score.ensures.score, within, inv.top))
+
+pub union_node::take_by_steps-loop-doc-smaller : goal.union_node::take_by_steps-loop-doc-smaller
+union_node::take_by_steps-loop-doc-smaller g t c =
+    omega (arith, c.loop-doc-test.true, c.seek_tree-doc.ensures.head, ap head_document c.seek_tree-doc.ensures.entries, head_document-from (c.loop-doc.doc + 1) (tree_entries g.S.DocSet c.score_tree-score.new.scorer) (omega arith))
+
+pub union_node::take_by_steps-loop-doc-preserved : goal.union_node::take_by_steps-loop-doc-preserved
+union_node::take_by_steps-loop-doc-preserved g t c =
+    let D = g.S.DocSet in
+    let m = c.args.member.now in
+    let es = tree_entries D m in
+    let ascends = tree-ascends D g.met.S.DocSet.ascending m c.requires.valid in
+    let doc = c.loop-doc.doc in
+    let next = c.seek_tree-doc.result in
+    let inv = c.loop-doc.invariant in
+    let sought = c.seek_tree-doc.ensures in
+    let asked = c.score_tree-score.ensures in
+    let below : doc < TERMINATED = omega (arith, c.if-doc-lt-TERMINATED.true) in
+    let left : tree_entries D c.loop-doc.member ≡ from doc es = inv.left ∙ ap (λ n. from n es) (omega (arith, c.loop-doc-test.true)) in
+    let here : doc ≡ head_document (from doc es) = inv.here ∙ ap head_document left in
+    let rest : tree_entries D c.seek_tree-doc.new.scorer ≡ drop 1 (from doc es) =
+    sought.entries ∙ ap (from (doc + 1)) (asked.entries ∙ left) ∙ ap (λ n. from (n + 1) (from doc es)) here ∙ from-next 0 _ (from doc es) (AreEntries-from_low doc 0 _ es ascends) in
+    let goes : next ≡ head_document (drop 1 (from doc es)) = sought.head ∙ ap head_document rest in
+    let past = next-past _ es ascends doc next here below goes in
+    let e = c.add.ensures in
+    let score = ap nat_abs (to_z_pos w64 c.score_tree-score.result (omega (arith, asked.fits))) ∙ asked.score ∙ ap head_score left in
+    record {
+      here = sought.head;
+      left = rest ∙ step_min _ es ascends doc next here below goes c.args.bound c.loop-doc-test.true;
+      top = sought.top ∙ asked.top ∙ inv.top;
+      valid = sought.valid;
+      placed = sought.placed;
+      low = omega (arith, inv.low, past);
+      taken = taken_to-more _ es ascends c.args.window.now c.loop-doc.window c.add.new.self doc next _ inv.taken (record { documents = e.documents; state = e.state; others = e.others; start = e.start; until = e.until; combiner = e.combiner }) score here below goes;
+      depth = omega (arith, sought.depth, asked.depth, inv.depth);
+    }
+
+pub union_node::take_by_steps-returns-else-doc-lt-TERMINATED-clause-entries : goal.union_node::take_by_steps-returns-else-doc-lt-TERMINATED-clause-entries
+union_node::take_by_steps-returns-else-doc-lt-TERMINATED-clause-entries g t c =
+    let D = g.S.DocSet in
+    let m = c.args.member.now in
+    let ascends = tree-ascends D g.met.S.DocSet.ascending m c.requires.valid in
+    c.loop-doc.invariant.left ∙ from-all_passed _ (tree_entries D m) ascends c.loop-doc.doc c.args.bound (omega (arith, c.if-doc-lt-TERMINATED.false))
+
+pub union_node::take_by_steps-returns-else-doc-lt-TERMINATED-clause-taken : goal.union_node::take_by_steps-returns-else-doc-lt-TERMINATED-clause-taken
+union_node::take_by_steps-returns-else-doc-lt-TERMINATED-clause-taken g t c =
+    let D = g.S.DocSet in
+    let m = c.args.member.now in
+    let ascends = tree-ascends D g.met.S.DocSet.ascending m c.requires.valid in
+    taken_to-all _ (tree_entries D m) ascends c.args.window.now _ c.loop-doc.doc c.args.bound (omega (arith, c.if-doc-lt-TERMINATED.false)) (c.loop-doc.invariant.here ∙ ap head_document c.loop-doc.invariant.left) c.loop-doc.invariant.taken
+
+pub union_node::take_by_steps-returns-after-loop-doc-clause-taken : goal.union_node::take_by_steps-returns-after-loop-doc-clause-taken
+union_node::take_by_steps-returns-after-loop-doc-clause-taken g t c =
+    let D = g.S.DocSet in
+    let m = c.args.member.now in
+    let ascends = tree-ascends D g.met.S.DocSet.ascending m c.requires.valid in
+    taken_to-all _ (tree_entries D m) ascends c.args.window.now _ c.loop-doc.doc c.args.bound (omega (arith, c.loop-doc-test.false)) (c.loop-doc.invariant.here ∙ ap head_document c.loop-doc.invariant.left) c.loop-doc.invariant.taken
+
+-- ---- a union
+
+pub union_node::refill-loop-i-init : goal.union_node::refill-loop-i-init
+union_node::refill-loop-i-init g t c =
+    let D = g.S.DocSet in
+    let law = tree-ascends D g.met.S.DocSet.ascending in
+    let n = c.args.node.now in
+    let e = c.reset_until_last.ensures in
+    record {
+      unvisited = (refl, λ k d low. refl);
+      refilling = refilling-none (tree_entries D) (tree_limits D) (IsTree D) (IsTreePlaced D) law n.members.items (window_combiner n.window) n.doc (n.doc + c.args.span) n.window c.reset_until_last.new.self c.requires.members.valid c.requires.members.placed refl (record { start = e.start; documents = e.documents; until = e.until; combiner = e.combiner });
+      doc = refl;
+      top = refl;
+      depth = search (rules, uq.the_lemmas);
+    }
+
+pub union_node::refill-take_tree-requires : goal.union_node::refill-take_tree-requires
+union_node::refill-take_tree-requires g t c κs within =
+    let D = g.S.DocSet in
+    let law = tree-ascends D g.met.S.DocSet.ascending in
+    let n = c.args.node.now in
+    let i = c.loop-i.i in
+    let xs = c.loop-i.node.members.items in
+    let h = c.loop-i.invariant.refilling in
+    let inside : i < length xs = omega (arith, c.loop-i.invariant.unvisited.0, c.loop-i-test.true, c.len-i-end.ensures, n.members.ok.0) in
+    let item = c.index_mut.result.now in
+    let read : item ≡ get_or xs i item = c.index_mut.ensures.value in
+    let w = c.loop-i.node.window in
+    let valid = subst (IsTree D) (sym read) (h.valid i item inside) in
+    let placed = subst (IsTreePlaced D) (sym read) (h.placed i item inside) in
+    let first = refilling-first (tree_entries D) (tree_limits D) (IsTree D) (IsTreePlaced D) law n.members.items (window_combiner n.window) n.doc (n.doc + c.args.span) xs i c.loop-i.least w h item inside read c.requires.first in
+    let room = refilling-room (tree_entries D) (tree_limits D) (IsTree D) (IsTreePlaced D) law n.members.items (window_combiner n.window) n.doc (n.doc + c.args.span) xs i c.loop-i.least w h item inside read c.requires.members.valid c.requires.room c.requires.cleared in
+    (search (rules, uq.the_lemmas), (search rules, (valid, (placed, (omega (arith, h.start, c.requires.span.1), (first, room))))))
+
+pub union_node::refill-loop-i-preserved : goal.union_node::refill-loop-i-preserved
+union_node::refill-loop-i-preserved g t c =
+    let D = g.S.DocSet in
+    let law = tree-ascends D g.met.S.DocSet.ascending in
+    let n = c.args.node.now in
+    let i = c.loop-i.i in
+    let xs = c.loop-i.node.members.items in
+    let h = c.loop-i.invariant.refilling in
+    let inside : i < length xs = omega (arith, c.loop-i.invariant.unvisited.0, c.loop-i-test.true, c.len-i-end.ensures, n.members.ok.0) in
+    let item = c.index_mut.result.now in
+    let read : item ≡ get_or xs i item = c.index_mut.ensures.value in
+    let x = c.take_tree.new.member in
+    let e = c.take_tree.ensures in
+    let smaller = subst (λ (y : AnyScorer g.row.S.Denot). size-AnyScorer g.row.S.Denot x ≤ size-AnyScorer g.row.S.Denot y) read e.depth in
+    let made = refilling-more (tree_entries D) (tree_limits D) (IsTree D) (IsTreePlaced D) law n.members.items (window_combiner n.window) n.doc (n.doc + c.args.span) xs i c.loop-i.least c.loop-i.node.window h item inside read x c.take_tree.result c.take_tree.new.window e.valid e.placed (ap scores_to e.top) e.entries e.head e.taken in
+    record {
+      unvisited = search (rules, uq.the_lemmas);
+      refilling = subst (λ l. IsRefilling (tree_entries D) (tree_limits D) (IsTree D) (IsTreePlaced D) law n.members.items (window_combiner n.window) n.doc (n.doc + c.args.span) (set xs i x) (i + 1) l c.take_tree.new.window) (sym c.min-least.ensures) made;
+      doc = c.loop-i.invariant.doc;
+      top = c.loop-i.invariant.top;
+      depth = size-united c.loop-i.node _ _ (most-set (size-AnyScorer g.row.S.Denot) xs i x item inside smaller) c.loop-i.invariant.depth;
+    }
+
+pub union_node::refill-returns-clause-entries : goal.union_node::refill-returns-clause-entries
+union_node::refill-returns-clause-entries g t c =
+    let D = g.S.DocSet in
+    let law = tree-ascends D g.met.S.DocSet.ascending in
+    let n = c.args.node.now in
+    let xs = c.loop-i.node.members.items in
+    let h = c.loop-i.invariant.refilling in
+    let ended : length xs ≤ c.loop-i.i = omega (arith, c.loop-i.invariant.unvisited.0, c.loop-i-test.false, c.len-i-end.ensures, n.members.ok.0) in
+    ap (λ d. united c.loop-i.node.window d (union_lists D c.loop-i.node)) c.loop-i.invariant.doc
+    ∙ refilled-entries (tree_entries D) (tree_limits D) (IsTree D) (IsTreePlaced D) law n.members.items (window_combiner n.window) n.doc (n.doc + c.args.span) xs c.loop-i.i c.loop-i.least c.loop-i.node.window h ended c.requires.members.valid c.requires.first c.requires.cleared
+
+pub union_node::refill-returns-clause-behind : goal.union_node::refill-returns-clause-behind
+union_node::refill-returns-clause-behind g t c =
+    let D = g.S.DocSet in
+    let law = tree-ascends D g.met.S.DocSet.ascending in
+    let n = c.args.node.now in
+    let xs = c.loop-i.node.members.items in
+    let h = c.loop-i.invariant.refilling in
+    let ended : length xs ≤ c.loop-i.i = omega (arith, c.loop-i.invariant.unvisited.0, c.loop-i-test.false, c.len-i-end.ensures, n.members.ok.0) in
+    refilled-behind (tree_entries D) (tree_limits D) (IsTree D) (IsTreePlaced D) law n.members.items (window_combiner n.window) n.doc (n.doc + c.args.span) xs c.loop-i.i c.loop-i.least c.loop-i.node.window h ended c.requires.members.valid c.requires.first
+
+pub union_node::refill-returns-clause-here : goal.union_node::refill-returns-clause-here
+union_node::refill-returns-clause-here g t c =
+    let D = g.S.DocSet in
+    let law = tree-ascends D g.met.S.DocSet.ascending in
+    let n = c.args.node.now in
+    let xs = c.loop-i.node.members.items in
+    let h = c.loop-i.invariant.refilling in
+    let ended : length xs ≤ c.loop-i.i = omega (arith, c.loop-i.invariant.unvisited.0, c.loop-i-test.false, c.len-i-end.ensures, n.members.ok.0) in
+    refilled-here (tree_entries D) (tree_limits D) (IsTree D) (IsTreePlaced D) law n.members.items (window_combiner n.window) n.doc (n.doc + c.args.span) xs c.loop-i.i c.loop-i.least c.loop-i.node.window h ended c.requires.members.valid c.requires.first c.requires.some (omega (arith, c.requires.span.0))
+
+pub union_node::go_on-returns-then-node-eq-TERMINATED : goal.union_node::go_on-returns-then-node-eq-TERMINATED
+union_node::go_on-returns-then-node-eq-TERMINATED g t c =
+    let D = g.S.DocSet in
+    let n = c.args.node.now in
+    let law = tree-ascends D g.met.S.DocSet.ascending in
+    let members = AreMembers-map (tree_limits D) (tree_entries D) n.members.items (λ k d inside. law _ (c.requires.members.valid k d inside)) in
+    let none : united n.window n.ahead (union_lists D n) ≡ gather 1 (any_combined (window_combiner n.window)) (union_lists D n) =
+    windowed-ended (window_has n.window) (kept_score n.window) (any_combined (window_combiner n.window)) _ _ members n.ahead c.requires.behind (λ d here. let below = c.requires.behind d here in omega (arith, c.requires.ahead)) in
+    let own = united-made (tree_entries D) (tree_limits D) (IsTree D) law n.members.items n.window (window_combiner n.window) n.ahead n.ahead n.top (union_limits D n) (union_lists D n) c.requires.members.valid c.requires.parts refl c.requires.ahead none (λ below. absurd (omega (arith, c.if-node-eq-TERMINATED.true))) (omega arith) c.requires.ahead c.requires.behind in
+    record {
+      head = sym c.if-node-eq-TERMINATED.true ∙ own.standing.first;
+      entries = none;
+      limits = refl;
+      valid = record { members = record { valid = c.requires.members.valid; placed = c.requires.members.placed }; own = own };
+      top = refl;
+      depth = search (rules, uq.the_lemmas);
+    }
+
+pub union_node::go_on-refill-node-requires : goal.union_node::go_on-refill-node-requires
+union_node::go_on-refill-node-requires g t c κs within =
+    let n = c.args.node.now in
+    let below : n.ahead < TERMINATED = omega (arith, c.requires.ahead, least_head-most (union_lists g.S.DocSet n), c.if-node-eq-TERMINATED.false) in
+    (search (rules, uq.the_lemmas), (search rules, (record { valid = c.requires.members.valid; placed = c.requires.members.placed }, (c.requires.parts.fits, (c.requires.parts.until, (c.requires.parts.start, (c.requires.ahead, (below, c.requires.span))))))))
+
+pub union_node::go_on-returns : goal.union_node::go_on-returns
+union_node::go_on-returns g t c =
+    let D = g.S.DocSet in
+    let law = tree-ascends D g.met.S.DocSet.ascending in
+    let old = c.args.node.now in
+    let n = c.refill-node.new.node in
+    let r = c.refill-node.ensures in
+    let p = c.requires.parts in
+    let parts : HasParts n.window n.top (union_limits D n) = record {
+      fits = omega (arith, ap total_top r.limits, p.fits);
+      bound = r.top ∙ p.bound ∙ ap (λ ls. max 1 (total_top ls)) (sym r.limits);
+      start = subst (IsCleared any_cleared) (sym r.combiner) p.start;
+      until = r.until;
+    } in
+    let first = r.behind old.ahead r.here in
+    let own = united-made (tree_entries D) (tree_limits D) (IsTree D) law old.members.items n.window (window_combiner old.window) n.doc c.refill-node.result n.top (union_limits D n) (union_lists D n) c.requires.members.valid parts r.limits (r.doc ∙ c.requires.ahead) r.entries (λ _. ap (window_has n.window) r.doc ∙ r.here) (omega (arith, r.doc, first)) r.least r.behind in
+    record {
+      head = own.standing.first;
+      entries = r.entries;
+      limits = r.limits;
+      valid = record { members = record { valid = r.members.valid; placed = r.members.placed }; own = own };
+      top = r.top;
+      depth = search (rules, uq.the_lemmas);
+    }
+
+pub union_node::reach_each-loop-i-preserved : goal.union_node::reach_each-loop-i-preserved
+union_node::reach_each-loop-i-preserved g t c =
+    let i = c.loop-i.i in
+    let xs = c.loop-i.node.members.items in
+    let x = c.reach_tree.new.scorer in
+    let d = c.args.target in
+    let long = c.loop-i.invariant.unvisited.0 in
+    let here : i < length xs = omega (arith, long, c.loop-i-test.true, c.len-i-end.ensures, c.args.node.now.members.ok.0) in
+    let item = c.index_mut.result.now in
+    let read : tree_entries g.S.DocSet item ≡ tree_entries g.S.DocSet (get_or xs i item) = ap (tree_entries g.S.DocSet) (c.index_mut.ensures.value) in
+    let cut : from d (tree_entries g.S.DocSet x) ≡ from d (tree_entries g.S.DocSet (get_or xs i c.index_mut.result.now)) = ap (from d) (c.reach_tree.ensures.entries ∙ ap (from d) read) ∙ from-from d d _ (omega arith) in
+    let Stands : AnyScorer g.row.S.Denot → Type 0 = λ m. d ≤ head_document (tree_entries g.S.DocSet m) in
+    let grown : take (i + 1) (set xs i x) ≡ take i xs ++ x ∷ [] = take-set_at xs i (i + 1) x (omega arith) here in
+    let past : Stands x = rw c.reach_tree.ensures.entries (head_document-from d _ c.requires.target) in
+    let more = take-map-set_more (tree_entries g.S.DocSet) xs i x here in
+    let pushed = least_head-push (take i (map (tree_entries g.S.DocSet) xs)) (tree_entries g.S.DocSet x) in
+    let smaller = subst (λ (y : AnyScorer g.row.S.Denot). size-AnyScorer g.row.S.Denot x ≤ size-AnyScorer g.row.S.Denot y) c.index_mut.ensures.value c.reach_tree.ensures.depth in
+    record {
+      unvisited = search (rules, uq.the_lemmas);
+      valid = All-set (IsTree g.S.DocSet) xs i x c.reach_tree.ensures.valid c.loop-i.invariant.valid;
+      placed = All-set (IsTreePlaced g.S.DocSet) xs i x c.reach_tree.ensures.placed c.loop-i.invariant.placed;
+      lists = map-map-set_same (from d) (tree_entries g.S.DocSet) xs i x c.index_mut.result.now here cut ∙ c.loop-i.invariant.lists;
+      limits = map-set_same (tree_limits g.S.DocSet) xs i x c.index_mut.result.now here (ap scores_to (c.reach_tree.ensures.top ∙ ap (tree_top g.S.DocSet) c.index_mut.ensures.value)) ∙ c.loop-i.invariant.limits;
+      reached = rw grown (All-push Stands (take i xs) x c.loop-i.invariant.reached past);
+      least = omega (arith, ap least_head more, pushed, c.loop-i.invariant.least, c.reach_tree.ensures.head, c.min-least.ensures);
+      window = c.loop-i.invariant.window;
+      top = c.loop-i.invariant.top;
+      depth = size-united c.loop-i.node _ _ (most-set (size-AnyScorer g.row.S.Denot) xs i x c.index_mut.result.now here smaller) c.loop-i.invariant.depth;
+    }
+
+pub union_node::reach_each-returns : goal.union_node::reach_each-returns
+union_node::reach_each-returns g t c =
+    let xs = c.loop-i.node.members.items in
+    let long : length xs ≤ c.loop-i.i = omega (arith, c.loop-i.invariant.unvisited.0, c.loop-i-test.false, c.len-i-end.ensures, c.args.node.now.members.ok.0) in
+    let whole : take c.loop-i.i xs ≡ xs = take_all c.loop-i.i xs long in
+    let reached = subst (All (λ x. c.args.target ≤ head_document (tree_entries g.S.DocSet x))) whole c.loop-i.invariant.reached in
+    let law = tree-ascends g.S.DocSet g.met.S.DocSet.ascending in
+    record {
+      least = c.loop-i.invariant.least ∙ ap least_head (take_all c.loop-i.i (map (tree_entries g.S.DocSet) xs) (omega (arith, length-map xs (tree_entries g.S.DocSet), long)));
+      lists = sym (from-row (tree_entries g.S.DocSet) (tree_limits g.S.DocSet) c.args.target xs (λ k d below. law _ (c.loop-i.invariant.valid k d below)) reached) ∙ c.loop-i.invariant.lists;
+      limits = c.loop-i.invariant.limits;
+      members = record { valid = c.loop-i.invariant.valid; placed = c.loop-i.invariant.placed };
+      window = c.loop-i.invariant.window;
+      top = c.loop-i.invariant.top;
+      depth = c.loop-i.invariant.depth;
+    }
+
+pub union_node::seek_union-returns-then-target-node-clause-entries : goal.union_node::seek_union-returns-then-target-node-clause-entries
+union_node::seek_union-returns-then-target-node-clause-entries g t c =
+    let h = c.requires.valid.own.standing in
+    sym (from-reached c.args.target 0 _ _ (omega (arith, h.first, c.if-target-node.true)) h.ascending)
+
+pub union_node::seek_union-returns-in-Some : goal.union_node::seek_union-returns-in-Some
+union_node::seek_union-returns-in-Some g t c =
+    let D = g.S.DocSet in
+    let law = tree-ascends D g.met.S.DocSet.ascending in
+    let n = c.args.node.now in
+    let members = AreMembers-map (tree_limits D) (tree_entries D) n.members.items (λ k d inside. law _ (c.requires.valid.members.valid k d inside)) in
+    let h = c.requires.valid.own in
+    let went = goes_next (window_has n.window) (kept_score n.window) n.doc n.ahead (any_combined (window_combiner n.window)) (united_limits (union_limits D n)) _ _ members h.standing c.args.target c.in-Some.doc (window_end n.window) (omega (arith, c.if-target-node.false)) (answers_first n.window c.args.target c.in-Some.doc c.in-Some.ensures) in
+    record {
+      head = went.1.first;
+      entries = went.0;
+      valid = record { members = record { valid = c.requires.valid.members.valid; placed = c.requires.valid.members.placed }; own = record { parts = h.parts; standing = went.1 } };
+      top = refl;
+      depth = search (rules, uq.the_lemmas);
+    }
+
+pub union_node::seek_union-go_on-requires : goal.union_node::seek_union-go_on-requires
+union_node::seek_union-go_on-requires g t c κs within =
+    let h = c.requires.valid in
+    (search (rules, uq.the_lemmas), (search rules, (record { valid = h.members.valid; placed = h.members.placed }, (h.own.parts, (c.next_span.ensures, (h.own.standing.next, h.own.standing.behind))))))
+
+pub union_node::seek_union-returns-then-target-node-2-clause-entries : goal.union_node::seek_union-returns-then-target-node-2-clause-entries
+union_node::seek_union-returns-then-target-node-2-clause-entries g t c =
+    let D = g.S.DocSet in
+    let law = tree-ascends D g.met.S.DocSet.ascending in
+    let n = c.args.node.now in
+    let members = AreMembers-map (tree_limits D) (tree_entries D) n.members.items (λ k d inside. law _ (c.requires.valid.members.valid k d inside)) in
+    c.go_on.ensures.entries
+    ∙ goes_on (window_has n.window) (kept_score n.window) n.doc n.ahead (any_combined (window_combiner n.window)) (united_limits (union_limits D n)) _ _ members
+    c.requires.valid.own.standing c.args.target (omega (arith, c.if-target-node.false)) (omega (arith, c.if-target-node-2.true)) (answers_none n.window c.args.target c.in_default.ensures)
+
+pub union_node::seek_union-go_on-requires-2 : goal.union_node::seek_union-go_on-requires-2
+union_node::seek_union-go_on-requires-2 g t c κs within =
+    let D = g.S.DocSet in
+    let law = tree-ascends D g.met.S.DocSet.ascending in
+    let n = c.args.node.now in
+    let e = c.reach_each-node.ensures in
+    let reached : c.args.target ≤ c.reach_each-node.result = omega (arith, e.least, ap least_head e.lists, least_head-cut_from c.args.target (union_lists D n) c.requires.target) in
+    let behind : (d : ℕ) → window_has c.reach_each-node.new.node.window d ≡ true → d < c.reach_each-node.result = λ d here. elim (cases_lt d c.args.target) [
+      | inl below ↦ omega (arith, reached)
+      | inr past ↦ absurd (true≢false (sym here ∙ ap (λ w. window_has w d) e.window ∙ answers_none n.window c.args.target c.in_default.ensures d past))
+    ] in
+    (search (rules, uq.the_lemmas), (search rules, (record { valid = e.members.valid; placed = e.members.placed }, (parts-same e.window e.top e.limits c.requires.valid.own.parts, ((omega arith, omega arith), (e.least, behind))))))
+
+pub union_node::seek_union-returns-clause-entries : goal.union_node::seek_union-returns-clause-entries
+union_node::seek_union-returns-clause-entries g t c =
+    let D = g.S.DocSet in
+    let law = tree-ascends D g.met.S.DocSet.ascending in
+    let n = c.args.node.now in
+    let members = AreMembers-map (tree_limits D) (tree_entries D) n.members.items (λ k d inside. law _ (c.requires.valid.members.valid k d inside)) in
+    let e = c.reach_each-node.ensures in
+    let new = c.reach_each-node.new.node in
+    let h = c.requires.valid.own in
+    let after = AreMembers-map (tree_limits D) (tree_entries D) new.members.items (λ k d inside. law _ (e.members.valid k d inside)) in
+    let kept : map (from c.args.target) (union_lists D new) ≡ map (from c.args.target) (union_lists D n) = ap (map (from c.args.target)) e.lists ∙ cut_twice c.args.target (union_lists D n) in
+    let reached : c.args.target ≤ least_head (union_lists D new) = omega (arith, ap least_head e.lists, least_head-cut_from c.args.target (union_lists D n) c.requires.target) in
+    c.go_on-2.ensures.entries ∙ ap (λ w. gather 1 (any_combined (window_combiner w)) (union_lists D new)) e.window
+    ∙ goes_past (window_has n.window) (kept_score n.window) n.doc n.ahead (any_combined (window_combiner n.window)) (united_limits (union_limits D n)) _ _ members h.standing c.args.target _ _ after (omega (arith, c.if-target-node.false)) (answers_none n.window c.args.target c.in_default.ensures) reached kept
+
+pub union_node::danger_union-returns-then-target-lt-TERMINATED : goal.union_node::danger_union-returns-then-target-lt-TERMINATED
+union_node::danger_union-returns-then-target-lt-TERMINATED g t c =
+    let sought = c.seek_union-doc.ensures in
+    record {
+      answer = record { below_end = c.if-target-lt-TERMINATED.true; here = sym sought.head ∙ c.if-doc-target.true };
+      entries = sought.entries;
+      valid = sought.valid;
+      top = sought.top;
+      depth = sought.depth;
+    }
+
+pub union_node::danger_union-returns-else-doc-target : goal.union_node::danger_union-returns-else-doc-target
+union_node::danger_union-returns-else-doc-target g t c =
+    let sought = c.seek_union-doc.ensures in
+    let head = sought.head in
+    let bounds = head_document-bounds 0 _ _ (omega arith) sought.valid.own.standing.ascending in
+    let past : c.args.target ≤ c.seek_union-doc.result = omega (arith, head, ap head_document sought.entries, head_document-from c.args.target (union_list g.S.DocSet c.args.node.now) c.requires.target) in
+    let answer : IsSeekAnswer c.args.target (union_list g.S.DocSet c.seek_union-doc.new.node) (SeekLowerBound c.seek_union-doc.result) =
+    elim c.else-doc-target.branch [
+      | union_node::danger_union-else-doc-target-via-then-doc-target+else-target-lt-TERMINATED w ↦ record {
+        before_all = omega (arith, head);
+        past = λ below. absurd (omega (arith, w.if-target-lt-TERMINATED.false));
+        at_end = λ ended. omega (arith, head, past, bounds.1);
+      }
+      | union_node::danger_union-else-doc-target-via-else-doc-target w ↦ record {
+        before_all = omega (arith, head);
+        past = λ below. omega (arith, past, w.if-doc-target.false);
+        at_end = λ ended. omega (arith, head, past, bounds.1);
+      }
+    ] in
+    record { answer = answer; entries = sought.entries; valid = sought.valid; top = sought.top; depth = sought.depth }
+
 -- ---- intersections
 
 pub intersection_node::danger_others-loop-i-preserved : goal.intersection_node::danger_others-loop-i-preserved
@@ -674,21 +1094,6 @@ any_scorer::seek_other-returns-in-Exclude g t c =
 
 pub any_scorer::seek_other-seek_group-requires : goal.any_scorer::seek_other-seek_group-requires
 any_scorer::seek_other-seek_group-requires g t c κs within =
-    let node = c.in-Union.node in
-    let value = rw (c.in-Union.is, outs-Union c.in-Union.node) at c.deref_mut-in-Union.ensures.value in
-    let opened = subst (IsGroupNode g.S.DocSet) (sym value) (opened-Union g.S.DocSet node (subst (IsTree g.S.DocSet) c.in-Union.is c.requires.valid)) in
-    (search (rules, aq.the_lemmas), (search rules, (opened, c.requires.target)))
-
-pub any_scorer::seek_other-returns-in-Union : goal.any_scorer::seek_other-returns-in-Union
-any_scorer::seek_other-returns-in-Union g t c =
-    let node = c.in-Union.node in
-    let lent = rw (c.in-Union.is, outs-Union node) at c.deref_mut-in-Union.ensures.value in
-    let new = record node { value = c.seek_group.new.node } in
-    let moved = moved-Union g.S.DocSet c.args.target node c.seek_group.new.node lent c.seek_group.ensures.entries c.seek_group.ensures.valid c.seek_group.ensures.shape c.seek_group.ensures.depth in
-    sought-as g.S.DocSet c.args.target c.seek_group.result (Union node) (Union new) c.in-Union.is (rw (c.in-Union.is, outs-Union node) refl) moved (c.seek_group.ensures.head ∙ sym (ap head_document (entries-Union g.S.DocSet new))) tt
-
-pub any_scorer::seek_other-seek_group-requires-in-Disjunction : goal.any_scorer::seek_other-seek_group-requires-in-Disjunction
-any_scorer::seek_other-seek_group-requires-in-Disjunction g t c κs within =
     let node = c.in-Disjunction.node in
     let value = rw (c.in-Disjunction.is, outs-Disjunction c.in-Disjunction.node) at c.deref_mut-in-Disjunction.ensures.value in
     let opened = subst (IsGroupNode g.S.DocSet) (sym value) (opened-Disjunction g.S.DocSet node (subst (IsTree g.S.DocSet) c.in-Disjunction.is c.requires.valid)) in
@@ -698,9 +1103,9 @@ pub any_scorer::seek_other-returns-in-Disjunction : goal.any_scorer::seek_other-
 any_scorer::seek_other-returns-in-Disjunction g t c =
     let node = c.in-Disjunction.node in
     let lent = rw (c.in-Disjunction.is, outs-Disjunction node) at c.deref_mut-in-Disjunction.ensures.value in
-    let new = record node { value = c.seek_group-in-Disjunction.new.node } in
-    let moved = moved-Disjunction g.S.DocSet c.args.target node c.seek_group-in-Disjunction.new.node lent c.seek_group-in-Disjunction.ensures.entries c.seek_group-in-Disjunction.ensures.valid c.seek_group-in-Disjunction.ensures.shape c.seek_group-in-Disjunction.ensures.depth in
-    sought-as g.S.DocSet c.args.target c.seek_group-in-Disjunction.result (Disjunction node) (Disjunction new) c.in-Disjunction.is (rw (c.in-Disjunction.is, outs-Disjunction node) refl) moved (c.seek_group-in-Disjunction.ensures.head ∙ sym (ap head_document (entries-Disjunction g.S.DocSet new))) tt
+    let new = record node { value = c.seek_group.new.node } in
+    let moved = moved-Disjunction g.S.DocSet c.args.target node c.seek_group.new.node lent c.seek_group.ensures.entries c.seek_group.ensures.valid c.seek_group.ensures.shape c.seek_group.ensures.depth in
+    sought-as g.S.DocSet c.args.target c.seek_group.result (Disjunction node) (Disjunction new) c.in-Disjunction.is (rw (c.in-Disjunction.is, outs-Disjunction node) refl) moved (c.seek_group.ensures.head ∙ sym (ap head_document (entries-Disjunction g.S.DocSet new))) tt
 
 pub any_scorer::seek_other-seek_intersection-requires : goal.any_scorer::seek_other-seek_intersection-requires
 any_scorer::seek_other-seek_intersection-requires g t c κs within =
@@ -749,21 +1154,6 @@ any_scorer::danger_other-returns-in-Exclude g t c =
 
 pub any_scorer::danger_other-danger_group-requires : goal.any_scorer::danger_other-danger_group-requires
 any_scorer::danger_other-danger_group-requires g t c κs within =
-    let node = c.in-Union.node in
-    let value = rw (c.in-Union.is, outs-Union c.in-Union.node) at c.deref_mut-in-Union.ensures.value in
-    let opened = subst (IsGroupNode g.S.DocSet) (sym value) (opened-Union g.S.DocSet node (subst (IsTree g.S.DocSet) c.in-Union.is c.requires.valid)) in
-    (search (rules, aq.the_lemmas), (search rules, (opened, c.requires.target)))
-
-pub any_scorer::danger_other-returns-in-Union : goal.any_scorer::danger_other-returns-in-Union
-any_scorer::danger_other-returns-in-Union g t c =
-    let node = c.in-Union.node in
-    let lent = rw (c.in-Union.is, outs-Union node) at c.deref_mut-in-Union.ensures.value in
-    let new = record node { value = c.danger_group.new.node } in
-    let moved = moved-Union g.S.DocSet c.args.target node c.danger_group.new.node lent c.danger_group.ensures.entries c.danger_group.ensures.valid c.danger_group.ensures.shape c.danger_group.ensures.depth in
-    answered-as g.S.DocSet c.args.target c.danger_group.result (Union node) (Union new) c.in-Union.is (rw (c.in-Union.is, outs-Union node) refl) moved (subst (λ es. IsSeekAnswer c.args.target es c.danger_group.result) (sym (entries-Union g.S.DocSet new)) c.danger_group.ensures.answer) (on_found c.danger_group.result (λ _. tt))
-
-pub any_scorer::danger_other-danger_group-requires-in-Disjunction : goal.any_scorer::danger_other-danger_group-requires-in-Disjunction
-any_scorer::danger_other-danger_group-requires-in-Disjunction g t c κs within =
     let node = c.in-Disjunction.node in
     let value = rw (c.in-Disjunction.is, outs-Disjunction c.in-Disjunction.node) at c.deref_mut-in-Disjunction.ensures.value in
     let opened = subst (IsGroupNode g.S.DocSet) (sym value) (opened-Disjunction g.S.DocSet node (subst (IsTree g.S.DocSet) c.in-Disjunction.is c.requires.valid)) in
@@ -773,9 +1163,9 @@ pub any_scorer::danger_other-returns-in-Disjunction : goal.any_scorer::danger_ot
 any_scorer::danger_other-returns-in-Disjunction g t c =
     let node = c.in-Disjunction.node in
     let lent = rw (c.in-Disjunction.is, outs-Disjunction node) at c.deref_mut-in-Disjunction.ensures.value in
-    let new = record node { value = c.danger_group-in-Disjunction.new.node } in
-    let moved = moved-Disjunction g.S.DocSet c.args.target node c.danger_group-in-Disjunction.new.node lent c.danger_group-in-Disjunction.ensures.entries c.danger_group-in-Disjunction.ensures.valid c.danger_group-in-Disjunction.ensures.shape c.danger_group-in-Disjunction.ensures.depth in
-    answered-as g.S.DocSet c.args.target c.danger_group-in-Disjunction.result (Disjunction node) (Disjunction new) c.in-Disjunction.is (rw (c.in-Disjunction.is, outs-Disjunction node) refl) moved (subst (λ es. IsSeekAnswer c.args.target es c.danger_group-in-Disjunction.result) (sym (entries-Disjunction g.S.DocSet new)) c.danger_group-in-Disjunction.ensures.answer) (on_found c.danger_group-in-Disjunction.result (λ _. tt))
+    let new = record node { value = c.danger_group.new.node } in
+    let moved = moved-Disjunction g.S.DocSet c.args.target node c.danger_group.new.node lent c.danger_group.ensures.entries c.danger_group.ensures.valid c.danger_group.ensures.shape c.danger_group.ensures.depth in
+    answered-as g.S.DocSet c.args.target c.danger_group.result (Disjunction node) (Disjunction new) c.in-Disjunction.is (rw (c.in-Disjunction.is, outs-Disjunction node) refl) moved (subst (λ es. IsSeekAnswer c.args.target es c.danger_group.result) (sym (entries-Disjunction g.S.DocSet new)) c.danger_group.ensures.answer) (on_found c.danger_group.result (λ _. tt))
 
 pub any_scorer::danger_other-danger_intersection-requires : goal.any_scorer::danger_other-danger_intersection-requires
 any_scorer::danger_other-danger_intersection-requires g t c κs within =
@@ -790,3 +1180,523 @@ any_scorer::danger_other-returns-in-Intersection g t c =
     let new = c.danger_intersection.new.node in
     let moved = moved-Intersection g.S.DocSet c.args.target node new c.in-Intersection.is lent c.requires.valid c.danger_intersection.ensures.entries c.danger_intersection.ensures.trees c.danger_intersection.ensures.top c.danger_intersection.ensures.depth in
     answered-as g.S.DocSet c.args.target c.danger_intersection.result (Intersection node) (Intersection (record node { value = new })) c.in-Intersection.is (rw (c.in-Intersection.is, outs-Intersection node) refl) moved (subst (λ es. IsSeekAnswer c.args.target es c.danger_intersection.result) (sym (entries-Intersection g.S.DocSet (record node { value = new }))) c.danger_intersection.ensures.answer) (still_found c.danger_intersection.result (placed-Intersection g.S.DocSet (record node { value = new })) c.danger_intersection.ensures.placed)
+
+-- ---- unions, as variants
+
+pub any_scorer::seek_other-seek_union-requires : goal.any_scorer::seek_other-seek_union-requires
+any_scorer::seek_other-seek_union-requires g t c κs within =
+    let node = c.in-Union.node in
+    let value = rw (c.in-Union.is, outs-Union c.in-Union.node) at c.deref_mut-in-Union.ensures.value in
+    let opened = subst (IsUnionNode g.S.DocSet) (sym value) (opened-Union g.S.DocSet node (subst (IsTree g.S.DocSet) c.in-Union.is c.requires.valid)) in
+    (search (rules, aq.the_lemmas), (search rules, (opened, c.requires.target)))
+
+pub any_scorer::seek_other-returns-in-Union : goal.any_scorer::seek_other-returns-in-Union
+any_scorer::seek_other-returns-in-Union g t c =
+    let node = c.in-Union.node in
+    let lent = rw (c.in-Union.is, outs-Union node) at c.deref_mut-in-Union.ensures.value in
+    let new = record node { value = c.seek_union.new.node } in
+    let moved = moved-Union g.S.DocSet c.args.target node c.seek_union.new.node lent c.seek_union.ensures.entries c.seek_union.ensures.valid c.seek_union.ensures.top c.seek_union.ensures.depth in
+    sought-as g.S.DocSet c.args.target c.seek_union.result (Union node) (Union new) c.in-Union.is (rw (c.in-Union.is, outs-Union node) refl) moved (c.seek_union.ensures.head ∙ sym (ap head_document (entries-Union g.S.DocSet new))) tt
+
+pub any_scorer::danger_other-danger_union-requires : goal.any_scorer::danger_other-danger_union-requires
+any_scorer::danger_other-danger_union-requires g t c κs within =
+    let node = c.in-Union.node in
+    let value = rw (c.in-Union.is, outs-Union c.in-Union.node) at c.deref_mut-in-Union.ensures.value in
+    let opened = subst (IsUnionNode g.S.DocSet) (sym value) (opened-Union g.S.DocSet node (subst (IsTree g.S.DocSet) c.in-Union.is c.requires.valid)) in
+    (search (rules, aq.the_lemmas), (search rules, (opened, c.requires.target)))
+
+pub any_scorer::danger_other-returns-in-Union : goal.any_scorer::danger_other-returns-in-Union
+any_scorer::danger_other-returns-in-Union g t c =
+    let node = c.in-Union.node in
+    let lent = rw (c.in-Union.is, outs-Union node) at c.deref_mut-in-Union.ensures.value in
+    let new = record node { value = c.danger_union.new.node } in
+    let moved = moved-Union g.S.DocSet c.args.target node c.danger_union.new.node lent c.danger_union.ensures.entries c.danger_union.ensures.valid c.danger_union.ensures.top c.danger_union.ensures.depth in
+    answered-as g.S.DocSet c.args.target c.danger_union.result (Union node) (Union new) c.in-Union.is (rw (c.in-Union.is, outs-Union node) refl) moved (subst (λ es. IsSeekAnswer c.args.target es c.danger_union.result) (sym (entries-Union g.S.DocSet new)) c.danger_union.ensures.answer) (on_found c.danger_union.result (λ _. tt))
+
+-- ---- scores
+
+pub boost_node::score_boost-returns-clause-fits : goal.boost_node::score_boost-returns-clause-fits
+boost_node::score_boost-returns-clause-fits g t c =
+    rw c.score_tree.ensures.score (boost-fits g.S.DocSet g.met.S.DocSet.ascending _ _ _ c.requires.valid c.requires.placed c.requires.here c.requires.bounded)
+
+pub boost_node::score_boost-returns-clause-score : goal.boost_node::score_boost-returns-clause-score
+boost_node::score_boost-returns-clause-score g t c =
+    let D = g.S.DocSet in
+    let boost = c.args.node.now.boost in
+    let inner = c.args.node.now.inner in
+    let here = tree-here D g.met.S.DocSet.ascending inner c.requires.valid c.requires.placed c.requires.here in
+    ap (λ n. n * boost) c.score_tree.ensures.score ∙ sym (head_score-rescored (λ e. e.score * boost) (tree_entries D inner) here)
+
+pub boost_node::score_boost-overflow_mul-result : goal.boost_node::score_boost-overflow_mul-result
+boost_node::score_boost-overflow_mul-result g t c =
+    let fits : c.score_tree.result * c.args.node.now.boost ≤ greatest_score = rw c.score_tree.ensures.score (boost-fits g.S.DocSet g.met.S.DocSet.ascending _ _ _ c.requires.valid c.requires.placed c.requires.here c.requires.bounded) in
+    omega (arith, fits)
+
+pub optional_node::score_at-returns-then-reach_tree-doc-clause-score : goal.optional_node::score_at-returns-then-reach_tree-doc-clause-score
+optional_node::score_at-returns-then-reach_tree-doc-clause-score g t c =
+    let es = tree_entries g.S.DocSet c.args.scorer.now in
+    let d = c.args.doc in
+    let ascends = tree-ascends g.S.DocSet g.met.S.DocSet.ascending c.args.scorer.now c.requires.valid in
+    let here : head_document (from d es) ≡ d = ap head_document (sym c.reach_tree.ensures.entries) ∙ sym c.reach_tree.ensures.head ∙ c.if-reach_tree-doc.true in
+    let one = ap sum (scores_at-reached d _ es c.requires.here here ascends) in
+    omega (arith, c.score_tree.ensures.score, ap head_score c.reach_tree.ensures.entries, one, sum_by-cons (λ n. n) (head_score (from d es)) [])
+
+pub optional_node::score_at-returns-else-reach_tree-doc-clause-score : goal.optional_node::score_at-returns-else-reach_tree-doc-clause-score
+optional_node::score_at-returns-else-reach_tree-doc-clause-score g t c =
+    let es = tree_entries g.S.DocSet c.args.scorer.now in
+    let d = c.args.doc in
+    let ascends = tree-ascends g.S.DocSet g.met.S.DocSet.ascending c.args.scorer.now c.requires.valid in
+    let there = ap head_document (sym c.reach_tree.ensures.entries) ∙ sym c.reach_tree.ensures.head in
+    sym (ap sum (scores_at-passed d _ es c.requires.here (λ here. c.if-reach_tree-doc.false (sym there ∙ here)) ascends))
+
+together : (d : ℕ) (required optional : List Entry) → d ≡ head_document required → head_document required < TERMINATED → head_score required + sum (scores_at d (optional ∷ [])) ≡ head_score (with_optional sum required optional)
+together d required optional is here =
+    let own = head_score-rescored (λ e. sum (e.score ∷ scores_at e.document (optional ∷ []))) required here in
+    omega (arith, own, ap (λ x. sum (scores_at x (optional ∷ []))) is, sum_by-cons (λ n. n) (head_score required) (scores_at (head_document required) (optional ∷ [])))
+
+pub optional_node::score_optional-returns-clause-score : goal.optional_node::score_optional-returns-clause-score
+optional_node::score_optional-returns-clause-score g t c =
+    let rs = tree_entries g.S.DocSet c.args.node.now.required in
+    let os = tree_entries g.S.DocSet c.args.node.now.optional in
+    let is = c.doc_tree-doc.ensures ∙ tree-head g.S.DocSet g.met.S.DocSet.ascending _ c.requires.required c.requires.placed in
+    omega (arith, c.score_tree.ensures.score, c.score_at.ensures.score, together c.doc_tree-doc.result rs os is (tree-here g.S.DocSet g.met.S.DocSet.ascending _ c.requires.required c.requires.placed c.requires.here))
+
+pub optional_node::score_optional-returns-clause-fits : goal.optional_node::score_optional-returns-clause-fits
+optional_node::score_optional-returns-clause-fits g t c =
+    omega (arith, optional_node::score_optional-returns-clause-score g t c, head_score-bounded _ _ c.requires.bounded)
+
+pub optional_node::score_optional-returns-clause-entries : goal.optional_node::score_optional-returns-clause-entries
+optional_node::score_optional-returns-clause-entries g t c =
+    let rs = tree_entries g.S.DocSet c.args.node.now.required in
+    let os = tree_entries g.S.DocSet c.args.node.now.optional in
+    let ascends = tree-ascends g.S.DocSet g.met.S.DocSet.ascending c.args.node.now.required c.requires.required in
+    let is = c.doc_tree-doc.ensures ∙ tree-head g.S.DocSet g.met.S.DocSet.ascending _ c.requires.required c.requires.placed in
+    (λ i. with_optional sum (c.score_tree.ensures.entries i) (c.score_at.ensures.left i)) ∙ with_optional-reached sum c.doc_tree-doc.result _ rs os is ascends
+
+pub exclude_node::score_exclude-returns-clause-score : goal.exclude_node::score_exclude-returns-clause-score
+exclude_node::score_exclude-returns-clause-score g t c =
+    let ascends = tree-ascends g.S.DocSet g.met.S.DocSet.ascending c.args.node.now.inner c.requires.inner in
+    c.score_tree.ensures.score ∙ sym (head_score-without _ 0 _ _ ascends c.requires.kept)
+
+-- ---- groups
+
+pub group_node::score_group-loop-i-init : goal.group_node::score_group-loop-i-init
+group_node::score_group-loop-i-init g t c = record {
+  unvisited = search (rules, gq.the_lemmas);
+  valid = c.requires.valid.members.valid;
+  placed = c.requires.valid.members.placed;
+  lists = refl;
+  combined = c.clear.ensures ∙ sym (ap (fold any_step (any_cleared c.args.node.now.shape.combiner)) (scores_at-nil c.args.node.now.current));
+  shape = refl;
+  current = refl;
+  depth = omega arith;
+}
+
+pub group_node::score_group-loop-i-preserved : goal.group_node::score_group-loop-i-preserved
+group_node::score_group-loop-i-preserved g t c =
+    let D = g.S.DocSet in
+    let e = tree_entries D in
+    let h = c.loop-i.invariant in
+    let i = c.loop-i.i in
+    let xs = c.loop-i.node.members.items in
+    let d = c.args.node.now.current in
+    let item = c.index.result.now in
+    let start = any_cleared c.args.node.now.shape.combiner in
+    let scores = scores_at d (take i (map e xs)) in
+    let here : i < length xs = omega (arith, h.unvisited.0, c.loop-i-test.true, c.len-i-end.ensures, c.args.node.now.members.ok.0) in
+    let valid : IsTree D item = subst (IsTree D) (sym c.index.ensures) (All-get_or (IsTree D) xs i item here h.valid) in
+    let placed : IsTreePlaced D item = subst (IsTreePlaced D) (sym c.index.ensures) (All-get_or (IsTreePlaced D) xs i item here h.placed) in
+    let a = tree-ascends D g.met.S.DocSet.ascending item valid in
+    let doc : c.doc_tree.result ≡ head_document (e item) = c.doc_tree.ensures ∙ tree-head D g.met.S.DocSet.ascending item valid placed in
+    elim c.if-doc_tree-doc.branch [
+      | group_node::score_group-then-doc_tree-doc w ↦
+          let x = w.score_tree.new.scorer in
+          let old = w.index_mut.result.now in
+          let was : old ≡ item = get_or_read_under xs i (length xs) old item w.index_mut.ensures.value here refl ∙ sym c.index.ensures in
+          let same : e x ≡ e (get_or xs i old) = w.score_tree.ensures.entries ∙ ap e w.index_mut.ensures.value in
+          let still = map-set_same e xs i x old here same in
+          let more = scores_at-more e _ xs i d item a c.index.ensures here (sym doc ∙ w.if-doc_tree-doc.true) c.requires.here in
+          let added = ap (fold any_step start) more ∙ fold-append any_step start scores (head_score (e item) ∷ []) in
+          let smaller = subst (λ (y : AnyScorer g.row.S.Denot). size-AnyScorer g.row.S.Denot x ≤ size-AnyScorer g.row.S.Denot y) w.index_mut.ensures.value w.score_tree.ensures.depth in
+          rw (w.node-is, w.combiner-is) (record {
+            unvisited = search (rules, gq.the_lemmas);
+            valid = All-set (IsTree D) xs i x w.score_tree.ensures.valid h.valid;
+            placed = All-set (IsTreePlaced D) xs i x w.score_tree.ensures.placed h.placed;
+            lists = still ∙ h.lists;
+            combined = w.take_score.ensures ∙ ap (λ s. any_step s w.score_tree.result) h.combined ∙ ap (any_step (fold any_step start scores)) (w.score_tree.ensures.score ∙ ap (λ m. head_score (e m)) was) ∙ sym added ∙ ap (λ r. fold any_step start (scores_at d (take (i + 1) r))) (sym still);
+            shape = h.shape;
+            current = h.current;
+            depth = size-members c.loop-i.node _ _ (most-set (size-AnyScorer g.row.S.Denot) xs i x old here smaller) h.depth;
+          })
+      | group_node::score_group-else-doc_tree-doc w ↦
+          let past : d ≤ head_document (e item) = omega (arith, c.requires.valid.own.least, ap least_head h.lists, least_head-le e xs i item here, ap (λ m. head_document (e m)) c.index.ensures) in
+          let same = scores_at-more_ahead e _ xs i d item a c.index.ensures here (omega (arith, doc, past, w.if-doc_tree-doc.false)) in
+          rw (w.node-is, w.combiner-is) (record {
+            unvisited = search (rules, gq.the_lemmas);
+            valid = h.valid;
+            placed = h.placed;
+            lists = h.lists;
+            combined = h.combined ∙ sym (ap (fold any_step start) same);
+            shape = h.shape;
+            current = h.current;
+            depth = h.depth;
+          })
+    ]
+
+pub group_node::score_group-take_score-requires-clause-room : goal.group_node::score_group-take_score-requires-clause-room
+group_node::score_group-take_score-requires-clause-room g t c =
+    let D = g.S.DocSet in
+    let e = tree_entries D in
+    let h = c.loop-i.invariant in
+    let i = c.loop-i.i in
+    let xs = c.loop-i.node.members.items in
+    let d = c.args.node.now.current in
+    let item = c.index.result.now in
+    let start = c.args.node.now.shape.combiner in
+    let here : i < length xs = omega (arith, h.unvisited.0, c.loop-i-test.true, c.len-i-end.ensures, c.args.node.now.members.ok.0) in
+    let valid : IsTree D item = subst (IsTree D) (sym c.index.ensures) (All-get_or (IsTree D) xs i item here h.valid) in
+    let placed : IsTreePlaced D item = subst (IsTreePlaced D) (sym c.index.ensures) (All-get_or (IsTreePlaced D) xs i item here h.placed) in
+    let a = tree-ascends D g.met.S.DocSet.ascending item valid in
+    let doc : c.doc_tree.result ≡ head_document (e item) = c.doc_tree.ensures ∙ tree-head D g.met.S.DocSet.ascending item valid placed in
+    let was : c.index_mut.result.now ≡ item = get_or_read_under xs i (length xs) c.index_mut.result.now item c.index_mut.ensures.value here refl ∙ sym c.index.ensures in
+    let room = subst (HasRoom start) (sym h.lists) c.requires.valid.own.room d in
+    let next = room-next e _ xs i d item a c.index.ensures here (sym doc ∙ c.if-doc_tree-doc.true) c.requires.here in
+    let score : c.score_tree.result ≡ head_score (e item) = c.score_tree.ensures.score ∙ ap (λ m. head_score (e m)) was in
+    let left = any-taken start (scores_at d (map e xs)) (scores_at d (take i (map e xs))) c.score_tree.result room (λ fits. omega (arith, score, next fits)) in
+    subst (λ s. AnyHasRoom s c.score_tree.result) (sym h.combined) left
+
+pub group_node::score_group-score_tree-requires : goal.group_node::score_group-score_tree-requires
+group_node::score_group-score_tree-requires g t c κs within =
+    let D = g.S.DocSet in
+    let h = c.loop-i.invariant in
+    let i = c.loop-i.i in
+    let xs = c.loop-i.node.members.items in
+    let item = c.index.result.now in
+    let x = c.index_mut.result.now in
+    let here : i < length xs = omega (arith, h.unvisited.0, c.loop-i-test.true, c.len-i-end.ensures, c.args.node.now.members.ok.0) in
+    let was : x ≡ item = get_or_read_under xs i (length xs) x item c.index_mut.ensures.value here refl ∙ sym c.index.ensures in
+    let valid : IsTree D x = subst (IsTree D) (sym c.index_mut.ensures.value) (All-get_or (IsTree D) xs i x here h.valid) in
+    let placed : IsTreePlaced D x = subst (IsTreePlaced D) (sym c.index_mut.ensures.value) (All-get_or (IsTreePlaced D) xs i x here h.placed) in
+    let on : tree_head D x < TERMINATED = omega (arith, ap (tree_head D) was, c.doc_tree.ensures, c.if-doc_tree-doc.true, c.requires.here) in
+    (search (rules, gq.the_lemmas), (search rules, (valid, (placed, on))))
+
+pub group_node::score_group-returns-clause-score : goal.group_node::score_group-returns-clause-score
+group_node::score_group-returns-clause-score g t c =
+    let D = g.S.DocSet in
+    let h = c.loop-i.invariant in
+    let node = c.args.node.now in
+    let lists = map (tree_entries D) c.loop-i.node.members.items in
+    let long : length lists ≤ c.loop-i.i = omega (arith, length-map c.loop-i.node.members.items (tree_entries D), h.unvisited.0, c.loop-i-test.false, c.len-i-end.ensures, node.members.ok.0) in
+    let all = h.combined ∙ ap (λ r. fold any_step (any_cleared node.shape.combiner) (scores_at node.current r)) (take_all c.loop-i.i lists long ∙ h.lists) in
+    let value = group-score D g.met.S.DocSet.ascending node c.loop-i.combiner c.requires.valid c.requires.here all in
+    score_cast c.score.result _ c.score.ensures c.score.type_inv ∙ value
+
+pub group_node::score_group-returns-clause-fits : goal.group_node::score_group-returns-clause-fits
+group_node::score_group-returns-clause-fits g t c =
+    omega (arith, group_node::score_group-returns-clause-score g t c, head_score-bounded _ _ c.requires.valid.own.bounded)
+
+pub group_node::score_group-returns-clause-valid : goal.group_node::score_group-returns-clause-valid
+group_node::score_group-returns-clause-valid g t c =
+    let h = c.loop-i.invariant in
+    group-kept g.S.DocSet g.met.S.DocSet.ascending c.args.node.now c.loop-i.node c.requires.valid h.valid h.placed h.lists h.shape h.current
+
+-- ---- intersections
+
+pub intersection_node::score_intersection-loop-i-init : goal.intersection_node::score_intersection-loop-i-init
+intersection_node::score_intersection-loop-i-init g t c =
+    let D = g.S.DocSet in
+    let node = c.args.node.now in
+    let is = c.as_mut_slice-others.ensures.value in
+    let below : head_document (tree_entries D node.leader) < TERMINATED = tree-here D g.met.S.DocSet.ascending node.leader c.requires.trees.leader c.requires.placed.leader c.requires.here in
+    record {
+      valid = subst (All (IsTree D)) (sym is) c.requires.trees.others;
+      placed = subst (All (IsTreePlaced D)) (sym is) (λ k d less. (c.requires.placed.others below k d less).0);
+      lists = ap (map (tree_entries D)) is;
+      summed = omega (arith, c.score_tree-sum.ensures.score, c.score_tree-sum.ensures.fits);
+      depth = omega (arith, ap (most (size-AnyScorer g.row.S.Denot)) is);
+    }
+
+pub intersection_node::score_intersection-loop-i-preserved : goal.intersection_node::score_intersection-loop-i-preserved
+intersection_node::score_intersection-loop-i-preserved g t c =
+    let D = g.S.DocSet in
+    let e = tree_entries D in
+    let h = c.loop-i.invariant in
+    let i = c.loop-i.i in
+    let xs = c.loop-i.others in
+    let x = c.score_tree.new.scorer in
+    let old = c.index-others-i.result in
+    let here : i < length xs = omega (arith, c.loop-i.auto.others, c.loop-i-test.true) in
+    let still = map-set_same e xs i x old here c.score_tree.ensures.entries in
+    let scores = map head_score (map e xs) in
+    let first = head_score (e c.args.node.now.leader) in
+    let one = get_or-map-map head_score e xs i old 0 here in
+    let more = sum_by_more (λ n. n) scores i 0 (omega (arith, here, length-map (map e xs) head_score, length-map xs e)) in
+    let added : c.min-sum.result ≡ min greatest_score (first + sum (take (i + 1) scores)) = omega (arith, one, more, c.score_tree.ensures.score, c.min-sum.ensures, h.summed) in
+    let smaller = most-set (size-AnyScorer g.row.S.Denot) xs i x old here c.score_tree.ensures.depth in
+    record {
+      valid = All-set (IsTree D) xs i x c.score_tree.ensures.valid h.valid;
+      placed = All-set (IsTreePlaced D) xs i x c.score_tree.ensures.placed h.placed;
+      lists = still ∙ h.lists;
+      summed = added ∙ ap (λ r. min greatest_score (first + sum (take (i + 1) (map head_score r)))) (sym still);
+      depth = omega (arith, smaller, h.depth);
+    }
+
+pub intersection_node::score_intersection-score_tree-requires : goal.intersection_node::score_intersection-score_tree-requires
+intersection_node::score_intersection-score_tree-requires g t c κs within =
+    let D = g.S.DocSet in
+    let e = tree_entries D in
+    let h = c.loop-i.invariant in
+    let node = c.args.node.now in
+    let xs = c.loop-i.others in
+    let i = c.loop-i.i in
+    let x = get_or xs i c.index-others-i.result in
+    let here : i < length xs = omega (arith, c.loop-i.auto.others, c.loop-i-test.true) in
+    let below : head_document (tree_entries D node.leader) < TERMINATED = tree-here D g.met.S.DocSet.ascending node.leader c.requires.trees.leader c.requires.placed.leader c.requires.here in
+    let all = All-same_lists e (λ es. head_document es ≡ head_document (e node.leader)) node.others.items xs h.lists (λ k d less. (c.requires.placed.others below k d less).1) in
+    let stands : head_document (e x) ≡ head_document (e node.leader) = all i _ here in
+    let valid : IsTree D x = h.valid i _ here in
+    let placed : IsTreePlaced D x = h.placed i _ here in
+    let on : tree_head D x < TERMINATED = omega (arith, tree-head D g.met.S.DocSet.ascending x valid placed, stands, below) in
+    let smaller = at_most (size-AnyScorer g.row.S.Denot) xs i c.index-others-i.result here in
+    let under = size_is-IntersectionNode g.row.S.Denot node in
+    (omega (arith, c.decreases, smaller, under, h.depth), (search rules, (valid, (placed, on))))
+
+pub intersection_node::score_intersection-returns-clause-score : goal.intersection_node::score_intersection-returns-clause-score
+intersection_node::score_intersection-returns-clause-score g t c =
+    let D = g.S.DocSet in
+    let e = tree_entries D in
+    let law = tree-ascends D g.met.S.DocSet.ascending in
+    let h = c.loop-i.invariant in
+    let node = c.args.node.now in
+    let xs = c.loop-i.others in
+    let below : head_document (tree_entries D node.leader) < TERMINATED = tree-here D g.met.S.DocSet.ascending node.leader c.requires.trees.leader c.requires.placed.leader c.requires.here in
+    let score = head_score-together (IsTree D) (tree_limits D) e law held_sum (IsTreePlaced D) _ (e node.leader) node.others.items (law node.leader c.requires.trees.leader) c.requires.trees.others below (c.requires.placed.others below) in
+    let scores = map head_score (map e xs) in
+    let long : length scores ≤ c.loop-i.i = omega (arith, length-map (map e xs) head_score, length-map xs e, c.loop-i.auto.others, c.loop-i-test.false) in
+    let whole = ap sum (take_all c.loop-i.i scores long ∙ ap (map head_score) h.lists) in
+    let cons = sum_by-cons (λ n. n) (head_score (e node.leader)) (map head_score (map e node.others.items)) in
+    let total : c.loop-i.sum ≡ held_sum (head_score (e node.leader) ∷ map head_score (map e node.others.items)) = omega (arith, h.summed, whole, cons) in
+    total ∙ sym score
+
+pub intersection_node::score_intersection-returns-clause-entries : goal.intersection_node::score_intersection-returns-clause-entries
+intersection_node::score_intersection-returns-clause-entries g t c =
+    let D = g.S.DocSet in
+    let node = c.args.node.now in
+    let xs = c.loop-i.others in
+    let whole = with_items_is node.others xs (omega (arith, c.loop-i.auto.others, ap length c.as_mut_slice-others.ensures.value, node.others.ok.0)) in
+    let lists = ap (map (tree_entries D)) whole ∙ c.loop-i.invariant.lists in
+    (λ i. common_entries held_sum (c.score_tree-sum.ensures.entries i ∷ lists i))
+
+pub intersection_node::score_intersection-returns-clause-trees : goal.intersection_node::score_intersection-returns-clause-trees
+intersection_node::score_intersection-returns-clause-trees g t c =
+    let node = c.args.node.now in
+    let xs = c.loop-i.others in
+    let whole = with_items_is node.others xs (omega (arith, c.loop-i.auto.others, ap length c.as_mut_slice-others.ensures.value, node.others.ok.0)) in
+    record {
+      leader = c.score_tree-sum.ensures.valid;
+      others = subst (All (IsTree g.S.DocSet)) (sym whole) c.loop-i.invariant.valid;
+    }
+
+pub intersection_node::score_intersection-returns-clause-placed : goal.intersection_node::score_intersection-returns-clause-placed
+intersection_node::score_intersection-returns-clause-placed g t c =
+    let D = g.S.DocSet in
+    let e = tree_entries D in
+    let h = c.loop-i.invariant in
+    let node = c.args.node.now in
+    let xs = c.loop-i.others in
+    let whole = with_items_is node.others xs (omega (arith, c.loop-i.auto.others, ap length c.as_mut_slice-others.ensures.value, node.others.ok.0)) in
+    let below : head_document (tree_entries D node.leader) < TERMINATED = tree-here D g.met.S.DocSet.ascending node.leader c.requires.trees.leader c.requires.placed.leader c.requires.here in
+    let all = All-same_lists e (λ es. head_document es ≡ head_document (e node.leader)) node.others.items xs h.lists (λ k d less. (c.requires.placed.others below k d less).1) in
+    let leader = c.score_tree-sum.ensures.entries in
+    record {
+      leader = c.score_tree-sum.ensures.placed;
+      others = λ _. subst (StandOn (IsTreePlaced D) e _) (sym whole) (λ k d less. (h.placed k d less, all k d less ∙ ap head_document (sym leader)));
+    }
+
+pub intersection_node::score_intersection-returns-clause-depth : goal.intersection_node::score_intersection-returns-clause-depth
+intersection_node::score_intersection-returns-clause-depth g t c =
+    let node = c.args.node.now in
+    let xs = c.loop-i.others in
+    let size = size-AnyScorer g.row.S.Denot in
+    let whole = with_items_is node.others xs (omega (arith, c.loop-i.auto.others, ap length c.as_mut_slice-others.ensures.value, node.others.ok.0)) in
+    size-others node _ c.score_tree-sum.ensures.depth (omega (arith, ap (most size) whole, c.loop-i.invariant.depth))
+
+-- ---- the leaves of the enum
+
+pub any_scorer::score_tree-returns-in-Term : goal.any_scorer::score_tree-returns-in-Term
+any_scorer::score_tree-returns-in-Term g t c =
+    let leaf = c.in-Term.leaf in
+    let scored = c.score in
+    let score = score_cast scored.result _ scored.ensures.score scored.type_inv in
+    scored-leaf g.S.DocSet Term (λ s. scored_left s.value) (λ _. refl) (λ _. refl) (same-Term g.row.S.Denot) leaf scored.new.self c.in-Term.leaf-is c.in-Term.is c.requires.here score (score_fits _ _ scored.ensures.score scored.type_inv) scored.ensures.entries (ap (λ (l : Limits). l.top) scored.ensures.limits) scored.ensures.valid scored.ensures.placed (search rules)
+
+pub any_scorer::score_other-returns-in-Empty : goal.any_scorer::score_other-returns-in-Empty
+any_scorer::score_other-returns-in-Empty g t c =
+    let leaf = c.in-Empty.leaf in
+    let scored = c.score in
+    let score = score_cast scored.result _ scored.ensures scored.type_inv in
+    scored-leaf g.S.DocSet Empty (λ _. []) (λ _. sym bare-nil) (λ _. refl) (same-Empty g.row.S.Denot) leaf scored.new.self c.in-Empty.leaf-is c.in-Empty.is c.requires.here score (score_fits _ _ scored.ensures scored.type_inv) refl refl tt tt (search rules)
+
+pub any_scorer::score_other-returns-in-All : goal.any_scorer::score_other-returns-in-All
+any_scorer::score_other-returns-in-All g t c =
+    let leaf = c.in-All.leaf in
+    let scored = c.score-in-All in
+    let score = score_cast scored.result _ scored.ensures.score scored.type_inv in
+    scored-leaf g.S.DocSet Every all_left (λ _. refl) (λ _. refl) (same-All g.row.S.Denot) leaf scored.new.self c.in-All.leaf-is c.in-All.is c.requires.here score (score_fits _ _ scored.ensures.score scored.type_inv) scored.ensures.entries refl scored.ensures.valid scored.ensures.placed (search rules)
+
+pub any_scorer::score_other-returns-in-Own : goal.any_scorer::score_other-returns-in-Own
+any_scorer::score_other-returns-in-Own g t c =
+    let leaf = c.in-Own.leaf in
+    let scored = c.score-in-Own in
+    let score = score_cast scored.result _ scored.ensures.score scored.type_inv in
+    scored-leaf g.S.DocSet Own g.S.DocSet.entries (λ _. refl) (λ _. refl) (same-Own g.row.S.Denot) leaf scored.new.self c.in-Own.leaf-is c.in-Own.is c.requires.here score (score_fits _ _ scored.ensures.score scored.type_inv) scored.ensures.entries (ap (λ (l : Limits). l.top) scored.ensures.limits) scored.ensures.valid scored.ensures.placed (search rules)
+
+pub any_scorer::score_other-returns-in-Term : goal.any_scorer::score_other-returns-in-Term
+any_scorer::score_other-returns-in-Term g t c =
+    let leaf = c.in-Term.leaf in
+    let scored = c.score-in-Term in
+    let score = score_cast scored.result _ scored.ensures.score scored.type_inv in
+    scored-leaf g.S.DocSet Term (λ s. scored_left s.value) (λ _. refl) (λ _. refl) (same-Term g.row.S.Denot) leaf scored.new.self c.in-Term.leaf-is c.in-Term.is c.requires.here score (score_fits _ _ scored.ensures.score scored.type_inv) scored.ensures.entries (ap (λ (l : Limits). l.top) scored.ensures.limits) scored.ensures.valid scored.ensures.placed (search rules)
+
+pub any_scorer::score_other-returns-in-BitSet : goal.any_scorer::score_other-returns-in-BitSet
+any_scorer::score_other-returns-in-BitSet g t c =
+    let leaf = c.in-BitSet.leaf in
+    let scored = c.score-in-BitSet in
+    let score = score_cast scored.result _ scored.ensures.score scored.type_inv in
+    scored-leaf g.S.DocSet BitSet (λ s. constant_left set_cursors s.value) (λ _. refl) (λ _. refl) (same-BitSet g.row.S.Denot) leaf scored.new.self c.in-BitSet.leaf-is c.in-BitSet.is c.requires.here score (score_fits _ _ scored.ensures.score scored.type_inv) scored.ensures.entries (ap (λ (l : Limits). l.top) scored.ensures.limits) scored.ensures.valid scored.ensures.placed (search rules)
+
+pub any_scorer::score_other-returns-in-Phrase : goal.any_scorer::score_other-returns-in-Phrase
+any_scorer::score_other-returns-in-Phrase g t c =
+    let leaf = c.in-Phrase.leaf in
+    let scored = c.score-in-Phrase in
+    let score = score_cast scored.result _ scored.ensures.score scored.type_inv in
+    scored-leaf g.S.DocSet Phrase (λ s. phrase_left postings_cursors s.value) (λ _. refl) (λ _. refl) (same-Phrase g.row.S.Denot) leaf scored.new.self c.in-Phrase.leaf-is c.in-Phrase.is c.requires.here score (score_fits _ _ scored.ensures.score scored.type_inv) scored.ensures.entries (ap (λ (l : Limits). l.top) scored.ensures.limits) scored.ensures.valid scored.ensures.placed (search rules)
+
+pub any_scorer::score_other-returns-in-PhrasePrefix : goal.any_scorer::score_other-returns-in-PhrasePrefix
+any_scorer::score_other-returns-in-PhrasePrefix g t c =
+    let leaf = c.in-PhrasePrefix.leaf in
+    let scored = c.score-in-PhrasePrefix in
+    let score = score_cast scored.result _ scored.ensures.score scored.type_inv in
+    scored-leaf g.S.DocSet PhrasePrefix (λ s. phrase_prefix_left postings_cursors s.value) (λ _. refl) (λ _. refl) (same-PhrasePrefix g.row.S.Denot) leaf scored.new.self c.in-PhrasePrefix.leaf-is c.in-PhrasePrefix.is c.requires.here score (score_fits _ _ scored.ensures.score scored.type_inv) scored.ensures.entries (ap (λ (l : Limits). l.top) scored.ensures.limits) scored.ensures.valid scored.ensures.placed (search rules)
+
+-- ---- the nodes of the enum
+
+pub any_scorer::score_other-score_boost-requires : goal.any_scorer::score_other-score_boost-requires
+any_scorer::score_other-score_boost-requires g t c κs within =
+    let node = c.in-Boost.node in
+    let lent = rw (c.in-Boost.is, outs-Boost node) at c.deref_mut.ensures.value in
+    (search (rules, aq.the_lemmas), (search rules, asked-Boost g.S.DocSet node c.in-Boost.is lent c.requires.valid c.requires.placed c.requires.here))
+
+pub any_scorer::score_other-score_optional-requires : goal.any_scorer::score_other-score_optional-requires
+any_scorer::score_other-score_optional-requires g t c κs within =
+    let node = c.in-RequiredOptional.node in
+    let lent = rw (c.in-RequiredOptional.is, outs-RequiredOptional node) at c.deref_mut-in-RequiredOptional.ensures.value in
+    (search (rules, aq.the_lemmas), (search rules, asked-RequiredOptional g.S.DocSet node c.in-RequiredOptional.is lent c.requires.valid c.requires.placed c.requires.here))
+
+pub any_scorer::score_other-score_exclude-requires : goal.any_scorer::score_other-score_exclude-requires
+any_scorer::score_other-score_exclude-requires g t c κs within =
+    let node = c.in-Exclude.node in
+    let lent = rw (c.in-Exclude.is, outs-Exclude node) at c.deref_mut-in-Exclude.ensures.value in
+    (search (rules, aq.the_lemmas), (search rules, asked-Exclude g.S.DocSet node c.in-Exclude.is lent c.requires.valid c.requires.placed c.requires.here))
+
+pub any_scorer::score_other-score_const-requires : goal.any_scorer::score_other-score_const-requires
+any_scorer::score_other-score_const-requires g t c =
+    let node = c.in-Const.node in
+    let lent = rw (c.in-Const.is, outs-Const node) at c.deref_mut-in-Const.ensures.value in
+    let asked = asked-Const g.S.DocSet node c.in-Const.is lent c.requires.valid c.requires.placed c.requires.here in
+    record { valid = asked.0; placed = asked.1.0; here = asked.1.1.0; bounded = asked.1.1.1 }
+
+pub any_scorer::score_other-returns-in-Boost : goal.any_scorer::score_other-returns-in-Boost
+any_scorer::score_other-returns-in-Boost g t c =
+    let D = g.S.DocSet in
+    let node = c.in-Boost.node in
+    let lent = rw (c.in-Boost.is, outs-Boost node) at c.deref_mut.ensures.value in
+    let new = c.score_boost.new.node in
+    let is = c.score_boost.ensures in
+    scored-as D (Boost node) (Boost (record node { value = new })) c.in-Boost.is (rw (c.in-Boost.is, outs-Boost node) refl) (scored-Boost D node new lent (subst (IsTree D) c.in-Boost.is c.requires.valid) is.score is.fits is.entries is.valid is.placed is.head is.boost is.top is.depth)
+
+pub any_scorer::score_other-returns-in-Const : goal.any_scorer::score_other-returns-in-Const
+any_scorer::score_other-returns-in-Const g t c =
+    let D = g.S.DocSet in
+    let node = c.in-Const.node in
+    let lent = rw (c.in-Const.is, outs-Const node) at c.deref_mut-in-Const.ensures.value in
+    let new = c.score_const.new.node in
+    let is = c.score_const.ensures in
+    scored-as D (Const node) (Const (record node { value = new })) c.in-Const.is (rw (c.in-Const.is, outs-Const node) refl) (scored-Const D node new lent (subst (IsTree D) c.in-Const.is c.requires.valid) is.score is.fits is.entries is.valid is.placed is.head is.same is.depth)
+
+pub any_scorer::score_other-returns-in-RequiredOptional : goal.any_scorer::score_other-returns-in-RequiredOptional
+any_scorer::score_other-returns-in-RequiredOptional g t c =
+    let D = g.S.DocSet in
+    let node = c.in-RequiredOptional.node in
+    let lent = rw (c.in-RequiredOptional.is, outs-RequiredOptional node) at c.deref_mut-in-RequiredOptional.ensures.value in
+    let new = c.score_optional.new.node in
+    let is = c.score_optional.ensures in
+    scored-as D (RequiredOptional node) (RequiredOptional (record node { value = new })) c.in-RequiredOptional.is (rw (c.in-RequiredOptional.is, outs-RequiredOptional node) refl) (scored-RequiredOptional D node new lent (subst (IsTree D) c.in-RequiredOptional.is c.requires.valid) is.score is.fits is.entries is.required is.placed is.optional is.stands is.head is.top is.depth)
+
+pub any_scorer::score_other-returns-in-Exclude : goal.any_scorer::score_other-returns-in-Exclude
+any_scorer::score_other-returns-in-Exclude g t c =
+    let D = g.S.DocSet in
+    let node = c.in-Exclude.node in
+    let lent = rw (c.in-Exclude.is, outs-Exclude node) at c.deref_mut-in-Exclude.ensures.value in
+    let new = c.score_exclude.new.node in
+    let is = c.score_exclude.ensures in
+    scored-as D (Exclude node) (Exclude (record node { value = new })) c.in-Exclude.is (rw (c.in-Exclude.is, outs-Exclude node) refl) (scored-Exclude D node new lent (subst (IsTree D) c.in-Exclude.is c.requires.valid) (subst (IsTreePlaced D) c.in-Exclude.is c.requires.placed) is.score is.fits is.entries is.inner is.placed is.head is.out is.top is.depth)
+
+pub any_scorer::score_other-score_group-requires : goal.any_scorer::score_other-score_group-requires
+any_scorer::score_other-score_group-requires g t c κs within =
+    let D = g.S.DocSet in
+    let node = c.in-Disjunction.node in
+    let value = rw (c.in-Disjunction.is, outs-Disjunction c.in-Disjunction.node) at c.deref_mut-in-Disjunction.ensures.value in
+    let opened = subst (IsGroupNode D) (sym value) (opened-Disjunction D node (subst (IsTree D) c.in-Disjunction.is c.requires.valid)) in
+    let here : c.deref_mut-in-Disjunction.result.now.current < TERMINATED = omega (arith, c.requires.here, ap (tree_head D) c.in-Disjunction.is, ap (λ (n : GroupNode g.row.S.Denot). n.current) value) in
+    (search (rules, aq.the_lemmas), (search rules, (opened, here)))
+
+pub any_scorer::score_other-score_intersection-requires : goal.any_scorer::score_other-score_intersection-requires
+any_scorer::score_other-score_intersection-requires g t c κs within =
+    let node = c.in-Intersection.node in
+    let lent = rw (c.in-Intersection.is, outs-Intersection node) at c.deref_mut-in-Intersection.ensures.value in
+    let is = c.in-Intersection.is in
+    let D = g.S.DocSet in
+    (search (rules, aq.the_lemmas), (search rules, (lent-trees D node is lent c.requires.valid, (lent-together D node is lent c.requires.placed, lent-here D node is lent c.requires.here))))
+
+pub any_scorer::score_other-returns-in-Disjunction : goal.any_scorer::score_other-returns-in-Disjunction
+any_scorer::score_other-returns-in-Disjunction g t c =
+    let D = g.S.DocSet in
+    let node = c.in-Disjunction.node in
+    let lent = rw (c.in-Disjunction.is, outs-Disjunction node) at c.deref_mut-in-Disjunction.ensures.value in
+    let new = c.score_group.new.node in
+    let is = c.score_group.ensures in
+    scored-as D (Disjunction node) (Disjunction (record node { value = new })) c.in-Disjunction.is (rw (c.in-Disjunction.is, outs-Disjunction node) refl) (scored-Disjunction D node new lent is.score is.fits is.lists is.valid is.shape is.current is.depth)
+
+pub any_scorer::score_other-returns-in-Intersection : goal.any_scorer::score_other-returns-in-Intersection
+any_scorer::score_other-returns-in-Intersection g t c =
+    let D = g.S.DocSet in
+    let node = c.in-Intersection.node in
+    let lent = rw (c.in-Intersection.is, outs-Intersection node) at c.deref_mut-in-Intersection.ensures.value in
+    let new = c.score_intersection.new.node in
+    let is = c.score_intersection.ensures in
+    scored-as D (Intersection node) (Intersection (record node { value = new })) c.in-Intersection.is (rw (c.in-Intersection.is, outs-Intersection node) refl) (scored-Intersection D node new c.in-Intersection.is lent c.requires.valid is.score is.fits is.entries is.trees is.placed is.head is.top is.depth)
+
+-- ---- unions
+
+pub any_scorer::score_other-score_union-requires-clause-valid : goal.any_scorer::score_other-score_union-requires-clause-valid
+any_scorer::score_other-score_union-requires-clause-valid g t c =
+    let D = g.S.DocSet in
+    let node = c.in-Union.node in
+    let value = rw (c.in-Union.is, outs-Union c.in-Union.node) at c.deref_mut-in-Union.ensures.value in
+    subst (IsUnionNode D) (sym value) (opened-Union D node (subst (IsTree D) c.in-Union.is c.requires.valid))
+
+pub any_scorer::score_other-returns-in-Union : goal.any_scorer::score_other-returns-in-Union
+any_scorer::score_other-returns-in-Union g t c =
+    let D = g.S.DocSet in
+    let node = c.in-Union.node in
+    let lent = rw (c.in-Union.is, outs-Union node) at c.deref_mut-in-Union.ensures.value in
+    let new = c.score_union.new.node in
+    let is = c.score_union.ensures in
+    scored-as D (Union node) (Union (record node { value = new })) c.in-Union.is (rw (c.in-Union.is, outs-Union node) refl) (scored-Union D node new lent (subst (IsTree D) c.in-Union.is c.requires.valid) is.score is.fits is.same)
+
+pub union_node::take_by_steps-score_tree-score-requires : goal.union_node::take_by_steps-score_tree-score-requires
+union_node::take_by_steps-score_tree-score-requires g t c κs within =
+    let h = c.loop-doc.invariant in
+    let here = tree-head g.S.DocSet g.met.S.DocSet.ascending c.loop-doc.member h.valid h.placed in
+    (first_of (omega (arith, c.decreases, h.depth), search (rules, aq.the_lemmas)), (search rules, (h.valid, (h.placed, omega (arith, here, h.here, c.if-doc-lt-TERMINATED.true)))))

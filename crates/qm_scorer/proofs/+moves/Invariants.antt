@@ -1,14 +1,22 @@
-use Rattle.std.proofs.Common.{◌≡◌, ◌-◌, ◌≤◌, All, map, take}
+use Rattle.std.proofs.Common.{◌≡◌, ◌-◌, ◌+◌, ◌≤◌, All, map, min, take, fold, sum}
 use denote.Param.Weighed.{most}
-use Rattle.qm_docset.specs.Entry.{from, head_document}
+use Rattle.qm_docset.specs.Entry.{from, head_document, greatest_score, head_score}
 use Rattle.qm_combine.specs.Union.{least_head}
 use Rattle.qm_scorer.specs.Group.{AreStanding, group_entries, group_lists}
 use Rattle.qm_scorer.specs.Intersection.{common_list, other_lists}
-use Rattle.qm_scorer.specs.Tree.{HasRoom, IsTree, IsTreePlaced, kept_entries, tree_entries}
+use Rattle.qm_scorer.specs.Tree.{HasRoom, IsTree, IsTreePlaced, kept_entries, tree_entries, tree_limits, tree_top}
 use Rattle.qm_scorer.specs.declared.any_scorer.AnyScorer.{size-AnyScorer}
 use Rattle.qm_scorer.specs.declared.exclude_node.ExcludeNode.{size-ExcludeNode}
 use Rattle.qm_scorer.specs.declared.group_node.GroupNode.{size-GroupNode}
 use Rattle.qm_scorer.specs.declared.intersection_node.IntersectionNode.{size-IntersectionNode}
+use Rattle.qm_combine.specs.Window.{window_combiner}
+use Rattle.qm_scorer.specs.TreeFacts.{tree-ascends}
+use Rattle.qm_scorer.specs.United.{union_limits, union_lists}
+use Rattle.qm_scorer.specs.declared.union_node.UnionNode.{size-UnionNode}
+use Rattle.qm_scorer.proofs.Refilling.{IsRefilling}
+use Rattle.qm_scorer.proofs.Taking.{IsTakenTo}
+use Rattle.qm_docset.specs.Gather.{scores_at}
+use Rattle.qm_scorer.specs.AnyCombiner.{any_cleared, any_step}
 use Rattle.qm_scorer.proofs.+moves.Given as goal
 
 abbrev pub invariant-exclude_node::pass_excluded-loop-doc : goal.invariant-exclude_node::pass_excluded-loop-doc
@@ -72,3 +80,64 @@ invariant-intersection_node::align-loop-candidate g l = record {
 
 abbrev pub decreases-intersection_node::align-loop-candidate : goal.decreases-intersection_node::align-loop-candidate
 decreases-intersection_node::align-loop-candidate g l = 2147483647 - l.candidate
+
+abbrev pub invariant-union_node::take_by_steps-loop-doc : goal.invariant-union_node::take_by_steps-loop-doc
+invariant-union_node::take_by_steps-loop-doc g l = record {
+  here : l.doc ≡ head_document (tree_entries g.S.DocSet l.member);
+  left : tree_entries g.S.DocSet l.member ≡ from (min l.doc l.bound) (tree_entries g.S.DocSet l.fn.member);
+  top : tree_top g.S.DocSet l.member ≡ tree_top g.S.DocSet l.fn.member;
+  valid : IsTree g.S.DocSet l.member;
+  placed : IsTreePlaced g.S.DocSet l.member;
+  low : l.fn.window.start ≤ l.doc;
+  taken : IsTakenTo l.fn.window l.window l.doc (tree_entries g.S.DocSet l.fn.member);
+  depth : size-AnyScorer _ l.member ≤ size-AnyScorer _ l.fn.member;
+}
+
+abbrev pub decreases-union_node::take_by_steps-loop-doc : goal.decreases-union_node::take_by_steps-loop-doc
+decreases-union_node::take_by_steps-loop-doc g l = 2147483647 - l.doc
+
+abbrev pub invariant-union_node::refill-loop-i : goal.invariant-union_node::refill-loop-i
+invariant-union_node::refill-loop-i g l = record {
+  unvisited : goal.unvisited-union_node::refill-loop-i g l;
+  refilling : IsRefilling (tree_entries g.S.DocSet) (tree_limits g.S.DocSet) (IsTree g.S.DocSet) (IsTreePlaced g.S.DocSet) (tree-ascends g.S.DocSet g.met.S.DocSet.ascending) l.fn.node.members.items (window_combiner l.fn.node.window) l.fn.node.doc (l.fn.node.doc + l.span) l.node.members.items l.i l.least l.node.window;
+  doc : l.node.doc ≡ l.fn.node.doc;
+  top : l.node.top ≡ l.fn.node.top;
+  depth : size-UnionNode _ l.node ≤ size-UnionNode _ l.fn.node;
+}
+
+abbrev pub invariant-union_node::reach_each-loop-i : goal.invariant-union_node::reach_each-loop-i
+invariant-union_node::reach_each-loop-i g l = record {
+  unvisited : goal.unvisited-union_node::reach_each-loop-i g l;
+  valid : All (IsTree g.S.DocSet) l.node.members.items;
+  placed : All (IsTreePlaced g.S.DocSet) l.node.members.items;
+  lists : map (from l.target) (union_lists g.S.DocSet l.node) ≡ map (from l.target) (union_lists g.S.DocSet l.fn.node);
+  limits : union_limits g.S.DocSet l.node ≡ union_limits g.S.DocSet l.fn.node;
+  reached : All (λ x. l.target ≤ head_document (tree_entries g.S.DocSet x)) (take l.i l.node.members.items);
+  least : l.least ≡ least_head (take l.i (union_lists g.S.DocSet l.node));
+  window : l.node.window ≡ l.fn.node.window;
+  top : l.node.top ≡ l.fn.node.top;
+  depth : size-UnionNode _ l.node ≤ size-UnionNode _ l.fn.node;
+}
+
+-- ---- scores
+
+abbrev pub invariant-group_node::score_group-loop-i : goal.invariant-group_node::score_group-loop-i
+invariant-group_node::score_group-loop-i g l = record {
+  unvisited : goal.unvisited-group_node::score_group-loop-i g l;
+  valid : All (IsTree g.S.DocSet) l.node.members.items;
+  placed : All (IsTreePlaced g.S.DocSet) l.node.members.items;
+  lists : group_lists g.S.DocSet l.node ≡ group_lists g.S.DocSet l.fn.node;
+  combined : l.combiner ≡ fold any_step (any_cleared l.fn.node.shape.combiner) (scores_at l.fn.node.current (take l.i (group_lists g.S.DocSet l.node)));
+  shape : l.node.shape ≡ l.fn.node.shape;
+  current : l.node.current ≡ l.fn.node.current;
+  depth : size-GroupNode _ l.node ≤ size-GroupNode _ l.fn.node;
+}
+
+abbrev pub invariant-intersection_node::score_intersection-loop-i : goal.invariant-intersection_node::score_intersection-loop-i
+invariant-intersection_node::score_intersection-loop-i g l = record {
+  valid : All (IsTree g.S.DocSet) l.others;
+  placed : All (IsTreePlaced g.S.DocSet) l.others;
+  lists : map (tree_entries g.S.DocSet) l.others ≡ other_lists g.S.DocSet l.fn.node;
+  summed : l.sum ≡ min greatest_score (head_score (tree_entries g.S.DocSet l.fn.node.leader) + sum (take l.i (map head_score (map (tree_entries g.S.DocSet) l.others))));
+  depth : most (size-AnyScorer _) l.others ≤ most (size-AnyScorer _) l.fn.node.others.items;
+}

@@ -1,0 +1,381 @@
+//! A node over several scorers, any of which has each document, with a window that is filled from them.
+
+ghost use Rattle.std.specs.Prelude.{◌≡◌, ◌<◌, ◌≤◌, ◌+◌, ℕ, [], drop, length, map, min, take, true};
+ghost use Rattle.qm_docset.specs.Cursor.{IsSeekAnswer};
+ghost use Rattle.qm_docset.specs.Entry.{documents, from, greatest_score, head_document, head_score};
+ghost use Rattle.qm_docset.specs.Gather.{gather};
+ghost use Rattle.qm_combine.specs.Combiner.{HasRoomFor, IsCleared};
+ghost use Rattle.qm_combine.specs.Union.{least_head, total_top};
+ghost use Rattle.qm_combine.specs.Window.{IsUntil, window_combiner, window_end, window_has, window_start, window_state};
+ghost use Rattle.qm_scorer.specs.AnyCombiner.{any_cleared, any_combined, any_step};
+ghost use Rattle.qm_scorer.specs.Tree.{HasParts, IsTree, IsTreePlaced, tree_entries, tree_top};
+ghost use Rattle.qm_scorer.specs.United.{AreMembersStanding, IsTakenIn, IsUnionNode, union_limits, union_list, union_lists};
+ghost use Rattle.qm_scorer.specs.declared.any_scorer.AnyScorer.{size-AnyScorer};
+ghost use Rattle.qm_scorer.specs.declared.union_node.UnionNode.{size-UnionNode};
+
+use crate::any_combiner::AnyCombiner;
+use crate::any_scorer::{AnyScorer, doc_tree, reach_tree, score_tree, seek_tree};
+use qm_combine::{HORIZON, Scorer, Window};
+use qm_docset::{COLLECT_BLOCK_BUFFER_LEN, DocId, Score, SeekDangerResult, TERMINATED};
+
+/// Out of how many documents the first window is filled, and one after a seek past the members'
+/// documents: it isn't known that more are wanted.
+pub(crate) const FIRST_SPAN: u32 = 64;
+
+/// The documents that any of its members has, each with what a combiner makes of the members' scores
+/// there.
+///
+/// It goes by windows as [`BufferedUnionScorer`](qm_combine::BufferedUnionScorer) does: the documents of
+/// all members are taken into a [`Window`], with their scores, out of 64 documents at first, and out of
+/// four times as many, up to [`HORIZON`], behind a window that had one in sixteen. The members stand
+/// behind the window, ahead of the node's own document. A seek in the window moves no member, one past
+/// the least document that the members stand on sends those below its target there, and begins with 64
+/// documents again. A seek at or below the document does nothing.
+#[cycle(any)]
+#[derive(Drop)]
+pub struct UnionNode<'a, S> {
+    pub(crate) members: Vec<AnyScorer<'a, S>>,
+    pub(crate) window: Window<AnyCombiner>,
+    // the least document that the members stand on, behind the window
+    pub(crate) ahead: DocId,
+    pub(crate) doc: DocId,
+    // out of how many documents the window was filled
+    pub(crate) span: u32,
+    pub(crate) top: u64,
+}
+
+// Adds, for each document below `bound` that a tree has left, its score there, and leaves the tree at
+// or past `bound`. Answers the document that it then stands on.
+// A term comes first, in a body that is inlined, as in a seek.
+#[cycle(moves)]
+#[inline(always)]
+#[tactic(auto, using(crate::specs::MoveFacts::moves))]
+fn take_tree<'a, S: Scorer>(
+    window: &mut Window<AnyCombiner>,
+    member: &mut AnyScorer<'a, S>,
+    bound: DocId,
+) -> DocId
+    requires valid { IsTree S.DocSet member.old }
+    requires placed { IsTreePlaced S.DocSet member.old }
+    requires bound { bound ≤ window_end window.old }
+    requires first { window_start window.old ≤ head_document (tree_entries S.DocSet member.old) }
+    requires room { (d : ℕ) → HasRoomFor any_step any_cleared (tree_top S.DocSet member.old) (window_state window.old d) }
+    ensures head { result ≡ head_document (tree_entries S.DocSet member.new) }
+    ensures entries { tree_entries S.DocSet member.new ≡ from bound (tree_entries S.DocSet member.old) }
+    ensures top { tree_top S.DocSet member.new ≡ tree_top S.DocSet member.old }
+    ensures valid { IsTree S.DocSet member.new }
+    ensures placed { IsTreePlaced S.DocSet member.new }
+    ensures depth { size-AnyScorer _ member.new ≤ size-AnyScorer _ member.old }
+    ensures taken { IsTakenIn window.old window.new bound (tree_entries S.DocSet member.old) }
+{
+    match member {
+        AnyScorer::Term(leaf) => window.take_in(leaf, bound),
+        _ => take_other(window, member, bound),
+    }
+}
+
+// The same, whatever the tree is.
+#[cycle(moves)]
+#[inline(never)]
+#[tactic(auto, using(crate::specs::MoveFacts::moves))]
+fn take_other<'a, S: Scorer>(
+    window: &mut Window<AnyCombiner>,
+    member: &mut AnyScorer<'a, S>,
+    bound: DocId,
+) -> DocId
+    requires valid { IsTree S.DocSet member.old }
+    requires placed { IsTreePlaced S.DocSet member.old }
+    requires bound { bound ≤ window_end window.old }
+    requires first { window_start window.old ≤ head_document (tree_entries S.DocSet member.old) }
+    requires room { (d : ℕ) → HasRoomFor any_step any_cleared (tree_top S.DocSet member.old) (window_state window.old d) }
+    ensures head { result ≡ head_document (tree_entries S.DocSet member.new) }
+    ensures entries { tree_entries S.DocSet member.new ≡ from bound (tree_entries S.DocSet member.old) }
+    ensures top { tree_top S.DocSet member.new ≡ tree_top S.DocSet member.old }
+    ensures valid { IsTree S.DocSet member.new }
+    ensures placed { IsTreePlaced S.DocSet member.new }
+    ensures depth { size-AnyScorer _ member.new ≤ size-AnyScorer _ member.old }
+    ensures taken { IsTakenIn window.old window.new bound (tree_entries S.DocSet member.old) }
+{
+    match member {
+        AnyScorer::All(leaf) => window.take_in(leaf, bound),
+        AnyScorer::Own(leaf) => window.take_in(leaf, bound),
+        AnyScorer::BitSet(leaf) => window.take_in(leaf, bound),
+        AnyScorer::Phrase(leaf) => window.take_in(leaf, bound),
+        AnyScorer::PhrasePrefix(leaf) => window.take_in(leaf, bound),
+        _ => take_by_steps(window, member, bound),
+    }
+}
+
+// The same by seeks, whatever the tree is.
+#[cycle(moves)]
+#[tactic(auto, using(crate::specs::MoveFacts::moves))]
+fn take_by_steps<'a, S: Scorer>(
+    window: &mut Window<AnyCombiner>,
+    member: &mut AnyScorer<'a, S>,
+    bound: DocId,
+) -> DocId
+    requires valid { IsTree S.DocSet member.old }
+    requires placed { IsTreePlaced S.DocSet member.old }
+    requires bound { bound ≤ window_end window.old }
+    requires first { window_start window.old ≤ head_document (tree_entries S.DocSet member.old) }
+    requires room { (d : ℕ) → HasRoomFor any_step any_cleared (tree_top S.DocSet member.old) (window_state window.old d) }
+    ensures head { result ≡ head_document (tree_entries S.DocSet member.new) }
+    ensures entries { tree_entries S.DocSet member.new ≡ from bound (tree_entries S.DocSet member.old) }
+    ensures top { tree_top S.DocSet member.new ≡ tree_top S.DocSet member.old }
+    ensures valid { IsTree S.DocSet member.new }
+    ensures placed { IsTreePlaced S.DocSet member.new }
+    ensures depth { size-AnyScorer _ member.new ≤ size-AnyScorer _ member.old }
+    ensures taken { IsTakenIn window.old window.new bound (tree_entries S.DocSet member.old) }
+{
+    let mut doc = doc_tree(member);
+    // what the tree had below the document is added
+    while doc < bound && doc < TERMINATED {
+        let score = score_tree(member);
+        window.add(doc, score as Score);
+        doc = seek_tree(member, doc + 1);
+    }
+    doc
+}
+
+// Lets the window begin at the node's document, and takes into it all that the members have in its
+// first `span` documents. Answers the least document that they then stand on.
+#[cycle(moves)]
+#[tactic(auto, using(crate::specs::MoveFacts::moves))]
+fn refill<'a, S: Scorer>(node: &mut UnionNode<'a, S>, span: u32) -> DocId
+    requires members { AreMembersStanding S.DocSet node.old }
+    requires room { total_top (union_limits S.DocSet node.old) ≤ greatest_score }
+    requires until { IsUntil node.old.window }
+    requires cleared { IsCleared any_cleared (window_combiner node.old.window) }
+    requires first { node.old.doc ≡ least_head (union_lists S.DocSet node.old) }
+    requires some { node.old.doc < TERMINATED }
+    requires span { (1 ≤ span) × (span ≤ 4096) }
+    ensures entries { union_list S.DocSet node.new ≡ gather 1 (any_combined (window_combiner node.old.window)) (union_lists S.DocSet node.old) }
+    ensures least { result ≡ least_head (union_lists S.DocSet node.new) }
+    ensures behind { (d : ℕ) → window_has node.new.window d ≡ true → d < result }
+    ensures here { window_has node.new.window node.old.doc ≡ true }
+    ensures until { IsUntil node.new.window }
+    ensures combiner { window_combiner node.new.window ≡ window_combiner node.old.window }
+    ensures limits { union_limits S.DocSet node.new ≡ union_limits S.DocSet node.old }
+    ensures members { AreMembersStanding S.DocSet node.new }
+    ensures doc { node.new.doc ≡ node.old.doc }
+    ensures top { node.new.top ≡ node.old.top }
+    ensures depth { size-UnionNode _ node.new ≤ size-UnionNode _ node.old }
+{
+    let first = node.doc;
+    node.window.reset_until_last(first);
+    let mut least = TERMINATED;
+    // the window has what the members before have below its bound, and they stand at or past it
+    for i in 0..node.members.len() {
+        least = take_tree(&mut node.window, &mut node.members[i], first + span).min(least);
+    }
+    least
+}
+
+// Goes to the least document of the members, and fills the window from there on, out of so many
+// documents.
+#[cycle(moves)]
+#[tactic(auto, using(crate::specs::MoveFacts::moves))]
+pub(crate) fn go_on<'a, S: Scorer>(node: &mut UnionNode<'a, S>, span: u32) -> DocId
+    requires members { AreMembersStanding S.DocSet node.old }
+    requires parts { HasParts node.old.window node.old.top (union_limits S.DocSet node.old) }
+    requires span { (1 ≤ span) × (span ≤ 4096) }
+    requires ahead { node.old.ahead ≡ least_head (union_lists S.DocSet node.old) }
+    requires behind { (d : ℕ) → window_has node.old.window d ≡ true → d < node.old.ahead }
+    ensures head { result ≡ head_document (union_list S.DocSet node.new) }
+    ensures entries { union_list S.DocSet node.new ≡ gather 1 (any_combined (window_combiner node.old.window)) (union_lists S.DocSet node.old) }
+    ensures limits { union_limits S.DocSet node.new ≡ union_limits S.DocSet node.old }
+    ensures valid { IsUnionNode S.DocSet node.new }
+    ensures top { node.new.top ≡ node.old.top }
+    ensures depth { size-UnionNode _ node.new ≤ size-UnionNode _ node.old }
+{
+    node.doc = node.ahead;
+    if node.doc == TERMINATED {
+        return TERMINATED;
+    }
+    node.span = span;
+    node.ahead = refill(node, span);
+    node.doc
+}
+
+// Out of how many documents the next window is to be filled: where there are few, more would only
+// move the members further than may be wanted.
+fn next_span<'a, S: Scorer>(node: &UnionNode<'a, S>) -> u32
+    requires until { IsUntil node.now.window }
+    ensures { (1 ≤ result) × (result ≤ 4096) }
+{
+    let span = node.span.max(FIRST_SPAN).min(HORIZON);
+    if span < HORIZON && node.window.len() >= span / 16 {
+        (span * 4).min(HORIZON)
+    } else {
+        span
+    }
+}
+
+// Moves those members that stand below the target to their first document at or past it, and answers
+// the least document that one of them then stands on.
+#[cycle(moves)]
+#[tactic(auto, using(crate::specs::MoveFacts::moves))]
+fn reach_each<'a, S: Scorer>(node: &mut UnionNode<'a, S>, target: DocId) -> DocId
+    requires members { AreMembersStanding S.DocSet node.old }
+    requires target { target ≤ TERMINATED }
+    ensures least { result ≡ least_head (union_lists S.DocSet node.new) }
+    ensures lists { union_lists S.DocSet node.new ≡ map (from target) (union_lists S.DocSet node.old) }
+    ensures limits { union_limits S.DocSet node.new ≡ union_limits S.DocSet node.old }
+    ensures members { AreMembersStanding S.DocSet node.new }
+    ensures window { node.new.window ≡ node.old.window }
+    ensures top { node.new.top ≡ node.old.top }
+    ensures depth { size-UnionNode _ node.new ≤ size-UnionNode _ node.old }
+{
+    let mut least = TERMINATED;
+    // the members before stand at or past the target
+    for i in 0..node.members.len() {
+        least = reach_tree(&mut node.members[i], target).min(least);
+    }
+    least
+}
+
+// Moves the node to its first document at or past the target.
+#[cycle(moves)]
+#[tactic(auto, using(crate::specs::MoveFacts::moves))]
+pub(crate) fn seek_union<'a, S: Scorer>(node: &mut UnionNode<'a, S>, target: DocId) -> DocId
+    requires valid { IsUnionNode S.DocSet node.old }
+    requires target { target ≤ TERMINATED }
+    ensures head { result ≡ head_document (union_list S.DocSet node.new) }
+    ensures entries { union_list S.DocSet node.new ≡ from target (union_list S.DocSet node.old) }
+    ensures valid { IsUnionNode S.DocSet node.new }
+    ensures top { node.new.top ≡ node.old.top }
+    ensures depth { size-UnionNode _ node.new ≤ size-UnionNode _ node.old }
+{
+    if target <= node.doc {
+        return node.doc;
+    }
+    if let Some(doc) = node.window.next_until_last(target) {
+        node.doc = doc;
+        return doc;
+    }
+    if target <= node.ahead {
+        return go_on(node, next_span(node));
+    }
+    node.ahead = reach_each(node, target);
+    go_on(node, FIRST_SPAN)
+}
+
+// Drops what lies below the target, and says whether the target is the first that is left. The node
+// is placed in either case.
+#[cycle(moves)]
+#[tactic(auto, using(crate::specs::MoveFacts::moves))]
+pub(crate) fn danger_union<'a, S: Scorer>(
+    node: &mut UnionNode<'a, S>,
+    target: DocId,
+) -> SeekDangerResult
+    requires valid { IsUnionNode S.DocSet node.old }
+    requires target { target ≤ TERMINATED }
+    ensures answer { IsSeekAnswer target (union_list S.DocSet node.new) result }
+    ensures entries { union_list S.DocSet node.new ≡ from target (union_list S.DocSet node.old) }
+    ensures valid { IsUnionNode S.DocSet node.new }
+    ensures top { node.new.top ≡ node.old.top }
+    ensures depth { size-UnionNode _ node.new ≤ size-UnionNode _ node.old }
+{
+    let doc = seek_union(node, target);
+    if doc == target && target < TERMINATED {
+        SeekDangerResult::Found
+    } else {
+        SeekDangerResult::SeekLowerBound(doc)
+    }
+}
+
+// The score of the node's document.
+pub(crate) fn score_union<'a, S: Scorer>(node: &mut UnionNode<'a, S>) -> u64
+    requires valid { IsUnionNode S.DocSet node.old }
+    requires here { node.old.doc < TERMINATED }
+    ensures score { result ≡ head_score (union_list S.DocSet node.old) }
+    ensures fits { result ≤ greatest_score }
+    ensures same { node.new ≡ node.old }
+{
+    node.window.score(node.doc) as u64
+}
+
+// Goes to the first document at or past a target, which lies past the node's document and is not past
+// the members' first.
+fn go_to<'a, S: Scorer>(node: &mut UnionNode<'a, S>, target: DocId) -> DocId
+    requires valid { IsUnionNode S.DocSet node.old }
+    requires target { (node.old.doc < target) × (min target TERMINATED ≤ node.old.ahead) }
+    ensures head { result ≡ head_document (union_list S.DocSet node.new) }
+    ensures entries { union_list S.DocSet node.new ≡ from target (union_list S.DocSet node.old) }
+    ensures valid { IsUnionNode S.DocSet node.new }
+    ensures top { node.new.top ≡ node.old.top }
+{
+    if let Some(doc) = node.window.next_until_last(target) {
+        node.doc = doc;
+        return doc;
+    }
+    go_on(node, next_span(node))
+}
+
+// Goes to the node's next document.
+pub(crate) fn advance_union<'a, S: Scorer>(node: &mut UnionNode<'a, S>) -> DocId
+    requires valid { IsUnionNode S.DocSet node.old }
+    ensures head { result ≡ head_document (union_list S.DocSet node.new) }
+    ensures entries { union_list S.DocSet node.new ≡ drop 1 (union_list S.DocSet node.old) }
+    ensures valid { IsUnionNode S.DocSet node.new }
+    ensures top { node.new.top ≡ node.old.top }
+{
+    let next = node.doc + 1;
+    go_to(node, next)
+}
+
+// Takes documents of the window, from the node's own on, as many as there is room for, and goes past
+// them.
+fn take_window<'a, S: Scorer>(node: &mut UnionNode<'a, S>, places: &mut [DocId]) -> usize
+    requires valid { IsUnionNode S.DocSet node.old }
+    requires here { node.old.doc < TERMINATED }
+    requires places { 1 ≤ length places.old }
+    ensures some { (1 ≤ result) × (result ≤ length places.old) }
+    ensures within { result ≤ length (union_list S.DocSet node.old) }
+    ensures documents { take result places.new ≡ documents (take result (union_list S.DocSet node.old)) }
+    ensures entries { union_list S.DocSet node.new ≡ drop result (union_list S.DocSet node.old) }
+    ensures valid { IsUnionNode S.DocSet node.new }
+    ensures top { node.new.top ≡ node.old.top }
+{
+    let count = node.window.fill(node.doc, places);
+    go_to(node, places[count - 1] + 1);
+    count
+}
+
+// Takes the next documents, as many as the buffer has room for.
+pub(crate) fn fill_union<'a, S: Scorer>(
+    node: &mut UnionNode<'a, S>,
+    buffer: &mut [DocId; COLLECT_BLOCK_BUFFER_LEN],
+) -> usize
+    requires valid { IsUnionNode S.DocSet node.old }
+    ensures count { result ≡ min COLLECT_BLOCK_BUFFER_LEN (length (union_list S.DocSet node.old)) }
+    ensures documents { take result buffer.new ≡ documents (take COLLECT_BLOCK_BUFFER_LEN (union_list S.DocSet node.old)) }
+    ensures entries { union_list S.DocSet node.new ≡ drop COLLECT_BLOCK_BUFFER_LEN (union_list S.DocSet node.old) }
+    ensures valid { IsUnionNode S.DocSet node.new }
+    ensures top { node.new.top ≡ node.old.top }
+{
+    let mut taken = 0;
+    // so many documents were taken, and the node stands behind them
+    while taken < COLLECT_BLOCK_BUFFER_LEN && node.doc < TERMINATED {
+        taken += take_window(node, &mut buffer[taken..]);
+    }
+    taken
+}
+
+// The number of documents; leaves none.
+pub(crate) fn total_union<'a, S: Scorer>(node: &mut UnionNode<'a, S>) -> u32
+    requires valid { IsUnionNode S.DocSet node.old }
+    ensures count { result ≡ length (union_list S.DocSet node.old) }
+    ensures entries { union_list S.DocSet node.new ≡ [] }
+    ensures valid { IsUnionNode S.DocSet node.new }
+    ensures top { node.new.top ≡ node.old.top }
+{
+    let mut count = 0;
+    // with those that are left, all of them are counted
+    while node.doc < TERMINATED {
+        node.window.drop_below(node.doc);
+        count += node.window.len();
+        go_on(node, next_span(node));
+    }
+    count
+}
