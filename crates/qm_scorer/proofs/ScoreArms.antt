@@ -1,5 +1,5 @@
 -- What a tree is after its leaf or its node was asked for a score, by what that call ensures.
-use Rattle.std.proofs.Common.{arith, refl, ◌≡◌, ℕ, ◌*◌, ◌<◌, ◌≤◌, ℤ, pos, List, [], ◌∷◌, sum, sym, ap, subst, ◌∙◌}
+use Rattle.std.proofs.Common.{arith, refl, ◌≡◌, ℕ, ◌*◌, ◌<◌, ◌≤◌, ℤ, pos, List, sym, ap, subst, ◌∙◌}
 use Rattle.std.specs.declared.boxed.Box.{Box}
 use lib.Signed.{mag}
 use Rattle.qm_docset.specs.Entry.{Entry, greatest_score, head_document, head_score}
@@ -163,7 +163,8 @@ module _ {S : Type 0} (D : Ghosts S) where
 
   -- ---- nodes over rows of trees
 
-  pub scored-Union : {lent : UnionNode S} {n : ℕ} (node : Box (UnionNode S) _) (after : UnionNode S) → lent ≡ node.value → IsTree D (Union node) → n ≡ head_score (union_list D lent) → n ≤ greatest_score → after ≡ lent → Scored (Union node) (Union (record node { value = after })) n
+  pub scored-Union : {lent : UnionNode S} {n : ℕ} (node : Box (UnionNode S) _) (after : UnionNode S) → lent ≡ node.value → IsTree D (Union node)
+      → n ≡ head_score (union_list D lent) → n ≤ greatest_score → after ≡ lent → Scored (Union node) (Union (record node { value = after })) n
   scored-Union {lent} {n} node after same valid score fits kept =
       let is : after ≡ node.value = kept ∙ same in
       let made : Scored (Union node) (Union node) n = record {

@@ -30,7 +30,7 @@ fn estimate_leaf<D: DocSet>(leaf: &D, estimate: Estimate) -> u64
     }
 }
 
-// What two members of a group come to: the larger is all that remain where each has the same
+// What two members of a group or a union come to: the larger is all that remain where each has the same
 // documents, and each is gone through.
 fn join_estimates(one: u64, other: u64, estimate: Estimate) -> u64 {
     match estimate {
@@ -95,6 +95,7 @@ fn estimate_union<'a, S: Scorer>(node: &UnionNode<'a, S>, estimate: Estimate) ->
     requires until { IsUntil node.now.window }
 {
     let mut sum = 0;
+    // what the members before come to
     for member in &node.members {
         sum = join_estimates(sum, estimate_tree(member, estimate), estimate);
     }

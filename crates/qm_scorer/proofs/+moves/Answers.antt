@@ -1,5 +1,5 @@
 -- A tree goes on by seeks of what stands below it.
-use Rattle.std.proofs.Common.{rules, drop, true≢false, ◌≡◌, ◌+◌, ◌*◌, ◌<◌, ◌≤◌, [], ◌∷◌, ◌++◌, All, get_or, length, map, set, take, true, arith, refl, sym, ap, subst, ◌∙◌, inl, inr, false, ℕ, ◌-◌, List, max, min, nat_abs, to_z, w64, pos, slice_get, Some, None, fold}
+use Rattle.std.proofs.Common.{rules, drop, true≢false, ◌≡◌, ◌+◌, ◌*◌, ◌<◌, ◌≤◌, [], ◌∷◌, ◌++◌, All, get_or, length, map, set, take, true, arith, refl, sym, ap, subst, ◌∙◌, inl, inr, ℕ, List, max, min, nat_abs, to_z, w64, fold}
 use denote.Param.Weighed.{at_most, most}
 use Rattle.std.proofs.lemmas.Bool.{cases_lt}
 use Rattle.std.proofs.lemmas.Grind.{take-set_at}
@@ -47,16 +47,16 @@ use Rattle.qm_scorer.proofs.IntersectionArms.{left-document, lent-trees, lent-he
 use Rattle.std.proofs.lemmas.Int.{to_z_pos}
 use Rattle.qm_docset.specs.GatherFacts.{AreMembers-map, scores_at-nil}
 use Rattle.qm_combine.specs.Combiner.{IsCleared}
-use Rattle.qm_combine.specs.Window.{window_combiner, window_end, window_has, window_state}
+use Rattle.qm_combine.specs.Window.{window_combiner, window_end, window_has}
 use Rattle.qm_combine.proofs.Standing.{answers_first, answers_none, goes_next, goes_on, goes_past}
 use Rattle.qm_combine.proofs.TakenIn.{from-all_passed, next-past, step_min}
 use Rattle.qm_combine.proofs.Windows.{windowed-ended}
 use Rattle.qm_scorer.specs.AnyCombiner.{any_cleared, any_combined, AnyHasRoom, any_step}
 use Rattle.qm_scorer.specs.Bare.{scores_to}
-use Rattle.qm_scorer.specs.United.{AreMembersStanding, IsUnionNode, union_limits, union_list, union_lists}
+use Rattle.qm_scorer.specs.United.{IsUnionNode, union_limits, union_list, union_lists}
 use Rattle.qm_scorer.specs.declared.union_node.UnionNode.{UnionNode, size-UnionNode, size_is-UnionNode}
-use Rattle.qm_scorer.proofs.Refilling.{IsRefilling, IsReset, refilled-behind, refilled-entries, refilled-here, refilled-least, refilling-first, refilling-long, refilling-more, refilling-none, refilling-room}
-use Rattle.qm_scorer.proofs.Taking.{IsAdded, head_score-within, taken-room, taken_in-bare, taken_to-all, taken_to-more, taken_to-none}
+use Rattle.qm_scorer.proofs.Refilling.{IsRefilling, refilled-behind, refilled-entries, refilled-here, refilling-first, refilling-more, refilling-none, refilling-room}
+use Rattle.qm_scorer.proofs.Taking.{head_score-within, taken-room, taken_to-all, taken_to-more, taken_to-none}
 use Rattle.qm_scorer.proofs.Uniting.{cut_twice, least_head-cut_from, parts-same, united-made}
 use Rattle.qm_scorer.proofs.+moves.Goals.{group_node::danger_group-else-doc-target-via-else-doc-target, group_node::danger_group-else-doc-target-via-then-doc-target+else-target-lt-TERMINATED, group_node::seek_group-else-node-target, group_node::seek_group-then-node-target, union_node::danger_union-else-doc-target-via-else-doc-target, union_node::danger_union-else-doc-target-via-then-doc-target+else-target-lt-TERMINATED, group_node::score_group-else-doc_tree-doc, group_node::score_group-then-doc_tree-doc}
 use Rattle.std.specs.List.{sum}
@@ -417,7 +417,8 @@ group_node::danger_group-returns-else-doc-target g t c =
 pub union_node::take_tree-returns-in-Term : goal.union_node::take_tree-returns-in-Term
 union_node::take_tree-returns-in-Term g t c =
     let e = c.take_in.ensures in
-    swept-leaf g.S.DocSet Term (λ s. scored_left s.value) (λ _. refl) (same-Term g.row.S.Denot) c.args.window.now c.take_in.new.self c.args.bound c.take_in.result c.in-Term.leaf c.take_in.new.scorer c.in-Term.leaf-is c.in-Term.is e.head e.left.entries (ap (λ (l : Limits). l.top) e.left.limits) e.left.valid e.left.placed (record { documents = e.documents; beyond = e.beyond; states = e.states; start = e.start; until = e.until; combiner = e.combiner }) (search rules)
+    swept-leaf g.S.DocSet Term (λ s. scored_left s.value) (λ _. refl)
+    (same-Term g.row.S.Denot) c.args.window.now c.take_in.new.self c.args.bound c.take_in.result c.in-Term.leaf c.take_in.new.scorer c.in-Term.leaf-is c.in-Term.is e.head e.left.entries (ap (λ (l : Limits). l.top) e.left.limits) e.left.valid e.left.placed (record { documents = e.documents; beyond = e.beyond; states = e.states; start = e.start; until = e.until; combiner = e.combiner }) (search rules)
 
 pub union_node::take_other-returns-in-All : goal.union_node::take_other-returns-in-All
 union_node::take_other-returns-in-All g t c =
@@ -427,22 +428,26 @@ union_node::take_other-returns-in-All g t c =
 pub union_node::take_other-returns-in-Own : goal.union_node::take_other-returns-in-Own
 union_node::take_other-returns-in-Own g t c =
     let e = c.take_in-in-Own.ensures in
-    swept-leaf g.S.DocSet Own g.S.DocSet.entries (λ _. refl) (same-Own g.row.S.Denot) c.args.window.now c.take_in-in-Own.new.self c.args.bound c.take_in-in-Own.result c.in-Own.leaf c.take_in-in-Own.new.scorer c.in-Own.leaf-is c.in-Own.is e.head e.left.entries (ap (λ (l : Limits). l.top) e.left.limits) e.left.valid e.left.placed (record { documents = e.documents; beyond = e.beyond; states = e.states; start = e.start; until = e.until; combiner = e.combiner }) (search rules)
+    swept-leaf g.S.DocSet Own g.S.DocSet.entries (λ _. refl)
+    (same-Own g.row.S.Denot) c.args.window.now c.take_in-in-Own.new.self c.args.bound c.take_in-in-Own.result c.in-Own.leaf c.take_in-in-Own.new.scorer c.in-Own.leaf-is c.in-Own.is e.head e.left.entries (ap (λ (l : Limits). l.top) e.left.limits) e.left.valid e.left.placed (record { documents = e.documents; beyond = e.beyond; states = e.states; start = e.start; until = e.until; combiner = e.combiner }) (search rules)
 
 pub union_node::take_other-returns-in-BitSet : goal.union_node::take_other-returns-in-BitSet
 union_node::take_other-returns-in-BitSet g t c =
     let e = c.take_in-in-BitSet.ensures in
-    swept-leaf g.S.DocSet BitSet (λ s. constant_left set_cursors s.value) (λ _. refl) (same-BitSet g.row.S.Denot) c.args.window.now c.take_in-in-BitSet.new.self c.args.bound c.take_in-in-BitSet.result c.in-BitSet.leaf c.take_in-in-BitSet.new.scorer c.in-BitSet.leaf-is c.in-BitSet.is e.head e.left.entries (ap (λ (l : Limits). l.top) e.left.limits) e.left.valid e.left.placed (record { documents = e.documents; beyond = e.beyond; states = e.states; start = e.start; until = e.until; combiner = e.combiner }) (search rules)
+    swept-leaf g.S.DocSet BitSet (λ s. constant_left set_cursors s.value) (λ _. refl)
+    (same-BitSet g.row.S.Denot) c.args.window.now c.take_in-in-BitSet.new.self c.args.bound c.take_in-in-BitSet.result c.in-BitSet.leaf c.take_in-in-BitSet.new.scorer c.in-BitSet.leaf-is c.in-BitSet.is e.head e.left.entries (ap (λ (l : Limits). l.top) e.left.limits) e.left.valid e.left.placed (record { documents = e.documents; beyond = e.beyond; states = e.states; start = e.start; until = e.until; combiner = e.combiner }) (search rules)
 
 pub union_node::take_other-returns-in-Phrase : goal.union_node::take_other-returns-in-Phrase
 union_node::take_other-returns-in-Phrase g t c =
     let e = c.take_in-in-Phrase.ensures in
-    swept-leaf g.S.DocSet Phrase (λ s. phrase_left postings_cursors s.value) (λ _. refl) (same-Phrase g.row.S.Denot) c.args.window.now c.take_in-in-Phrase.new.self c.args.bound c.take_in-in-Phrase.result c.in-Phrase.leaf c.take_in-in-Phrase.new.scorer c.in-Phrase.leaf-is c.in-Phrase.is e.head e.left.entries (ap (λ (l : Limits). l.top) e.left.limits) e.left.valid e.left.placed (record { documents = e.documents; beyond = e.beyond; states = e.states; start = e.start; until = e.until; combiner = e.combiner }) (search rules)
+    swept-leaf g.S.DocSet Phrase (λ s. phrase_left postings_cursors s.value) (λ _. refl)
+    (same-Phrase g.row.S.Denot) c.args.window.now c.take_in-in-Phrase.new.self c.args.bound c.take_in-in-Phrase.result c.in-Phrase.leaf c.take_in-in-Phrase.new.scorer c.in-Phrase.leaf-is c.in-Phrase.is e.head e.left.entries (ap (λ (l : Limits). l.top) e.left.limits) e.left.valid e.left.placed (record { documents = e.documents; beyond = e.beyond; states = e.states; start = e.start; until = e.until; combiner = e.combiner }) (search rules)
 
 pub union_node::take_other-returns-in-PhrasePrefix : goal.union_node::take_other-returns-in-PhrasePrefix
 union_node::take_other-returns-in-PhrasePrefix g t c =
     let e = c.take_in-in-PhrasePrefix.ensures in
-    swept-leaf g.S.DocSet PhrasePrefix (λ s. phrase_prefix_left postings_cursors s.value) (λ _. refl) (same-PhrasePrefix g.row.S.Denot) c.args.window.now c.take_in-in-PhrasePrefix.new.self c.args.bound c.take_in-in-PhrasePrefix.result c.in-PhrasePrefix.leaf c.take_in-in-PhrasePrefix.new.scorer c.in-PhrasePrefix.leaf-is c.in-PhrasePrefix.is e.head e.left.entries (ap (λ (l : Limits). l.top) e.left.limits) e.left.valid e.left.placed (record { documents = e.documents; beyond = e.beyond; states = e.states; start = e.start; until = e.until; combiner = e.combiner }) (search rules)
+    swept-leaf g.S.DocSet PhrasePrefix (λ s. phrase_prefix_left postings_cursors s.value) (λ _. refl)
+    (same-PhrasePrefix g.row.S.Denot) c.args.window.now c.take_in-in-PhrasePrefix.new.self c.args.bound c.take_in-in-PhrasePrefix.result c.in-PhrasePrefix.leaf c.take_in-in-PhrasePrefix.new.scorer c.in-PhrasePrefix.leaf-is c.in-PhrasePrefix.is e.head e.left.entries (ap (λ (l : Limits). l.top) e.left.limits) e.left.valid e.left.placed (record { documents = e.documents; beyond = e.beyond; states = e.states; start = e.start; until = e.until; combiner = e.combiner }) (search rules)
 
 pub union_node::take_by_steps-loop-doc-init : goal.union_node::take_by_steps-loop-doc-init
 union_node::take_by_steps-loop-doc-init g t c =
@@ -450,7 +455,8 @@ union_node::take_by_steps-loop-doc-init g t c =
     let m = c.args.member.now in
     let es = tree_entries D m in
     let ascends = tree-ascends D g.met.S.DocSet.ascending m c.requires.valid in
-    let here : c.doc_tree-doc.result ≡ head_document es = c.doc_tree-doc.ensures ∙ tree-head D g.met.S.DocSet.ascending m c.requires.valid c.requires.placed in
+    let here : c.doc_tree-doc.result ≡ head_document es = c.doc_tree-doc.ensures
+    ∙ tree-head D g.met.S.DocSet.ascending m c.requires.valid c.requires.placed in
     record {
       here = here;
       left = sym (from-reached (min c.doc_tree-doc.result c.args.bound) 0 _ es (omega (arith, here)) ascends);
@@ -470,11 +476,19 @@ union_node::take_by_steps-add-requires-clause-room g t c =
     let n : ℕ = nat_abs (to_z w64 c.score_tree-score.result) in
     let is : n ≡ c.score_tree-score.result = ap nat_abs (to_z_pos w64 c.score_tree-score.result (omega (arith, c.score_tree-score.ensures.fits))) in
     let within = head_score-within 0 _ _ (tree-ascends D g.met.S.DocSet.ascending c.loop-doc.member inv.valid) in
-    taken-room c.args.window.now c.loop-doc.window c.loop-doc.doc n (tree_top D m) (tree_entries D m) inv.taken (c.requires.room c.loop-doc.doc) (omega (arith, is, c.score_tree-score.ensures.score, within, inv.top))
+    taken-room c.args.window.now c.loop-doc.window c.loop-doc.doc n (tree_top D m) (tree_entries D m) inv.taken (c.requires.room c.loop-doc.doc)
+    (omega (arith, is, c.score_tree-score.ensures.score, within, inv.top))
 
 pub union_node::take_by_steps-loop-doc-smaller : goal.union_node::take_by_steps-loop-doc-smaller
 union_node::take_by_steps-loop-doc-smaller g t c =
-    omega (arith, c.loop-doc-test.true, c.seek_tree-doc.ensures.head, ap head_document c.seek_tree-doc.ensures.entries, head_document-from (c.loop-doc.doc + 1) (tree_entries g.S.DocSet c.score_tree-score.new.scorer) (omega arith))
+    omega (
+      arith,
+      c.loop-doc-test.true,
+      c.seek_tree-doc.ensures.head,
+      ap head_document c.seek_tree-doc.ensures.entries,
+      head_document-from
+          (c.loop-doc.doc + 1) (tree_entries g.S.DocSet c.score_tree-score.new.scorer) (omega arith),
+    )
 
 pub union_node::take_by_steps-loop-doc-preserved : goal.union_node::take_by_steps-loop-doc-preserved
 union_node::take_by_steps-loop-doc-preserved g t c =
@@ -491,7 +505,8 @@ union_node::take_by_steps-loop-doc-preserved g t c =
     let left : tree_entries D c.loop-doc.member ≡ from doc es = inv.left ∙ ap (λ n. from n es) (omega (arith, c.loop-doc-test.true)) in
     let here : doc ≡ head_document (from doc es) = inv.here ∙ ap head_document left in
     let rest : tree_entries D c.seek_tree-doc.new.scorer ≡ drop 1 (from doc es) =
-    sought.entries ∙ ap (from (doc + 1)) (asked.entries ∙ left) ∙ ap (λ n. from (n + 1) (from doc es)) here ∙ from-next 0 _ (from doc es) (AreEntries-from_low doc 0 _ es ascends) in
+    sought.entries ∙ ap (from (doc + 1)) (asked.entries ∙ left) ∙ ap (λ n. from (n + 1) (from doc es)) here
+    ∙ from-next 0 _ (from doc es) (AreEntries-from_low doc 0 _ es ascends) in
     let goes : next ≡ head_document (drop 1 (from doc es)) = sought.head ∙ ap head_document rest in
     let past = next-past _ es ascends doc next here below goes in
     let e = c.add.ensures in
@@ -503,7 +518,16 @@ union_node::take_by_steps-loop-doc-preserved g t c =
       valid = sought.valid;
       placed = sought.placed;
       low = omega (arith, inv.low, past);
-      taken = taken_to-more _ es ascends c.args.window.now c.loop-doc.window c.add.new.self doc next _ inv.taken (record { documents = e.documents; state = e.state; others = e.others; start = e.start; until = e.until; combiner = e.combiner }) score here below goes;
+      taken = taken_to-more _ es ascends c.args.window.now c.loop-doc.window c.add.new.self doc next _ inv.taken
+          (record {
+            documents = e.documents;
+            state = e.state;
+            others = e.others;
+            start = e.start;
+            until = e.until;
+            combiner =
+                e.combiner;
+          }) score here below goes;
       depth = omega (arith, sought.depth, asked.depth, inv.depth);
     }
 
@@ -519,14 +543,16 @@ union_node::take_by_steps-returns-else-doc-lt-TERMINATED-clause-taken g t c =
     let D = g.S.DocSet in
     let m = c.args.member.now in
     let ascends = tree-ascends D g.met.S.DocSet.ascending m c.requires.valid in
-    taken_to-all _ (tree_entries D m) ascends c.args.window.now _ c.loop-doc.doc c.args.bound (omega (arith, c.if-doc-lt-TERMINATED.false)) (c.loop-doc.invariant.here ∙ ap head_document c.loop-doc.invariant.left) c.loop-doc.invariant.taken
+    taken_to-all _ (tree_entries D m) ascends c.args.window.now _ c.loop-doc.doc c.args.bound (omega (arith, c.if-doc-lt-TERMINATED.false))
+    (c.loop-doc.invariant.here ∙ ap head_document c.loop-doc.invariant.left) c.loop-doc.invariant.taken
 
 pub union_node::take_by_steps-returns-after-loop-doc-clause-taken : goal.union_node::take_by_steps-returns-after-loop-doc-clause-taken
 union_node::take_by_steps-returns-after-loop-doc-clause-taken g t c =
     let D = g.S.DocSet in
     let m = c.args.member.now in
     let ascends = tree-ascends D g.met.S.DocSet.ascending m c.requires.valid in
-    taken_to-all _ (tree_entries D m) ascends c.args.window.now _ c.loop-doc.doc c.args.bound (omega (arith, c.loop-doc-test.false)) (c.loop-doc.invariant.here ∙ ap head_document c.loop-doc.invariant.left) c.loop-doc.invariant.taken
+    taken_to-all _ (tree_entries D m) ascends c.args.window.now _ c.loop-doc.doc c.args.bound (omega (arith, c.loop-doc-test.false))
+    (c.loop-doc.invariant.here ∙ ap head_document c.loop-doc.invariant.left) c.loop-doc.invariant.taken
 
 -- ---- a union
 
@@ -538,7 +564,9 @@ union_node::refill-loop-i-init g t c =
     let e = c.reset_until_last.ensures in
     record {
       unvisited = (refl, λ k d low. refl);
-      refilling = refilling-none (tree_entries D) (tree_limits D) (IsTree D) (IsTreePlaced D) law n.members.items (window_combiner n.window) n.doc (n.doc + c.args.span) n.window c.reset_until_last.new.self c.requires.members.valid c.requires.members.placed refl (record { start = e.start; documents = e.documents; until = e.until; combiner = e.combiner });
+      refilling = refilling-none (tree_entries D) (tree_limits D) (IsTree D) (IsTreePlaced D) law n.members.items (window_combiner n.window) n.doc
+          (n.doc + c.args.span) n.window c.reset_until_last.new.self c.requires.members.valid c.requires.members.placed refl
+          (record { start = e.start; documents = e.documents; until = e.until; combiner = e.combiner });
       doc = refl;
       top = refl;
       depth = search (rules, uq.the_lemmas);
@@ -558,8 +586,10 @@ union_node::refill-take_tree-requires g t c κs within =
     let w = c.loop-i.node.window in
     let valid = subst (IsTree D) (sym read) (h.valid i item inside) in
     let placed = subst (IsTreePlaced D) (sym read) (h.placed i item inside) in
-    let first = refilling-first (tree_entries D) (tree_limits D) (IsTree D) (IsTreePlaced D) law n.members.items (window_combiner n.window) n.doc (n.doc + c.args.span) xs i c.loop-i.least w h item inside read c.requires.first in
-    let room = refilling-room (tree_entries D) (tree_limits D) (IsTree D) (IsTreePlaced D) law n.members.items (window_combiner n.window) n.doc (n.doc + c.args.span) xs i c.loop-i.least w h item inside read c.requires.members.valid c.requires.room c.requires.cleared in
+    let first = refilling-first (tree_entries D) (tree_limits D) (IsTree D) (IsTreePlaced D) law n.members.items (window_combiner n.window) n.doc
+    (n.doc + c.args.span) xs i c.loop-i.least w h item inside read c.requires.first in
+    let room = refilling-room (tree_entries D) (tree_limits D) (IsTree D) (IsTreePlaced D) law n.members.items (window_combiner n.window) n.doc
+    (n.doc + c.args.span) xs i c.loop-i.least w h item inside read c.requires.members.valid c.requires.room c.requires.cleared in
     (search (rules, uq.the_lemmas), (search rules, (valid, (placed, (omega (arith, h.start, c.requires.span.1), (first, room))))))
 
 pub union_node::refill-loop-i-preserved : goal.union_node::refill-loop-i-preserved
@@ -576,10 +606,13 @@ union_node::refill-loop-i-preserved g t c =
     let x = c.take_tree.new.member in
     let e = c.take_tree.ensures in
     let smaller = subst (λ (y : AnyScorer g.row.S.Denot). size-AnyScorer g.row.S.Denot x ≤ size-AnyScorer g.row.S.Denot y) read e.depth in
-    let made = refilling-more (tree_entries D) (tree_limits D) (IsTree D) (IsTreePlaced D) law n.members.items (window_combiner n.window) n.doc (n.doc + c.args.span) xs i c.loop-i.least c.loop-i.node.window h item inside read x c.take_tree.result c.take_tree.new.window e.valid e.placed (ap scores_to e.top) e.entries e.head e.taken in
+    let made = refilling-more (tree_entries D) (tree_limits D) (IsTree D) (IsTreePlaced D) law n.members.items (window_combiner n.window) n.doc
+    (n.doc + c.args.span) xs i c.loop-i.least c.loop-i.node.window h item inside read x c.take_tree.result c.take_tree.new.window e.valid e.placed
+    (ap scores_to e.top) e.entries e.head e.taken in
     record {
       unvisited = search (rules, uq.the_lemmas);
-      refilling = subst (λ l. IsRefilling (tree_entries D) (tree_limits D) (IsTree D) (IsTreePlaced D) law n.members.items (window_combiner n.window) n.doc (n.doc + c.args.span) (set xs i x) (i + 1) l c.take_tree.new.window) (sym c.min-least.ensures) made;
+      refilling = subst (λ l. IsRefilling (tree_entries D) (tree_limits D) (IsTree D) (IsTreePlaced D) law n.members.items (window_combiner n.window) n.doc
+          (n.doc + c.args.span) (set xs i x) (i + 1) l c.take_tree.new.window) (sym c.min-least.ensures) made;
       doc = c.loop-i.invariant.doc;
       top = c.loop-i.invariant.top;
       depth = size-united c.loop-i.node _ _ (most-set (size-AnyScorer g.row.S.Denot) xs i x item inside smaller) c.loop-i.invariant.depth;
@@ -594,7 +627,8 @@ union_node::refill-returns-clause-entries g t c =
     let h = c.loop-i.invariant.refilling in
     let ended : length xs ≤ c.loop-i.i = omega (arith, c.loop-i.invariant.unvisited.0, c.loop-i-test.false, c.len-i-end.ensures, n.members.ok.0) in
     ap (λ d. united c.loop-i.node.window d (union_lists D c.loop-i.node)) c.loop-i.invariant.doc
-    ∙ refilled-entries (tree_entries D) (tree_limits D) (IsTree D) (IsTreePlaced D) law n.members.items (window_combiner n.window) n.doc (n.doc + c.args.span) xs c.loop-i.i c.loop-i.least c.loop-i.node.window h ended c.requires.members.valid c.requires.first c.requires.cleared
+    ∙ refilled-entries (tree_entries D) (tree_limits D) (IsTree D) (IsTreePlaced D) law n.members.items (window_combiner n.window) n.doc
+    (n.doc + c.args.span) xs c.loop-i.i c.loop-i.least c.loop-i.node.window h ended c.requires.members.valid c.requires.first c.requires.cleared
 
 pub union_node::refill-returns-clause-behind : goal.union_node::refill-returns-clause-behind
 union_node::refill-returns-clause-behind g t c =
@@ -604,7 +638,8 @@ union_node::refill-returns-clause-behind g t c =
     let xs = c.loop-i.node.members.items in
     let h = c.loop-i.invariant.refilling in
     let ended : length xs ≤ c.loop-i.i = omega (arith, c.loop-i.invariant.unvisited.0, c.loop-i-test.false, c.len-i-end.ensures, n.members.ok.0) in
-    refilled-behind (tree_entries D) (tree_limits D) (IsTree D) (IsTreePlaced D) law n.members.items (window_combiner n.window) n.doc (n.doc + c.args.span) xs c.loop-i.i c.loop-i.least c.loop-i.node.window h ended c.requires.members.valid c.requires.first
+    refilled-behind (tree_entries D) (tree_limits D) (IsTree D) (IsTreePlaced D) law n.members.items (window_combiner n.window) n.doc
+    (n.doc + c.args.span) xs c.loop-i.i c.loop-i.least c.loop-i.node.window h ended c.requires.members.valid c.requires.first
 
 pub union_node::refill-returns-clause-here : goal.union_node::refill-returns-clause-here
 union_node::refill-returns-clause-here g t c =
@@ -614,7 +649,9 @@ union_node::refill-returns-clause-here g t c =
     let xs = c.loop-i.node.members.items in
     let h = c.loop-i.invariant.refilling in
     let ended : length xs ≤ c.loop-i.i = omega (arith, c.loop-i.invariant.unvisited.0, c.loop-i-test.false, c.len-i-end.ensures, n.members.ok.0) in
-    refilled-here (tree_entries D) (tree_limits D) (IsTree D) (IsTreePlaced D) law n.members.items (window_combiner n.window) n.doc (n.doc + c.args.span) xs c.loop-i.i c.loop-i.least c.loop-i.node.window h ended c.requires.members.valid c.requires.first c.requires.some (omega (arith, c.requires.span.0))
+    refilled-here (tree_entries D) (tree_limits D) (IsTree D) (IsTreePlaced D) law n.members.items (window_combiner n.window) n.doc
+    (n.doc + c.args.span) xs c.loop-i.i c.loop-i.least c.loop-i.node.window h ended c.requires.members.valid c.requires.first c.requires.some
+    (omega (arith, c.requires.span.0))
 
 pub union_node::go_on-returns-then-node-eq-TERMINATED : goal.union_node::go_on-returns-then-node-eq-TERMINATED
 union_node::go_on-returns-then-node-eq-TERMINATED g t c =
@@ -623,8 +660,11 @@ union_node::go_on-returns-then-node-eq-TERMINATED g t c =
     let law = tree-ascends D g.met.S.DocSet.ascending in
     let members = AreMembers-map (tree_limits D) (tree_entries D) n.members.items (λ k d inside. law _ (c.requires.members.valid k d inside)) in
     let none : united n.window n.ahead (union_lists D n) ≡ gather 1 (any_combined (window_combiner n.window)) (union_lists D n) =
-    windowed-ended (window_has n.window) (kept_score n.window) (any_combined (window_combiner n.window)) _ _ members n.ahead c.requires.behind (λ d here. let below = c.requires.behind d here in omega (arith, c.requires.ahead)) in
-    let own = united-made (tree_entries D) (tree_limits D) (IsTree D) law n.members.items n.window (window_combiner n.window) n.ahead n.ahead n.top (union_limits D n) (union_lists D n) c.requires.members.valid c.requires.parts refl c.requires.ahead none (λ below. absurd (omega (arith, c.if-node-eq-TERMINATED.true))) (omega arith) c.requires.ahead c.requires.behind in
+    windowed-ended (window_has n.window) (kept_score n.window) (any_combined (window_combiner n.window)) _ _ members n.ahead c.requires.behind
+    (λ d here. let below = c.requires.behind d here in omega (arith, c.requires.ahead)) in
+    let own = united-made (tree_entries D) (tree_limits D) (IsTree D) law n.members.items n.window (window_combiner n.window) n.ahead n.ahead n.top
+    (union_limits D n) (union_lists D n) c.requires.members.valid c.requires.parts refl c.requires.ahead none
+    (λ below. absurd (omega (arith, c.if-node-eq-TERMINATED.true))) (omega arith) c.requires.ahead c.requires.behind in
     record {
       head = sym c.if-node-eq-TERMINATED.true ∙ own.standing.first;
       entries = none;
@@ -637,8 +677,16 @@ union_node::go_on-returns-then-node-eq-TERMINATED g t c =
 pub union_node::go_on-refill-node-requires : goal.union_node::go_on-refill-node-requires
 union_node::go_on-refill-node-requires g t c κs within =
     let n = c.args.node.now in
-    let below : n.ahead < TERMINATED = omega (arith, c.requires.ahead, least_head-most (union_lists g.S.DocSet n), c.if-node-eq-TERMINATED.false) in
-    (search (rules, uq.the_lemmas), (search rules, (record { valid = c.requires.members.valid; placed = c.requires.members.placed }, (c.requires.parts.fits, (c.requires.parts.until, (c.requires.parts.start, (c.requires.ahead, (below, c.requires.span))))))))
+    let below : n.ahead < TERMINATED = omega (arith, c.requires.ahead, least_head-most (union_lists g.S.DocSet n), c.if-node-eq-TERMINATED.false) in (
+      search (rules, uq.the_lemmas),
+      (
+        search rules,
+        (
+          record { valid = c.requires.members.valid; placed = c.requires.members.placed },
+          (c.requires.parts.fits, (c.requires.parts.until, (c.requires.parts.start, (c.requires.ahead, (below, c.requires.span))))),
+        ),
+      ),
+    )
 
 pub union_node::go_on-returns : goal.union_node::go_on-returns
 union_node::go_on-returns g t c =
@@ -655,7 +703,9 @@ union_node::go_on-returns g t c =
       until = r.until;
     } in
     let first = r.behind old.ahead r.here in
-    let own = united-made (tree_entries D) (tree_limits D) (IsTree D) law old.members.items n.window (window_combiner old.window) n.doc c.refill-node.result n.top (union_limits D n) (union_lists D n) c.requires.members.valid parts r.limits (r.doc ∙ c.requires.ahead) r.entries (λ _. ap (window_has n.window) r.doc ∙ r.here) (omega (arith, r.doc, first)) r.least r.behind in
+    let own = united-made (tree_entries D) (tree_limits D) (IsTree D) law old.members.items n.window
+    (window_combiner old.window) n.doc c.refill-node.result n.top (union_limits D n) (union_lists D n) c.requires.members.valid parts r.limits
+    (r.doc ∙ c.requires.ahead) r.entries (λ _. ap (window_has n.window) r.doc ∙ r.here) (omega (arith, r.doc, first)) r.least r.behind in
     record {
       head = own.standing.first;
       entries = r.entries;
@@ -687,7 +737,8 @@ union_node::reach_each-loop-i-preserved g t c =
       valid = All-set (IsTree g.S.DocSet) xs i x c.reach_tree.ensures.valid c.loop-i.invariant.valid;
       placed = All-set (IsTreePlaced g.S.DocSet) xs i x c.reach_tree.ensures.placed c.loop-i.invariant.placed;
       lists = map-map-set_same (from d) (tree_entries g.S.DocSet) xs i x c.index_mut.result.now here cut ∙ c.loop-i.invariant.lists;
-      limits = map-set_same (tree_limits g.S.DocSet) xs i x c.index_mut.result.now here (ap scores_to (c.reach_tree.ensures.top ∙ ap (tree_top g.S.DocSet) c.index_mut.ensures.value)) ∙ c.loop-i.invariant.limits;
+      limits = map-set_same (tree_limits g.S.DocSet) xs i x c.index_mut.result.now here
+          (ap scores_to (c.reach_tree.ensures.top ∙ ap (tree_top g.S.DocSet) c.index_mut.ensures.value)) ∙ c.loop-i.invariant.limits;
       reached = rw grown (All-push Stands (take i xs) x c.loop-i.invariant.reached past);
       least = omega (arith, ap least_head more, pushed, c.loop-i.invariant.least, c.reach_tree.ensures.head, c.min-least.ensures);
       window = c.loop-i.invariant.window;
@@ -724,19 +775,33 @@ union_node::seek_union-returns-in-Some g t c =
     let n = c.args.node.now in
     let members = AreMembers-map (tree_limits D) (tree_entries D) n.members.items (λ k d inside. law _ (c.requires.valid.members.valid k d inside)) in
     let h = c.requires.valid.own in
-    let went = goes_next (window_has n.window) (kept_score n.window) n.doc n.ahead (any_combined (window_combiner n.window)) (united_limits (union_limits D n)) _ _ members h.standing c.args.target c.in-Some.doc (window_end n.window) (omega (arith, c.if-target-node.false)) (answers_first n.window c.args.target c.in-Some.doc c.in-Some.ensures) in
+    let went = goes_next (window_has n.window) (kept_score n.window) n.doc n.ahead (any_combined (window_combiner n.window))
+    (united_limits (union_limits D n)) _ _ members h.standing c.args.target c.in-Some.doc (window_end n.window) (omega (arith, c.if-target-node.false))
+    (answers_first n.window c.args.target c.in-Some.doc c.in-Some.ensures) in
     record {
       head = went.1.first;
       entries = went.0;
-      valid = record { members = record { valid = c.requires.valid.members.valid; placed = c.requires.valid.members.placed }; own = record { parts = h.parts; standing = went.1 } };
+      valid = record {
+        members = record { valid = c.requires.valid.members.valid; placed = c.requires.valid.members.placed };
+        own =
+            record { parts = h.parts; standing = went.1 };
+      };
       top = refl;
       depth = search (rules, uq.the_lemmas);
     }
 
 pub union_node::seek_union-go_on-requires : goal.union_node::seek_union-go_on-requires
 union_node::seek_union-go_on-requires g t c κs within =
-    let h = c.requires.valid in
-    (search (rules, uq.the_lemmas), (search rules, (record { valid = h.members.valid; placed = h.members.placed }, (h.own.parts, (c.next_span.ensures, (h.own.standing.next, h.own.standing.behind))))))
+    let h = c.requires.valid in (
+      search (rules, uq.the_lemmas),
+      (
+        search rules,
+        (
+          record { valid = h.members.valid; placed = h.members.placed },
+          (h.own.parts, (c.next_span.ensures, (h.own.standing.next, h.own.standing.behind))),
+        ),
+      ),
+    )
 
 pub union_node::seek_union-returns-then-target-node-2-clause-entries : goal.union_node::seek_union-returns-then-target-node-2-clause-entries
 union_node::seek_union-returns-then-target-node-2-clause-entries g t c =
@@ -745,8 +810,10 @@ union_node::seek_union-returns-then-target-node-2-clause-entries g t c =
     let n = c.args.node.now in
     let members = AreMembers-map (tree_limits D) (tree_entries D) n.members.items (λ k d inside. law _ (c.requires.valid.members.valid k d inside)) in
     c.go_on.ensures.entries
-    ∙ goes_on (window_has n.window) (kept_score n.window) n.doc n.ahead (any_combined (window_combiner n.window)) (united_limits (union_limits D n)) _ _ members
-    c.requires.valid.own.standing c.args.target (omega (arith, c.if-target-node.false)) (omega (arith, c.if-target-node-2.true)) (answers_none n.window c.args.target c.in_default.ensures)
+    ∙ goes_on (window_has n.window) (kept_score n.window) n.doc n.ahead (any_combined (window_combiner n.window))
+    (united_limits (union_limits D n)) _ _ members
+    c.requires.valid.own.standing c.args.target (omega (arith, c.if-target-node.false)) (omega (arith, c.if-target-node-2.true))
+    (answers_none n.window c.args.target c.in_default.ensures)
 
 pub union_node::seek_union-go_on-requires-2 : goal.union_node::seek_union-go_on-requires-2
 union_node::seek_union-go_on-requires-2 g t c κs within =
@@ -754,12 +821,21 @@ union_node::seek_union-go_on-requires-2 g t c κs within =
     let law = tree-ascends D g.met.S.DocSet.ascending in
     let n = c.args.node.now in
     let e = c.reach_each-node.ensures in
-    let reached : c.args.target ≤ c.reach_each-node.result = omega (arith, e.least, ap least_head e.lists, least_head-cut_from c.args.target (union_lists D n) c.requires.target) in
+    let reached : c.args.target ≤ c.reach_each-node.result =
+    omega (arith, e.least, ap least_head e.lists, least_head-cut_from c.args.target (union_lists D n) c.requires.target) in
     let behind : (d : ℕ) → window_has c.reach_each-node.new.node.window d ≡ true → d < c.reach_each-node.result = λ d here. elim (cases_lt d c.args.target) [
       | inl below ↦ omega (arith, reached)
       | inr past ↦ absurd (true≢false (sym here ∙ ap (λ w. window_has w d) e.window ∙ answers_none n.window c.args.target c.in_default.ensures d past))
-    ] in
-    (search (rules, uq.the_lemmas), (search rules, (record { valid = e.members.valid; placed = e.members.placed }, (parts-same e.window e.top e.limits c.requires.valid.own.parts, ((omega arith, omega arith), (e.least, behind))))))
+    ] in (
+      search (rules, uq.the_lemmas),
+      (
+        search rules,
+        (
+          record { valid = e.members.valid; placed = e.members.placed },
+          (parts-same e.window e.top e.limits c.requires.valid.own.parts, ((omega arith, omega arith), (e.least, behind))),
+        ),
+      ),
+    )
 
 pub union_node::seek_union-returns-clause-entries : goal.union_node::seek_union-returns-clause-entries
 union_node::seek_union-returns-clause-entries g t c =
@@ -771,10 +847,14 @@ union_node::seek_union-returns-clause-entries g t c =
     let new = c.reach_each-node.new.node in
     let h = c.requires.valid.own in
     let after = AreMembers-map (tree_limits D) (tree_entries D) new.members.items (λ k d inside. law _ (e.members.valid k d inside)) in
-    let kept : map (from c.args.target) (union_lists D new) ≡ map (from c.args.target) (union_lists D n) = ap (map (from c.args.target)) e.lists ∙ cut_twice c.args.target (union_lists D n) in
-    let reached : c.args.target ≤ least_head (union_lists D new) = omega (arith, ap least_head e.lists, least_head-cut_from c.args.target (union_lists D n) c.requires.target) in
+    let kept : map (from c.args.target) (union_lists D new) ≡ map (from c.args.target) (union_lists D n) = ap (map (from c.args.target)) e.lists
+    ∙ cut_twice c.args.target (union_lists D n) in
+    let reached : c.args.target ≤ least_head (union_lists D new) =
+    omega (arith, ap least_head e.lists, least_head-cut_from c.args.target (union_lists D n) c.requires.target) in
     c.go_on-2.ensures.entries ∙ ap (λ w. gather 1 (any_combined (window_combiner w)) (union_lists D new)) e.window
-    ∙ goes_past (window_has n.window) (kept_score n.window) n.doc n.ahead (any_combined (window_combiner n.window)) (united_limits (union_limits D n)) _ _ members h.standing c.args.target _ _ after (omega (arith, c.if-target-node.false)) (answers_none n.window c.args.target c.in_default.ensures) reached kept
+    ∙ goes_past (window_has n.window) (kept_score n.window) n.doc n.ahead (any_combined (window_combiner n.window))
+    (united_limits (union_limits D n)) _ _ members h.standing c.args.target _ _ after (omega (arith, c.if-target-node.false))
+    (answers_none n.window c.args.target c.in_default.ensures) reached kept
 
 pub union_node::danger_union-returns-then-target-lt-TERMINATED : goal.union_node::danger_union-returns-then-target-lt-TERMINATED
 union_node::danger_union-returns-then-target-lt-TERMINATED g t c =
@@ -792,7 +872,8 @@ union_node::danger_union-returns-else-doc-target g t c =
     let sought = c.seek_union-doc.ensures in
     let head = sought.head in
     let bounds = head_document-bounds 0 _ _ (omega arith) sought.valid.own.standing.ascending in
-    let past : c.args.target ≤ c.seek_union-doc.result = omega (arith, head, ap head_document sought.entries, head_document-from c.args.target (union_list g.S.DocSet c.args.node.now) c.requires.target) in
+    let past : c.args.target ≤ c.seek_union-doc.result = omega
+    (arith, head, ap head_document sought.entries, head_document-from c.args.target (union_list g.S.DocSet c.args.node.now) c.requires.target) in
     let answer : IsSeekAnswer c.args.target (union_list g.S.DocSet c.seek_union-doc.new.node) (SeekLowerBound c.seek_union-doc.result) =
     elim c.else-doc-target.branch [
       | union_node::danger_union-else-doc-target-via-then-doc-target+else-target-lt-TERMINATED w ↦ record {
@@ -1105,7 +1186,9 @@ any_scorer::seek_other-returns-in-Disjunction g t c =
     let lent = rw (c.in-Disjunction.is, outs-Disjunction node) at c.deref_mut-in-Disjunction.ensures.value in
     let new = record node { value = c.seek_group.new.node } in
     let moved = moved-Disjunction g.S.DocSet c.args.target node c.seek_group.new.node lent c.seek_group.ensures.entries c.seek_group.ensures.valid c.seek_group.ensures.shape c.seek_group.ensures.depth in
-    sought-as g.S.DocSet c.args.target c.seek_group.result (Disjunction node) (Disjunction new) c.in-Disjunction.is (rw (c.in-Disjunction.is, outs-Disjunction node) refl) moved (c.seek_group.ensures.head ∙ sym (ap head_document (entries-Disjunction g.S.DocSet new))) tt
+    sought-as g.S.DocSet c.args.target c.seek_group.result (Disjunction node) (Disjunction new) c.in-Disjunction.is
+    (rw (c.in-Disjunction.is, outs-Disjunction node) refl) moved
+    (c.seek_group.ensures.head ∙ sym (ap head_document (entries-Disjunction g.S.DocSet new))) tt
 
 pub any_scorer::seek_other-seek_intersection-requires : goal.any_scorer::seek_other-seek_intersection-requires
 any_scorer::seek_other-seek_intersection-requires g t c κs within =
@@ -1165,7 +1248,10 @@ any_scorer::danger_other-returns-in-Disjunction g t c =
     let lent = rw (c.in-Disjunction.is, outs-Disjunction node) at c.deref_mut-in-Disjunction.ensures.value in
     let new = record node { value = c.danger_group.new.node } in
     let moved = moved-Disjunction g.S.DocSet c.args.target node c.danger_group.new.node lent c.danger_group.ensures.entries c.danger_group.ensures.valid c.danger_group.ensures.shape c.danger_group.ensures.depth in
-    answered-as g.S.DocSet c.args.target c.danger_group.result (Disjunction node) (Disjunction new) c.in-Disjunction.is (rw (c.in-Disjunction.is, outs-Disjunction node) refl) moved (subst (λ es. IsSeekAnswer c.args.target es c.danger_group.result) (sym (entries-Disjunction g.S.DocSet new)) c.danger_group.ensures.answer) (on_found c.danger_group.result (λ _. tt))
+    answered-as g.S.DocSet c.args.target c.danger_group.result (Disjunction node) (Disjunction new) c.in-Disjunction.is
+    (rw (c.in-Disjunction.is, outs-Disjunction node) refl) moved
+    (subst (λ es. IsSeekAnswer c.args.target es c.danger_group.result) (sym (entries-Disjunction g.S.DocSet new)) c.danger_group.ensures.answer)
+    (on_found c.danger_group.result (λ _. tt))
 
 pub any_scorer::danger_other-danger_intersection-requires : goal.any_scorer::danger_other-danger_intersection-requires
 any_scorer::danger_other-danger_intersection-requires g t c κs within =
@@ -1196,7 +1282,8 @@ any_scorer::seek_other-returns-in-Union g t c =
     let lent = rw (c.in-Union.is, outs-Union node) at c.deref_mut-in-Union.ensures.value in
     let new = record node { value = c.seek_union.new.node } in
     let moved = moved-Union g.S.DocSet c.args.target node c.seek_union.new.node lent c.seek_union.ensures.entries c.seek_union.ensures.valid c.seek_union.ensures.top c.seek_union.ensures.depth in
-    sought-as g.S.DocSet c.args.target c.seek_union.result (Union node) (Union new) c.in-Union.is (rw (c.in-Union.is, outs-Union node) refl) moved (c.seek_union.ensures.head ∙ sym (ap head_document (entries-Union g.S.DocSet new))) tt
+    sought-as g.S.DocSet c.args.target c.seek_union.result (Union node) (Union new) c.in-Union.is (rw (c.in-Union.is, outs-Union node) refl) moved
+    (c.seek_union.ensures.head ∙ sym (ap head_document (entries-Union g.S.DocSet new))) tt
 
 pub any_scorer::danger_other-danger_union-requires : goal.any_scorer::danger_other-danger_union-requires
 any_scorer::danger_other-danger_union-requires g t c κs within =
@@ -1211,7 +1298,9 @@ any_scorer::danger_other-returns-in-Union g t c =
     let lent = rw (c.in-Union.is, outs-Union node) at c.deref_mut-in-Union.ensures.value in
     let new = record node { value = c.danger_union.new.node } in
     let moved = moved-Union g.S.DocSet c.args.target node c.danger_union.new.node lent c.danger_union.ensures.entries c.danger_union.ensures.valid c.danger_union.ensures.top c.danger_union.ensures.depth in
-    answered-as g.S.DocSet c.args.target c.danger_union.result (Union node) (Union new) c.in-Union.is (rw (c.in-Union.is, outs-Union node) refl) moved (subst (λ es. IsSeekAnswer c.args.target es c.danger_union.result) (sym (entries-Union g.S.DocSet new)) c.danger_union.ensures.answer) (on_found c.danger_union.result (λ _. tt))
+    answered-as g.S.DocSet c.args.target c.danger_union.result (Union node) (Union new) c.in-Union.is (rw (c.in-Union.is, outs-Union node) refl) moved
+    (subst (λ es. IsSeekAnswer c.args.target es c.danger_union.result) (sym (entries-Union g.S.DocSet new)) c.danger_union.ensures.answer)
+    (on_found c.danger_union.result (λ _. tt))
 
 -- ---- scores
 
@@ -1693,10 +1782,13 @@ any_scorer::score_other-returns-in-Union g t c =
     let lent = rw (c.in-Union.is, outs-Union node) at c.deref_mut-in-Union.ensures.value in
     let new = c.score_union.new.node in
     let is = c.score_union.ensures in
-    scored-as D (Union node) (Union (record node { value = new })) c.in-Union.is (rw (c.in-Union.is, outs-Union node) refl) (scored-Union D node new lent (subst (IsTree D) c.in-Union.is c.requires.valid) is.score is.fits is.same)
+    scored-as D (Union node) (Union (record node { value = new })) c.in-Union.is (rw (c.in-Union.is, outs-Union node) refl)
+    (scored-Union D node new lent (subst (IsTree D) c.in-Union.is c.requires.valid) is.score is.fits is.same)
 
 pub union_node::take_by_steps-score_tree-score-requires : goal.union_node::take_by_steps-score_tree-score-requires
 union_node::take_by_steps-score_tree-score-requires g t c κs within =
     let h = c.loop-doc.invariant in
-    let here = tree-head g.S.DocSet g.met.S.DocSet.ascending c.loop-doc.member h.valid h.placed in
-    (first_of (omega (arith, c.decreases, h.depth), search (rules, aq.the_lemmas)), (search rules, (h.valid, (h.placed, omega (arith, here, h.here, c.if-doc-lt-TERMINATED.true)))))
+    let here = tree-head g.S.DocSet g.met.S.DocSet.ascending c.loop-doc.member h.valid h.placed in (
+      first_of (omega (arith, c.decreases, h.depth), search (rules, aq.the_lemmas)),
+      (search rules, (h.valid, (h.placed, omega (arith, here, h.here, c.if-doc-lt-TERMINATED.true)))),
+    )

@@ -99,7 +99,9 @@ decreases-union_node::take_by_steps-loop-doc g l = 2147483647 - l.doc
 abbrev pub invariant-union_node::refill-loop-i : goal.invariant-union_node::refill-loop-i
 invariant-union_node::refill-loop-i g l = record {
   unvisited : goal.unvisited-union_node::refill-loop-i g l;
-  refilling : IsRefilling (tree_entries g.S.DocSet) (tree_limits g.S.DocSet) (IsTree g.S.DocSet) (IsTreePlaced g.S.DocSet) (tree-ascends g.S.DocSet g.met.S.DocSet.ascending) l.fn.node.members.items (window_combiner l.fn.node.window) l.fn.node.doc (l.fn.node.doc + l.span) l.node.members.items l.i l.least l.node.window;
+  refilling : IsRefilling (tree_entries g.S.DocSet) (tree_limits g.S.DocSet) (IsTree g.S.DocSet) (IsTreePlaced g.S.DocSet)
+      (tree-ascends g.S.DocSet g.met.S.DocSet.ascending) l.fn.node.members.items (window_combiner l.fn.node.window) l.fn.node.doc
+      (l.fn.node.doc + l.span) l.node.members.items l.i l.least l.node.window;
   doc : l.node.doc ≡ l.fn.node.doc;
   top : l.node.top ≡ l.fn.node.top;
   depth : size-UnionNode _ l.node ≤ size-UnionNode _ l.fn.node;
@@ -138,6 +140,7 @@ invariant-intersection_node::score_intersection-loop-i g l = record {
   valid : All (IsTree g.S.DocSet) l.others;
   placed : All (IsTreePlaced g.S.DocSet) l.others;
   lists : map (tree_entries g.S.DocSet) l.others ≡ other_lists g.S.DocSet l.fn.node;
-  summed : l.sum ≡ min greatest_score (head_score (tree_entries g.S.DocSet l.fn.node.leader) + sum (take l.i (map head_score (map (tree_entries g.S.DocSet) l.others))));
+  summed : l.sum ≡ min greatest_score (head_score (tree_entries g.S.DocSet l.fn.node.leader) + sum
+      (take l.i (map head_score (map (tree_entries g.S.DocSet) l.others))));
   depth : most (size-AnyScorer _) l.others ≤ most (size-AnyScorer _) l.fn.node.others.items;
 }
