@@ -8,11 +8,14 @@ use Rattle.qm_postings.specs.Segment.{Segment, frequency, holders, holds, positi
 use Rattle.qm_schema.specs.Term.{TermKey}
 use Rattle.qm_schema.specs.declared.schema.option.IndexRecordOption.{IndexRecordOption}
 
-pub postings-below : (segment : Segment) (option : IndexRecordOption) (term : TermKey) → All (λ e. e.document < length segment.documents) (postings_of segment option term)
+pub postings-below : (segment : Segment) (option : IndexRecordOption) (term : TermKey) →
+    All (λ e. e.document < length segment.documents) (postings_of segment option term)
 postings-below segment option term =
     let n = length segment.documents in
-    let posting : ℕ → Entry = λ d. record { document = d; score = 0; frequency = frequency segment option term d; positions = positions segment option term d } in
-    let below = All-filter (holds segment term) (λ d. d < n) (range_with_len 0 n) (λ k d within. let inside : k < n = omega (arith, length-range_with_len 0 n) in rw (get_or-range_with_len 0 n k d inside) (omega arith)) in
+    let posting : ℕ →
+    Entry = λ d. record { document = d; score = 0; frequency = frequency segment option term d; positions = positions segment option term d } in
+    let below = All-filter (holds segment term) (λ d. d < n) (range_with_len 0 n)
+    (λ k d within. let inside : k < n = omega (arith, length-range_with_len 0 n) in rw (get_or-range_with_len 0 n k d inside) (omega arith)) in
     All-map (λ e. e.document < n) posting (holders segment term) below
 
 -- a row with one more element

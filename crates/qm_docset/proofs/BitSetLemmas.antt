@@ -1,12 +1,15 @@
 -- The words of a BitSet and its members.
-use Rattle.std.proofs.Common.{◌≡◌, ℕ, ◌+◌, ◌-◌, ◌*◌, ◌/◌, ◌%◌, ◌<◌, ◌≤◌, Bool, true, false, ◌&&◌, ◌||◌, ltb, nat_lt, ◌==◌, List, [], length, get_or, set, map, replicate, slice_get, option_map, Some, None, IsTrue, refl, sym, ap, ◌∙◌, inl, inr, arith, eq-eqb, ne_eqb, lt-ltb, le-ltb, le-leb, nat_le, eqb-true}
+use Rattle.std.proofs.Common.{◌≡◌, ℕ, ◌+◌, ◌-◌, ◌*◌, ◌/◌, ◌%◌, ◌<◌, ◌≤◌, Bool, true, false, ◌&&◌, ◌||◌, ltb, nat_lt, ◌==◌, List, [], length, get_or, set, map}
+use Rattle.std.proofs.Common.{replicate, slice_get, option_map, Some, None, IsTrue, refl, sym, ap, ◌∙◌, inl, inr, arith, eq-eqb, ne_eqb, lt-ltb, le-ltb, le-leb}
+use Rattle.std.proofs.Common.{nat_le, eqb-true}
 use Rattle.std.proofs.lemmas.Bool.{cases_eq, cases_lt, lt-leb, and_right, or_cases, false_from_ne_true}
 use Rattle.std.proofs.lemmas.List.{length-append, length-map, get_or-set_same, get_or-set_other, get_or_past, get_or-replicate, get_or_read, length-replicate}
 use Rattle.qm_docset.specs.declared.tiny_set.TinySet.{TinySet}
 use Rattle.qm_docset.specs.Members.{members_between}
 use Rattle.qm_docset.specs.TinySet.{tiny_has, tiny_members}
 use Rattle.qm_docset.specs.Words.{words_have}
-use Rattle.qm_docset.proofs.MembersLemmas.{and_true, members_between-none, members_between-split, members_between-skip, members_between-same, members_between-shift, members_between-first_of, cases_first, IsFirst, HasNone, HasNone-from_members}
+use Rattle.qm_docset.proofs.MembersLemmas.{and_true, members_between-none, members_between-split, members_between-skip, members_between-same}
+use Rattle.qm_docset.proofs.MembersLemmas.{members_between-shift, members_between-first_of, cases_first, IsFirst, HasNone, HasNone-from_members}
 use Rattle.qm_docset.proofs.TinySetLemmas.{tiny_has-zero, tiny_has-past}
 
 -- ---- one word
@@ -19,7 +22,8 @@ words_have-at words bucket x small =
     rw (word, place)
 
 -- a word by its numbers
-pub tiny_has-word : (words : List TinySet) (bucket x : ℕ) → tiny_has (get_or words bucket (record { bits = 0 })) x ≡ (nat_lt x 64 && words_have words (64 * bucket + x))
+pub tiny_has-word : (words : List TinySet) (bucket x : ℕ) →
+    tiny_has (get_or words bucket (record { bits = 0 })) x ≡ (nat_lt x 64 && words_have words (64 * bucket + x))
 tiny_has-word words bucket x =
     elim (cases_lt x 64) [
       | inl small ↦ rw (lt-ltb x 64 small, words_have-at words bucket x small)
@@ -87,7 +91,8 @@ word_members_whole has word bucket is =
     rw high (rw low at shifted ∙ ap (map (λ x. 64 * bucket + x)) same)
 
 -- one more word of a set is counted
-pub length-word_more : (has : ℕ → Bool) (word : TinySet) (low bucket : ℕ) → low ≤ 64 * bucket → ((x : ℕ) → tiny_has word x ≡ (nat_lt x 64 && has (64 * bucket + x)))
+pub length-word_more : (has : ℕ → Bool) (word : TinySet) (low bucket : ℕ) →
+    low ≤ 64 * bucket → ((x : ℕ) → tiny_has word x ≡ (nat_lt x 64 && has (64 * bucket + x)))
     → length (members_between has low (64 * bucket)) + length (tiny_members word) ≡ length (members_between has low (64 * (bucket + 1)))
 length-word_more has word low bucket above is =
     let all = members_between-split has low (64 * bucket) (64 * (bucket + 1)) above (omega arith) in
@@ -162,8 +167,11 @@ word_members_from has word low is =
     let rest : ℕ = low % 64 in
     let place : 64 * bucket + rest ≡ low = omega arith in
     let end : 64 * bucket + 64 ≡ 64 * (bucket + 1) = omega arith in
-    let inside : (x : ℕ) → x < 64 → rest ≤ x → tiny_has word x ≡ has (64 * bucket + x) = λ x small above. is x ∙ rw (lt-ltb x 64 small, le-leb rest x above) (and_true (has (64 * bucket + x))) in
-    let before : HasNone (tiny_has word) 0 rest = λ x above below. is x ∙ rw (lt-leb rest x below) (and_right (nat_lt x 64 && has (64 * bucket + x)) false refl) in
+    let inside : (x : ℕ) → x < 64 → rest ≤ x → tiny_has word x ≡ has (64 * bucket + x) = λ x small above. is x
+    ∙ rw (lt-ltb x 64 small, le-leb rest x above) (and_true (has (64 * bucket + x))) in
+    let before : HasNone (tiny_has word) 0 rest = λ x above below. is x
+    ∙ rw (lt-leb rest x below) (and_right (nat_lt x 64 && has (64 * bucket + x)) false refl) in
     let shifted = members_between-shift has (64 * bucket) rest 64 in
-    ap (map (λ x. 64 * bucket + x)) (members_between-skip (tiny_has word) 0 rest 64 (omega arith) before ∙ members_between-same (tiny_has word) (λ x. has (64 * bucket + x)) rest 64 (λ x above below. inside x below above))
+    ap (map (λ x. 64 * bucket + x)) (members_between-skip (tiny_has word) 0 rest 64 (omega arith) before
+    ∙ members_between-same (tiny_has word) (λ x. has (64 * bucket + x)) rest 64 (λ x above below. inside x below above))
     ∙ sym shifted ∙ rw (place, end)

@@ -1,5 +1,6 @@
 -- The members of a BitSet as the entries of a cursor.
-use Rattle.std.proofs.Common.{◌≡◌, ℕ, ◌<◌, ◌≤◌, true, false, List, [], ◌∷◌, map, option_map, slice_get, Option, Some, None, unwrap_or, refl, sym, ap, ◌∙◌, arith, max, drop}
+use Rattle.std.proofs.Common.{◌≡◌, ℕ, ◌<◌, ◌≤◌, true, false, List, [], ◌∷◌, map, option_map, slice_get, Option, Some, None, unwrap_or, refl, sym, ap, ◌∙◌}
+use Rattle.std.proofs.Common.{arith, max, drop}
 use Rattle.std.proofs.lemmas.Bool.{false_from_ne_true}
 use Rattle.qm_docset.specs.declared.bitset.BitSet.{BitSet}
 use Rattle.qm_docset.specs.declared.numbers.TheConstants.{TERMINATED}
@@ -7,7 +8,8 @@ use Rattle.qm_docset.specs.BitSet.{set_has, set_max_value, set_members_from}
 use Rattle.qm_docset.specs.Entry.{Entry, from, head_document, plain}
 use Rattle.qm_docset.specs.Members.{members_between}
 use Rattle.qm_docset.proofs.MembersLemmas.{IsFirst}
-use Rattle.qm_docset.proofs.MemberEntries.{head-first, first-from_Some, none-from_None, entries-head, from-entries, entries-skip, entries-drop, head-bounds, head-end}
+use Rattle.qm_docset.proofs.MemberEntries.{head-first, first-from_Some, none-from_None, entries-head, from-entries, entries-skip, entries-drop, head-bounds}
+use Rattle.qm_docset.proofs.MemberEntries.{head-end}
 
 pub None-from_map : (f : ℕ → ℕ) (o : Option ℕ) → None ≡ option_map f o → None ≡ o
 None-from_map f None e = refl
@@ -64,14 +66,16 @@ unfolding set_members_from
 members-from s doc target = from-entries (set_has s) doc (set_max_value s) target
 
 -- a target's word tells where a cursor goes: to a member of it
-pub lands_in_word : (s : BitSet) (low high doc : ℕ) → set_max_value s ≤ TERMINATED → Some doc ≡ slice_get (members_between (set_has s) low high) 0 → (Lands s low doc) × (low ≤ doc) × (doc < TERMINATED)
+pub lands_in_word : (s : BitSet) (low high doc : ℕ) → set_max_value s ≤ TERMINATED →
+    Some doc ≡ slice_get (members_between (set_has s) low high) 0 → (Lands s low doc) × (low ≤ doc) × (doc < TERMINATED)
 lands_in_word s low high doc fits read =
     let first = first-from_Some (set_has s) low high doc read in
     let below = set_has-below s doc first.member in
     (lands s low doc fits (head-in_word s low high doc read), first.above, omega arith)
 
 -- or past the members before its end
-pub lands_past_word : (s : BitSet) (low high bound : ℕ) → None ≡ slice_get (members_between (set_has s) low high) 0 → low ≤ bound → bound ≤ high → bound ≤ TERMINATED → set_max_value s ≤ TERMINATED
+pub lands_past_word : (s : BitSet) (low high bound : ℕ) → None ≡ slice_get (members_between (set_has s) low high) 0 →
+    low ≤ bound → bound ≤ high → bound ≤ TERMINATED → set_max_value s ≤ TERMINATED
     → (map plain (set_members_from s bound) ≡ map plain (set_members_from s low)) × (bound ≤ head_document (map plain (set_members_from s bound)))
 unfolding set_members_from
 lands_past_word s low high bound read above below ends fits =

@@ -7,7 +7,8 @@ use Rattle.qm_docset.specs.EntryFacts.{AreEntries-drop, entries-at_end}
 use Rattle.qm_docset.specs.declared.numbers.TheConstants.{TERMINATED}
 
 -- one more document at the place behind those taken
-pub documents-taken_more : (n v : ℕ) (es : List Entry) (b : List ℕ) → n < length es → n < length b → take n b ≡ documents (take n es) → v ≡ head_document (drop n es) → take (suc n) (set b n v) ≡ documents (take (suc n) es)
+pub documents-taken_more : (n v : ℕ) (es : List Entry) (b : List ℕ) → n < length es → n < length b →
+    take n b ≡ documents (take n es) → v ≡ head_document (drop n es) → take (suc n) (set b n v) ≡ documents (take (suc n) es)
 documents-taken_more n v [] b h k e f = absurd (omega arith)
 documents-taken_more n v (x ∷ es) [] h k e f = absurd (omega arith)
 documents-taken_more zero v (x ∷ es) (y ∷ b) h k e f = ap (λ d. d ∷ []) f

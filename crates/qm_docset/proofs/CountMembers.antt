@@ -1,5 +1,6 @@
 -- Counting the members of a set by words.
-use Rattle.std.proofs.Common.{◌≡◌, ℕ, ◌+◌, ◌*◌, ◌/◌, ◌%◌, ◌≤◌, Bool, true, false, ◌&&◌, nat_lt, nat_le, List, [], ◌∷◌, length, map, filter, refl, sym, ap, ◌∙◌, inl, inr, arith}
+use Rattle.std.proofs.Common.{◌≡◌, ℕ, ◌+◌, ◌*◌, ◌/◌, ◌%◌, ◌≤◌, Bool, true, false, ◌&&◌, nat_lt, nat_le, List, [], ◌∷◌, length, map, filter, refl, sym, ap, ◌∙◌}
+use Rattle.std.proofs.Common.{inl, inr, arith}
 use Rattle.std.proofs.lemmas.Bool.{cases_Bool}
 use Rattle.std.proofs.lemmas.List.{length-map}
 use Rattle.qm_docset.specs.declared.bitset.BitSet.{BitSet}
@@ -28,7 +29,8 @@ both-parts : (a p q : Bool) → ((a && p) && (a && q)) ≡ (a && (p && q))
 both-parts true p q = refl
 both-parts false p q = refl
 
-pub both-word : (s t : BitSet) (bucket x : ℕ) → ((nat_lt x 64 && set_has s (64 * bucket + x)) && (nat_lt x 64 && set_has t (64 * bucket + x))) ≡ (nat_lt x 64 && both_have s t (64 * bucket + x))
+pub both-word : (s t : BitSet) (bucket x : ℕ) →
+    ((nat_lt x 64 && set_has s (64 * bucket + x)) && (nat_lt x 64 && set_has t (64 * bucket + x))) ≡ (nat_lt x 64 && both_have s t (64 * bucket + x))
 unfolding both_have
 both-word s t bucket x = both-parts (nat_lt x 64) (set_has s (64 * bucket + x)) (set_has t (64 * bucket + x))
 
@@ -45,21 +47,25 @@ both-parts_from false b p q = refl
 
 -- of two words from a document on
 pub length-both_from : (s t : BitSet) (doc : ℕ) (word : TinySet)
-    → ((x : ℕ) → tiny_has word x ≡ (((nat_lt x 64 && set_has s (64 * (doc / 64) + x)) && (nat_le (doc % 64) x && nat_lt x 64)) && (nat_lt x 64 && set_has t (64 * (doc / 64) + x))))
+    → ((x : ℕ) → tiny_has word x
+    ≡ (((nat_lt x 64 && set_has s (64 * (doc / 64) + x)) && (nat_le (doc % 64) x && nat_lt x 64)) && (nat_lt x 64 && set_has t (64 * (doc / 64) + x))))
     → length (tiny_members word) ≡ length (members_between (both_have s t) doc (64 * (doc / 64 + 1)))
 unfolding both_have
 length-both_from s t doc word is =
     let bucket : ℕ = doc / 64 in
-    let members = word_members_from (both_have s t) word doc (λ x. is x ∙ both-parts_from (nat_lt x 64) (nat_le (doc % 64) x) (set_has s (64 * bucket + x)) (set_has t (64 * bucket + x))) in
+    let members = word_members_from (both_have s t) word doc
+    (λ x. is x ∙ both-parts_from (nat_lt x 64) (nat_le (doc % 64) x) (set_has s (64 * bucket + x)) (set_has t (64 * bucket + x))) in
     sym (length-map (tiny_members word) (λ x. 64 * bucket + x)) ∙ ap length members
 
-pub length-from : (s : BitSet) (doc : ℕ) (word : TinySet) → map (λ x. 64 * (doc / 64) + x) (tiny_members word) ≡ members_between (set_has s) doc (64 * (doc / 64 + 1))
+pub length-from : (s : BitSet) (doc : ℕ) (word : TinySet) →
+    map (λ x. 64 * (doc / 64) + x) (tiny_members word) ≡ members_between (set_has s) doc (64 * (doc / 64 + 1))
     → length (tiny_members word) ≡ length (members_between (set_has s) doc (64 * (doc / 64 + 1)))
 length-from s doc word members = sym (length-map (tiny_members word) (λ x. 64 * (doc / 64) + x)) ∙ ap length members
 
 -- ---- all that remain
 
-pub count_all : (s : BitSet) (doc high : ℕ) → set_max_value s ≤ high → length (members_between (set_has s) doc high) ≡ length (map plain (set_members_from s doc))
+pub count_all : (s : BitSet) (doc high : ℕ) → set_max_value s ≤ high →
+    length (members_between (set_has s) doc high) ≡ length (map plain (set_members_from s doc))
 count_all s doc high past = ap length (members-to_bound s doc high past) ∙ sym (length-map (set_members_from s doc) plain)
 
 alive-plain : (a : AliveBitSet) (xs : List ℕ) → alive_entries a (map plain xs) ≡ map plain (filter (set_has (alive_docs a)) xs)
@@ -76,7 +82,8 @@ count_alive s a doc high past =
     let t : BitSet = alive_docs a in
     ap length (members_between-bound (both_have s t) doc (set_max_value s) high past (both_have-past s t)
     ∙ sym (filter-members_between (set_has s) (set_has t) doc (set_max_value s)))
-    ∙ sym (ap length (alive-plain a (members_between (set_has s) doc (set_max_value s))) ∙ length-map (filter (set_has t) (members_between (set_has s) doc (set_max_value s))) plain)
+    ∙ sym (ap length (alive-plain a (members_between (set_has s) doc (set_max_value s)))
+    ∙ length-map (filter (set_has t) (members_between (set_has s) doc (set_max_value s))) plain)
 
 -- ---- at the end
 

@@ -1,5 +1,6 @@
 -- Documents among entries.
-use Rattle.std.proofs.Common.{◌≡◌, ℕ, zero, suc, ◌+◌, ◌<◌, ◌≤◌, ◌==◌, ◌||◌, Bool, true, false, List, [], ◌∷◌, length, get_or, set, map, take, drop, refl, sym, ap, ◌∙◌, inl, inr, arith, eq-eqb, ne_eqb}
+use Rattle.std.proofs.Common.{◌≡◌, ℕ, zero, suc, ◌+◌, ◌<◌, ◌≤◌, ◌==◌, ◌||◌, Bool, true, false, List, [], ◌∷◌, length, get_or, set, map, take, drop, refl, sym}
+use Rattle.std.proofs.Common.{ap, ◌∙◌, inl, inr, arith, eq-eqb, ne_eqb}
 use Rattle.std.proofs.lemmas.Bool.{cases_lt, or_cases, or_right}
 use Rattle.std.proofs.lemmas.List.{get_or-drop}
 use Rattle.std.proofs.lemmas.List.Folds.{list_any_more}
@@ -27,7 +28,8 @@ has_document-from t d (e ∷ es) h =
           let other = ne_eqb e.document d (λ same. omega arith) in
           ap (λ es. has_document es d) (from-skip t e es below) ∙ rest ∙ sym (has_document-cons e es d ∙ rw other)
       | inr kept ↦
-          ap (λ es. has_document es d) (from-keep t e es kept) ∙ has_document-cons e (from t es) d ∙ ap (λ b. e.document == d || b) rest ∙ sym (has_document-cons e es d)
+          ap (λ es. has_document es d) (from-keep t e es kept) ∙ has_document-cons e (from t es) d
+          ∙ ap (λ b. e.document == d || b) rest ∙ sym (has_document-cons e es d)
     ]
 
 -- nothing is added
@@ -57,18 +59,21 @@ has_document-before low d limits (e ∷ es) ascends before =
 
 -- ---- several cursors
 
-pub some_has_document-map : {T : Type 0} (entries : T → List Entry) (xs : List T) (d : ℕ) → some_has_document (map entries xs) d ≡ list_any (λ x. has_document (entries x) d) xs
+pub some_has_document-map : {T : Type 0} (entries : T → List Entry) (xs : List T) (d : ℕ) →
+    some_has_document (map entries xs) d ≡ list_any (λ x. has_document (entries x) d) xs
 unfolding some_has_document
 some_has_document-map entries [] d = refl
 some_has_document-map entries (x ∷ xs) d = ap (λ b. has_document (entries x) d || b) (some_has_document-map entries xs d)
 
 -- a place is written
-pub list_any-set : {X : Type 0} (p : X → Bool) (xs : List X) (i : ℕ) (y d : X) → i < length xs → p y ≡ p (get_or xs i d) → list_any p (set xs i y) ≡ list_any p xs
+pub list_any-set : {X : Type 0} (p : X → Bool) (xs : List X) (i : ℕ) (y d : X) →
+    i < length xs → p y ≡ p (get_or xs i d) → list_any p (set xs i y) ≡ list_any p xs
 list_any-set p [] i y d within same = absurd (omega arith)
 list_any-set p (x ∷ xs) zero y d within same = rw same
 list_any-set p (x ∷ xs) (suc i) y d within same = ap (λ b. p x || b) (list_any-set p xs i y d (omega arith) same)
 
-pub list_any-set_added : {X : Type 0} (p : X → Bool) (xs : List X) (i : ℕ) (y d : X) → i < length xs → (p y ≡ true → p (get_or xs i d) ≡ true) → list_any p (set xs i y) ≡ true → list_any p xs ≡ true
+pub list_any-set_added : {X : Type 0} (p : X → Bool) (xs : List X) (i : ℕ) (y d : X) → i < length xs →
+    (p y ≡ true → p (get_or xs i d) ≡ true) → list_any p (set xs i y) ≡ true → list_any p xs ≡ true
 list_any-set_added p [] i y d within weaker member = absurd (omega arith)
 list_any-set_added p (x ∷ xs) zero y d within weaker member =
     elim (or_cases (p y) (list_any p xs) member) [
@@ -83,17 +88,21 @@ list_any-set_added p (x ∷ xs) (suc i) y d within weaker member =
 
 -- a cursor among several is replaced
 module _ {T : Type 0} (entries : T → List Entry) (xs : List T) (i : ℕ) (y d : T) (within : i < length xs) (document : ℕ) where
-  pub some_has_document-set : has_document (entries y) document ≡ has_document (entries (get_or xs i d)) document → some_has_document (map entries (set xs i y)) document ≡ some_has_document (map entries xs) document
+  pub some_has_document-set : has_document (entries y) document ≡ has_document (entries (get_or xs i d)) document →
+      some_has_document (map entries (set xs i y)) document ≡ some_has_document (map entries xs) document
   some_has_document-set same =
-      some_has_document-map entries (set xs i y) document ∙ list_any-set (λ x. has_document (entries x) document) xs i y d within same ∙ sym (some_has_document-map entries xs document)
+      some_has_document-map entries (set xs i y) document ∙ list_any-set (λ x. has_document (entries x) document) xs i y d within same
+      ∙ sym (some_has_document-map entries xs document)
 
-  pub some_has_document-set_added : (has_document (entries y) document ≡ true → has_document (entries (get_or xs i d)) document ≡ true) → some_has_document (map entries (set xs i y)) document ≡ true → some_has_document (map entries xs) document ≡ true
+  pub some_has_document-set_added : (has_document (entries y) document ≡ true → has_document (entries (get_or xs i d)) document ≡ true) →
+      some_has_document (map entries (set xs i y)) document ≡ true → some_has_document (map entries xs) document ≡ true
   some_has_document-set_added weaker member =
       some_has_document-map entries xs document
       ∙ list_any-set_added (λ x. has_document (entries x) document) xs i y d within weaker (sym (some_has_document-map entries (set xs i y) document) ∙ member)
 
 -- one more is asked, and has it not
-pub lacks_more : {X : Type 0} (p : X → Bool) (xs : List X) (i : ℕ) (d : X) → i < length xs → list_any p (take i xs) ≡ false → p (get_or xs i d) ≡ false → list_any p (take (i + 1) xs) ≡ false
+pub lacks_more : {X : Type 0} (p : X → Bool) (xs : List X) (i : ℕ) (d : X) → i < length xs →
+    list_any p (take i xs) ≡ false → p (get_or xs i d) ≡ false → list_any p (take (i + 1) xs) ≡ false
 lacks_more p xs i d within so_far here = list_any_more p xs i d within ∙ rw (so_far, here)
 
 -- two lists that are the same from a place on have the same element there

@@ -25,7 +25,8 @@ get_or-part docs low count k h l =
     subst P place (get_or-take count (drop low docs) (k - low) 0 (omega arith) ∙ get_or-drop low docs (k - low) 0)
 
 -- a part of an ascending list ascends
-pub increases_in_part : (docs : List ℕ) (low count : ℕ) → IsStrictlyIncreasing docs → low + count ≤ length docs → IsStrictlyIncreasing (take count (drop low docs))
+pub increases_in_part : (docs : List ℕ) (low count : ℕ) → IsStrictlyIncreasing docs →
+    low + count ≤ length docs → IsStrictlyIncreasing (take count (drop low docs))
 increases_in_part docs low count up h k l =
     let size = length-take count (drop low docs) in
     let rest = length-drop low docs in

@@ -1,12 +1,14 @@
 -- The members of a set as the entries of a cursor.
-use Rattle.std.proofs.Common.{◌≡◌, ℕ, zero, suc, ◌+◌, ◌<◌, ◌≤◌, max, Bool, false, ◌&&◌, nat_le, List, [], ◌∷◌, drop, map, filter, slice_get, Option, Some, None, refl, sym, ap, ◌∙◌, inl, inr, arith, add-one}
+use Rattle.std.proofs.Common.{◌≡◌, ℕ, zero, suc, ◌+◌, ◌<◌, ◌≤◌, max, Bool, false, ◌&&◌, nat_le, List, [], ◌∷◌, drop, map, filter, slice_get, Option, Some, None}
+use Rattle.std.proofs.Common.{refl, sym, ap, ◌∙◌, inl, inr, arith, add-one}
 use Rattle.std.proofs.lemmas.Bool.{cases_lt, and_right, le-leb, lt-leb}
 use Rattle.std.proofs.lemmas.List.{drop-drop}
 use Rattle.qm_docset.specs.declared.numbers.TheConstants.{TERMINATED}
 use Rattle.qm_docset.specs.Entry.{Entry, from, head_document, plain}
 use Rattle.qm_docset.specs.EntryFacts.{from-nil, from-keep, from-skip}
 use Rattle.qm_docset.specs.Members.{members_between}
-use Rattle.qm_docset.proofs.MembersLemmas.{and_true, members_between-none, members_between-skip, members_between-same, members_between-first_of, filter-members_between, cases_first, IsFirst, HasNone}
+use Rattle.qm_docset.proofs.MembersLemmas.{and_true, members_between-none, members_between-skip, members_between-same, members_between-first_of}
+use Rattle.qm_docset.proofs.MembersLemmas.{filter-members_between, cases_first, IsFirst, HasNone}
 
 from-plain : (t : ℕ) (xs : List ℕ) → from t (map plain xs) ≡ map plain (filter (λ x. nat_le t x) xs)
 from-plain t [] = from-nil t
@@ -46,7 +48,8 @@ module _ (has : ℕ → Bool) (low high : ℕ) where
         | inr first ↦ rw (head-first first.0 first.1) (entries-skip first.0 first.1.above first.1.none_before)
       ]
 
-  pub head-bounds : low ≤ TERMINATED → high ≤ TERMINATED → (low ≤ head_document (entries_from has low high)) × (head_document (entries_from has low high) ≤ TERMINATED)
+  pub head-bounds : low ≤ TERMINATED → high ≤ TERMINATED → (low ≤ head_document (entries_from has low high)) ×
+      (head_document (entries_from has low high) ≤ TERMINATED)
   head-bounds start fits =
       elim (cases_first has low high) [
         | inl none ↦ rw (head-none none) (start, omega arith)
@@ -82,7 +85,8 @@ module _ (has : ℕ → Bool) (low high : ℕ) where
       cut ∙ ap (map plain) (members_between-skip both low (max low t) high (omega arith) none ∙ members_between-same both has (max low t) high same)
 
 -- wherever a cursor has come to by steps, the entries are those from its document on
-pub entries-drop : (has : ℕ → Bool) (low high n : ℕ) → high ≤ TERMINATED → entries_from has (head_document (drop n (entries_from has low high))) high ≡ drop n (entries_from has low high)
+pub entries-drop : (has : ℕ → Bool) (low high n : ℕ) → high ≤ TERMINATED →
+    entries_from has (head_document (drop n (entries_from has low high))) high ≡ drop n (entries_from has low high)
 entries-drop has low high zero fits = entries-head has low high fits
 entries-drop has low high (suc n) fits =
     let es : List Entry = entries_from has low high in

@@ -1,5 +1,6 @@
 -- What is left of a set, word by word.
-use Rattle.std.proofs.Common.{◌≡◌, ℕ, ◌+◌, ◌*◌, ◌/◌, ◌%◌, ◌<◌, ◌≤◌, ◌&&◌, nat_lt, true, false, List, [], ◌∷◌, ◌++◌, drop, map, option_map, slice_get, Option, Some, None, IsSome, unwrap_or, refl, sym, ap, ◌∙◌, inl, inr, arith, append-nil, true≢false, lt-ltb}
+use Rattle.std.proofs.Common.{◌≡◌, ℕ, ◌+◌, ◌*◌, ◌/◌, ◌%◌, ◌<◌, ◌≤◌, ◌&&◌, nat_lt, true, false, List, [], ◌∷◌, ◌++◌, drop, map, option_map, slice_get, Option}
+use Rattle.std.proofs.Common.{Some, None, IsSome, unwrap_or, refl, sym, ap, ◌∙◌, inl, inr, arith, append-nil, true≢false, lt-ltb}
 use Rattle.std.proofs.lemmas.Bool.{cases_lt}
 use Rattle.std.proofs.lemmas.List.{drop-map}
 use Rattle.qm_docset.specs.declared.bitset.BitSet.{BitSet}
@@ -36,7 +37,8 @@ members-split s low mid above =
 
 -- ---- a member is taken
 
-taken : (f : ℕ → ℕ) (xs ys : List ℕ) (x : ℕ) → Some x ≡ slice_get xs 0 → (Some (f x) ≡ slice_get (map f xs ++ ys) 0) × (map f (drop 1 xs) ++ ys ≡ drop 1 (map f xs ++ ys))
+taken : (f : ℕ → ℕ) (xs ys : List ℕ) (x : ℕ) → Some x ≡ slice_get xs 0 →
+    (Some (f x) ≡ slice_get (map f xs ++ ys) 0) × (map f (drop 1 xs) ++ ys ≡ drop 1 (map f xs ++ ys))
 taken f [] ys x read = absurd (cc)
 taken f (z ∷ xs) ys x read = let same : x ≡ z = cc in (ap (λ y. Some (f y)) same, refl)
 
@@ -61,19 +63,22 @@ unfolding set_members_from
 skipped s low mid above none = sym (members_between-skip (set_has s) low mid (set_max_value s) above none)
 
 -- all of a word is left
-pub left-whole : (s : BitSet) (bucket : ℕ) (word : TinySet) → ((x : ℕ) → tiny_has word x ≡ (nat_lt x 64 && set_has s (64 * bucket + x))) → members_left s bucket word ≡ set_members_from s (64 * bucket)
+pub left-whole : (s : BitSet) (bucket : ℕ) (word : TinySet) → ((x : ℕ) → tiny_has word x ≡ (nat_lt x 64 && set_has s (64 * bucket + x))) →
+    members_left s bucket word ≡ set_members_from s (64 * bucket)
 unfolding members_left
 left-whole s bucket word is = rw (← word_members_whole (set_has s) word bucket is) (members-split s (64 * bucket) (64 * (bucket + 1)) (omega arith))
 
 -- a word is left from a document on
-pub left-from : (s : BitSet) (doc : ℕ) (word : TinySet) → map (λ x. 64 * (doc / 64) + x) (tiny_members word) ≡ members_between (set_has s) doc (64 * (doc / 64 + 1))
+pub left-from : (s : BitSet) (doc : ℕ) (word : TinySet) →
+    map (λ x. 64 * (doc / 64) + x) (tiny_members word) ≡ members_between (set_has s) doc (64 * (doc / 64 + 1))
     → members_left s (doc / 64) word ≡ set_members_from s doc
 unfolding members_left
 left-from s doc word is = rw is (members-split s doc (64 * (doc / 64 + 1)) (omega arith))
 
 module _ (s : BitSet) (bucket : ℕ) (word left : TinySet) (rest : tiny_members left ≡ drop 1 (tiny_members word)) where
   pub left-pop : (lowest : ℕ) → Some lowest ≡ slice_get (tiny_members word) 0
-      → (Some (64 * bucket + lowest) ≡ slice_get (members_left s bucket word) 0) × (members_left s bucket left ≡ drop 1 (members_left s bucket word)) × (lowest < 64)
+      → (Some (64 * bucket + lowest) ≡ slice_get (members_left s bucket word) 0) ×
+      (members_left s bucket left ≡ drop 1 (members_left s bucket word)) × (lowest < 64)
   unfolding members_left
   left-pop lowest read =
       let t = taken (λ x. 64 * bucket + x) (tiny_members word) (set_members_from s (64 * (bucket + 1))) lowest read in
@@ -81,7 +86,8 @@ module _ (s : BitSet) (bucket : ℕ) (word left : TinySet) (rest : tiny_members 
 
 -- ---- a word has no member left
 
-module _ (s : BitSet) (bucket : ℕ) (word left : TinySet) (rest : tiny_members left ≡ drop 1 (tiny_members word)) (ended : None ≡ slice_get (tiny_members word) 0) where
+module _ (s : BitSet) (bucket : ℕ) (word left : TinySet) (rest : tiny_members left ≡ drop 1 (tiny_members word))
+    (ended : None ≡ slice_get (tiny_members word) 0) where
   later : members_left s bucket word ≡ set_members_from s (64 * (bucket + 1))
   unfolding members_left
   later = rw (empty (tiny_members word) ended)
@@ -108,15 +114,19 @@ module _ (s : BitSet) (bucket : ℕ) (word left : TinySet) (rest : tiny_members 
       let member : tiny_has there (x % 64) ≡ true = is (x % 64) ∙ rw (place, lt-ltb (x % 64) 64 (omega arith)) first.member in (
         omega (arith, found.2),
         λ none. true≢false (sym member ∙ no_member there none (x % 64) (omega arith)),
-        left-whole s next there is ∙ skipped s (64 * (bucket + 1)) (64 * next) (omega (arith, first.above, found.2)) (λ y after before. first.none_before y after (omega (arith, found.2))) ∙ sym later,
+        left-whole s next there is ∙ skipped s (64 * (bucket + 1)) (64 * next) (omega (arith, first.above, found.2))
+            (λ y after before. first.none_before y after (omega (arith, found.2))) ∙ sym later,
       )
 
 -- ---- a cursor goes to the first of the members from a number on
 
 module _ (s : BitSet) (fits : set_max_value s ≤ TERMINATED) (low bucket : ℕ) (word : TinySet) (left : members_left s bucket word ≡ set_members_from s low) where
   pub lands_on_first : (first : Option ℕ) → first ≡ slice_get (members_left s bucket word) 0 → Lands s low (unwrap_or first 2147483647)
-  lands_on_first first read = lands s low (unwrap_or first 2147483647) fits (head-of_entries (members_left s bucket word) (map plain (set_members_from s low)) first (ap (map plain) left) read)
+  lands_on_first first read = lands s low (unwrap_or first 2147483647) fits
+      (head-of_entries (members_left s bucket word) (map plain (set_members_from s low)) first (ap (map plain) left) read)
 
   -- and the others are left behind it
-  pub behind_first : (doc other : ℕ) (rest : TinySet) → Lands s low doc → members_left s other rest ≡ drop 1 (members_left s bucket word) → map plain (members_left s other rest) ≡ drop 1 (map plain (set_members_from s doc))
-  behind_first doc other rest there taken = ap (map plain) (taken ∙ ap (drop 1) left) ∙ sym (drop-map plain 1 (set_members_from s low)) ∙ ap (drop 1) (sym there.entries)
+  pub behind_first : (doc other : ℕ) (rest : TinySet) → Lands s low doc → members_left s other rest ≡ drop 1 (members_left s bucket word) →
+      map plain (members_left s other rest) ≡ drop 1 (map plain (set_members_from s doc))
+  behind_first doc other rest there taken = ap (map plain) (taken ∙ ap (drop 1) left)
+      ∙ sym (drop-map plain 1 (set_members_from s low)) ∙ ap (drop 1) (sym there.entries)

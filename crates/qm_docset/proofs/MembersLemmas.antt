@@ -1,5 +1,6 @@
 -- The members of a set of numbers between two bounds.
-use Rattle.std.proofs.Common.{◌≡◌, ℕ, zero, suc, ◌+◌, ◌-◌, ◌<◌, ◌≤◌, ◌==◌, ◌||◌, Bool, true, false, ◌&&◌, List, [], ◌∷◌, ◌++◌, length, map, filter, refl, sym, ap, ◌∙◌, ◌⊎◌, inl, inr, arith, append-nil, length-append}
+use Rattle.std.proofs.Common.{◌≡◌, ℕ, zero, suc, ◌+◌, ◌-◌, ◌<◌, ◌≤◌, ◌==◌, ◌||◌, Bool, true, false, ◌&&◌, List, [], ◌∷◌, ◌++◌, length, map, filter, refl, sym}
+use Rattle.std.proofs.Common.{ap, ◌∙◌, ◌⊎◌, inl, inr, arith, append-nil, length-append}
 use Rattle.std.proofs.lemmas.Bool.{cases_lt, cases_Bool, cases_eq, eq-eqb, ne_eqb}
 use Rattle.std.proofs.lemmas.List.Elements.{filter-append}
 use Rattle.std.specs.List.{range_with_len}
@@ -54,7 +55,8 @@ module _ (has : ℕ → Bool) where
   unfolding members_between
   members_between-none low high none = filter-range_none has low (high - low) (λ x above below. none x above (omega arith))
 
-  pub members_between-split : (low mid high : ℕ) → low ≤ mid → mid ≤ high → members_between has low high ≡ members_between has low mid ++ members_between has mid high
+  pub members_between-split : (low mid high : ℕ) → low ≤ mid → mid ≤ high →
+      members_between has low high ≡ members_between has low mid ++ members_between has mid high
   unfolding members_between
   members_between-split low mid high a b =
       let count : high - low ≡ (mid - low) + (high - mid) = omega arith in
@@ -63,7 +65,8 @@ module _ (has : ℕ → Bool) where
       (filter-append has (range_with_len low (mid - low)) (range_with_len mid (high - mid)))
 
   -- no member stands before `mid`
-  pub members_between-skip : (low mid high : ℕ) → low ≤ mid → ((x : ℕ) → low ≤ x → x < mid → has x ≡ false) → members_between has low high ≡ members_between has mid high
+  pub members_between-skip : (low mid high : ℕ) → low ≤ mid → ((x : ℕ) → low ≤ x → x < mid → has x ≡ false) →
+      members_between has low high ≡ members_between has mid high
   members_between-skip low mid high a none =
       elim (cases_lt high mid) [
         | inl past ↦ members_between-none low high (λ x above below. none x above (omega arith))
@@ -80,7 +83,8 @@ module _ (has : ℕ → Bool) where
       rw (count, here)
 
   -- the first member from `low` on is x
-  pub members_between-found : (low x high : ℕ) → low ≤ x → x < high → has x ≡ true → ((y : ℕ) → low ≤ y → y < x → has y ≡ false) → members_between has low high ≡ x ∷ members_between has (x + 1) high
+  pub members_between-found : (low x high : ℕ) → low ≤ x → x < high → has x ≡ true →
+      ((y : ℕ) → low ≤ y → y < x → has y ≡ false) → members_between has low high ≡ x ∷ members_between has (x + 1) high
   members_between-found low x high above below here none =
       members_between-skip low x high above none ∙ members_between-first x high below here
 
@@ -89,7 +93,8 @@ module _ (has : ℕ → Bool) where
   length-members_between low high = filter-short has low (high - low)
 
 -- no member lies past the bound
-pub members_between-bound : (has : ℕ → Bool) (low bound high : ℕ) → bound ≤ high → ((x : ℕ) → bound ≤ x → has x ≡ false) → members_between has low high ≡ members_between has low bound
+pub members_between-bound : (has : ℕ → Bool) (low bound high : ℕ) → bound ≤ high →
+    ((x : ℕ) → bound ≤ x → has x ≡ false) → members_between has low high ≡ members_between has low bound
 members_between-bound has low bound high past none =
     elim (cases_lt bound low) [
       | inl beyond ↦
@@ -100,11 +105,13 @@ members_between-bound has low bound high past none =
           members_between-split has low bound high within past ∙ rw behind (append-nil (members_between has low bound))
     ]
 
-pub members_between-same : (p q : ℕ → Bool) (low high : ℕ) → ((x : ℕ) → low ≤ x → x < high → p x ≡ q x) → members_between p low high ≡ members_between q low high
+pub members_between-same : (p q : ℕ → Bool) (low high : ℕ) →
+    ((x : ℕ) → low ≤ x → x < high → p x ≡ q x) → members_between p low high ≡ members_between q low high
 unfolding members_between
 members_between-same p q low high same = filter-range_same p q low (high - low) (λ x above below. same x above (omega arith))
 
-pub members_between-shift : (has : ℕ → Bool) (k low high : ℕ) → members_between has (k + low) (k + high) ≡ map (λ x. k + x) (members_between (λ x. has (k + x)) low high)
+pub members_between-shift : (has : ℕ → Bool) (k low high : ℕ) →
+    members_between has (k + low) (k + high) ≡ map (λ x. k + x) (members_between (λ x. has (k + x)) low high)
 unfolding members_between
 members_between-shift has k low high =
     let count : k + high - (k + low) ≡ high - low = omega arith in
@@ -175,10 +182,16 @@ pub length-members_between_insert : (has more : ℕ → Bool) (el low high : ℕ
     → length (members_between more low high) ≡ length (members_between has low high) + 1
 length-members_between_insert has more el low high above below lacks is =
     let here : more el ≡ true = is el ∙ rw (eq-eqb el el refl) in
-    let before : members_between more low el ≡ members_between has low el = members_between-same more has low el (λ x _ under. is x ∙ rw (ne_eqb x el (λ same. omega arith))) in
-    let behind : members_between more (el + 1) high ≡ members_between has (el + 1) high = members_between-same more has (el + 1) high (λ x over _. is x ∙ rw (ne_eqb x el (λ same. omega arith))) in
-    let with : members_between more el high ≡ el ∷ members_between has (el + 1) high = members_between-first more el high below here ∙ ap (λ r. el ∷ r) behind in
-    let without : members_between has el high ≡ members_between has (el + 1) high = members_between-skip has el (el + 1) high (omega arith) (λ x over under. let same : x ≡ el = omega arith in rw same lacks) in
-    let both = ap length (members_between-split more low el high above (omega arith)) ∙ length-append (members_between more low el) (members_between more el high) in
-    let once = ap length (members_between-split has low el high above (omega arith)) ∙ length-append (members_between has low el) (members_between has el high) in
+    let before : members_between more low el ≡ members_between has low el =
+    members_between-same more has low el (λ x _ under. is x ∙ rw (ne_eqb x el (λ same. omega arith))) in
+    let behind : members_between more (el + 1) high ≡ members_between has (el + 1) high =
+    members_between-same more has (el + 1) high (λ x over _. is x ∙ rw (ne_eqb x el (λ same. omega arith))) in
+    let with : members_between more el high ≡ el ∷ members_between has (el + 1) high = members_between-first more el high below here
+    ∙ ap (λ r. el ∷ r) behind in
+    let without : members_between has el high ≡ members_between has (el + 1) high =
+    members_between-skip has el (el + 1) high (omega arith) (λ x over under. let same : x ≡ el = omega arith in rw same lacks) in
+    let both = ap length (members_between-split more low el high above (omega arith))
+    ∙ length-append (members_between more low el) (members_between more el high) in
+    let once = ap length (members_between-split has low el high above (omega arith))
+    ∙ length-append (members_between has low el) (members_between has el high) in
     omega (arith, ap length before, ap length with, ap length without)

@@ -1,5 +1,6 @@
 -- What a cursor has left at a place of its entries, whose documents it knows.
-use Rattle.std.proofs.Common.{◌≡◌, inl, inr, ℕ, ◌+◌, ◌-◌, ◌<◌, ◌≤◌, List, [], ◌∷◌, length, get_or, map, take, drop, min, ap, refl, sym, subst, arith, ◌∙◌, length-drop, zero, suc}
+use Rattle.std.proofs.Common.{◌≡◌, inl, inr, ℕ, ◌+◌, ◌-◌, ◌<◌, ◌≤◌, List, [], ◌∷◌, length, get_or, map, take, drop, min, ap, refl, sym, subst, arith, ◌∙◌}
+use Rattle.std.proofs.Common.{length-drop, zero, suc}
 use Rattle.std.proofs.lemmas.Bool.{cases_lt}
 use Rattle.std.proofs.lemmas.List.{length-map, take_all, drop_all, drop-map, drop-drop, take-map, get_or-drop}
 use Rattle.qm_docset.specs.Documents.{AreDocuments}
@@ -40,7 +41,8 @@ pub left_on : (n i : ℕ) (es : List Entry) → drop (i + n) es ≡ drop n (drop
 left_on n i es = sym (drop-drop n i es)
 
 -- what is left at the first place at or past a target is what a seek leaves
-pub left_from : (t i j : ℕ) (limits : Limits) (es : List Entry) (ds : List ℕ) → documents es ≡ ds → AreEntries 0 limits es → i ≤ j → j ≤ length ds → ((k : ℕ) → i ≤ k → k < j → get_or ds k 0 < t) → (j < length ds → t ≤ get_or ds j 0) → drop j es ≡ from t (drop i es)
+pub left_from : (t i j : ℕ) (limits : Limits) (es : List Entry) (ds : List ℕ) → documents es ≡ ds → AreEntries 0 limits es → i ≤ j →
+    j ≤ length ds → ((k : ℕ) → i ≤ k → k < j → get_or ds k 0 < t) → (j < length ds → t ≤ get_or ds j 0) → drop j es ≡ from t (drop i es)
 left_from t i j limits es ds names a ordered inside passed reached =
     let left = drop i es in
     let named : documents left ≡ drop i ds = sym (drop-map (λ e. e.document) i es) ∙ ap (drop i) names in
@@ -48,7 +50,9 @@ left_from t i j limits es ds names a ordered inside passed reached =
     let here = λ (k : ℕ). ap (λ xs. get_or xs k 0) named ∙ get_or-drop i ds k 0 in
     let on : i + (j - i) ≡ j = omega arith in
     let P : ℕ → Type 0 = λ n. drop n es ≡ drop (j - i) left in
-    let cut = from-cut t (j - i) 0 limits left (AreEntries-drop i 0 limits es a) (omega arith) (λ k l. let e = here k in let p = passed (i + k) (omega arith) (omega arith) in omega arith) (λ l. let e = here (j - i) in let Q : ℕ → Type 0 = λ n. get_or (documents left) (j - i) 0 ≡ get_or ds n 0 in let f = subst Q on e in let r = reached (omega arith) in omega arith) in
+    let cut = from-cut t (j - i) 0 limits left (AreEntries-drop i 0 limits es a) (omega arith)
+    (λ k l. let e = here k in let p = passed (i + k) (omega arith) (omega arith) in omega arith) (λ l. let e = here (j - i) in
+    let Q : ℕ → Type 0 = λ n. get_or (documents left) (j - i) 0 ≡ get_or ds n 0 in let f = subst Q on e in let r = reached (omega arith) in omega arith) in
     subst P on (left_on (j - i) i es) ∙ sym cut
 
 -- what is left behind the next n entries, or all where fewer are left
@@ -60,7 +64,8 @@ left_behind n i count es e =
     ]
 
 -- the documents of the next n entries, or of all where fewer are left
-pub taken : (n i count : ℕ) (es : List Entry) (ds : List ℕ) → documents es ≡ ds → count ≡ min n (length ds - i) → take count (drop i ds) ≡ documents (take n (drop i es))
+pub taken : (n i count : ℕ) (es : List Entry) (ds : List ℕ) → documents es ≡ ds →
+    count ≡ min n (length ds - i) → take count (drop i ds) ≡ documents (take n (drop i es))
 taken n i count es ds names e =
     let named : documents (drop i es) ≡ drop i ds = sym (drop-map (λ e. e.document) i es) ∙ ap (drop i) names in
     let same : take count (drop i ds) ≡ take n (drop i ds) = elim (cases_lt n (length ds - i)) [

@@ -15,7 +15,8 @@ pub left_on : (n i : ℕ) (docs : List ℕ) → map plain (drop (i + n) docs) �
 left_on n i docs = sym (drop-map plain (i + n) docs) ∙ places.left_on n i (map plain docs) ∙ ap (drop n) (drop-map plain i docs)
 
 -- what is left at the first place at or past a target is what a seek leaves
-pub left_from : (t i j : ℕ) (docs : List ℕ) → AreDocuments docs → i ≤ j → j ≤ length docs → ((k : ℕ) → i ≤ k → k < j → get_or docs k 0 < t) → (j < length docs → t ≤ get_or docs j 0) → map plain (drop j docs) ≡ from t (map plain (drop i docs))
+pub left_from : (t i j : ℕ) (docs : List ℕ) → AreDocuments docs → i ≤ j → j ≤ length docs → ((k : ℕ) → i ≤ k → k < j → get_or docs k 0 < t) →
+    (j < length docs → t ≤ get_or docs j 0) → map plain (drop j docs) ≡ from t (map plain (drop i docs))
 left_from t i j docs h ordered within passed reached =
     sym (drop-map plain j docs)
     ∙ places.left_from t i j no_limits (map plain docs) docs (documents-plain docs) (AreEntries-documents 0 docs h) ordered within passed reached

@@ -1,16 +1,20 @@
 -- The bits of a TinySet and its members.
-use Rattle.std.proofs.Common.{◌≡◌, ℕ, zero, suc, ◌+◌, ◌*◌, ◌/◌, ◌%◌, ◌^◌, ◌<◌, ◌≤◌, min, Bool, true, false, not, ◌&&◌, ◌||◌, eqb, ltb, nat_le, nat_lt, ◌==◌, [], ◌∷◌, length, bit_and, bit_or, w64, refl, sym, ap, ◌∙◌, inl, inr, arith, eq-eqb, ne_eqb, lt-ltb, le-ltb, le-leb, add-one, pow_pos, mod-eq_of_lt}
+use Rattle.std.proofs.Common.{◌≡◌, ℕ, zero, suc, ◌+◌, ◌*◌, ◌/◌, ◌%◌, ◌^◌, ◌<◌, ◌≤◌, min, Bool, true, false, not, ◌&&◌, ◌||◌, eqb, ltb, nat_le, nat_lt, ◌==◌, []}
+use Rattle.std.proofs.Common.{◌∷◌, length, bit_and, bit_or, w64, refl, sym, ap, ◌∙◌, inl, inr, arith, eq-eqb, ne_eqb, lt-ltb, le-ltb, le-leb, add-one, pow_pos}
+use Rattle.std.proofs.Common.{mod-eq_of_lt}
 use Rattle.std.proofs.lemmas.Bool.{cases_eq, cases_lt, lt-leb, and_right}
 use Rattle.std.proofs.lemmas.Bool.Decides.{nat_tests}
 use Rattle.std.proofs.lemmas.List.{length-append}
 use Rattle.std.proofs.lemmas.Nat.{shr_split, ones_cat, ones-le, zero_from_ones, mod_below, shr_below}
-use Rattle.std.proofs.lemmas.Nat.Bits.{shr_and_one, bit_at_set_same, bit_at_set_other, bit_at_clear_same, bit_at_clear_other, bit_at_and, bit_at-lt, bit_at-zero, bit_at-trailing_zeros, bit_at_cat_low, ones_shl, bit_at_mask_inside, bit_at_mask_below}
+use Rattle.std.proofs.lemmas.Nat.Bits.{shr_and_one, bit_at_set_same, bit_at_set_other, bit_at_clear_same, bit_at_clear_other, bit_at_and, bit_at-lt}
+use Rattle.std.proofs.lemmas.Nat.Bits.{bit_at-zero, bit_at-trailing_zeros, bit_at_cat_low, ones_shl, bit_at_mask_inside, bit_at_mask_below}
 use Rattle.std.specs.Int.{bit_at, bit_not, trailing_zeros}
 use Rattle.std.specs.Int.Count.{ones, ones-ones}
 use Rattle.qm_docset.specs.declared.tiny_set.TinySet.{TinySet}
 use Rattle.qm_docset.specs.Members.{members_between}
 use Rattle.qm_docset.specs.TinySet.{tiny_has, tiny_members}
-use Rattle.qm_docset.proofs.MembersLemmas.{and_true, members_between-none, members_between-split, members_between-skip, members_between-found, members_between-same, members_between-first}
+use Rattle.qm_docset.proofs.MembersLemmas.{and_true, members_between-none, members_between-split, members_between-skip, members_between-found}
+use Rattle.qm_docset.proofs.MembersLemmas.{members_between-same, members_between-first}
 
 pub tiny_has-zero : (x : ℕ) → tiny_has (record { bits = 0 }) x ≡ false
 unfolding tiny_has
@@ -20,7 +24,8 @@ pub tiny_has-past : (s : TinySet) (x : ℕ) → 64 ≤ x → tiny_has s x ≡ fa
 unfolding tiny_has
 tiny_has-past s x past = rw (le-ltb x 64 past)
 
-pub tiny_has-insert : (s : TinySet) (el : ℕ) → el < 64 → (x : ℕ) → tiny_has (record { bits = bit_or s.bits (1 * 2 ^ el % 2 ^ 64) }) x ≡ (x == el || tiny_has s x)
+pub tiny_has-insert : (s : TinySet) (el : ℕ) → el < 64 → (x : ℕ) →
+    tiny_has (record { bits = bit_or s.bits (1 * 2 ^ el % 2 ^ 64) }) x ≡ (x == el || tiny_has s x)
 unfolding tiny_has
 tiny_has-insert s el within x =
     elim (cases_eq x el) [
@@ -40,7 +45,8 @@ pub tiny_has-intersect : (s t : TinySet) (x : ℕ) → tiny_has (record { bits =
 unfolding tiny_has
 tiny_has-intersect s t x = rw (bit_at_and s.bits t.bits x) (both_set (ltb x 64) (bit_at s.bits x) (bit_at t.bits x) (bit_at-lt s.bits x) (bit_at-lt t.bits x))
 
-pub tiny_has-range : (from : ℕ) (x : ℕ) → tiny_has (record { bits = 18446744073709551615 * 2 ^ (from % 64) % 18446744073709551616 }) x ≡ (nat_le (from % 64) x && nat_lt x 64)
+pub tiny_has-range : (from : ℕ) (x : ℕ) →
+    tiny_has (record { bits = 18446744073709551615 * 2 ^ (from % 64) % 18446744073709551616 }) x ≡ (nat_le (from % 64) x && nat_lt x 64)
 unfolding tiny_has
 tiny_has-range from x =
     let low : from % 64 ≤ 64 = omega arith in
@@ -83,7 +89,10 @@ members-last n k zero e small =
     rw (members_between-none (has_bit n) k (k + 1) (λ x above below. let at : x ≡ k = omega arith in rw (at, here)))
 members-last n k (suc zero) e small =
     let here : has_bit n k ≡ true = unfold has_bit in rw e in
-    rw (members_between-first (has_bit n) k (k + 1) (omega arith) here, members_between-none (has_bit n) (k + 1) (k + 1) (λ x above below. absurd (omega arith)))
+    rw (
+      members_between-first (has_bit n) k (k + 1) (omega arith) here,
+      members_between-none (has_bit n) (k + 1) (k + 1) (λ x above below. absurd (omega arith)),
+    )
 members-last n k (suc (suc a)) e small = absurd (omega arith)
 
 ones-members : (k n : ℕ) → n < 2 ^ k → ones n ≡ length (members_between (has_bit n) 0 k)
@@ -101,7 +110,8 @@ ones-members (suc k) n small =
     let last = members-last n k (n / 2 ^ k) top.0 top.1 in
     let same = members_between-same (has_bit n) (has_bit (n % 2 ^ k)) 0 k (low_bits k n) in
     let all : length (members_between (has_bit n) 0 (k + 1)) ≡ length (members_between (has_bit n) 0 k) + length (members_between (has_bit n) k (k + 1)) =
-    ap length (members_between-split (has_bit n) 0 k (k + 1) (omega arith) (omega arith)) ∙ length-append (members_between (has_bit n) 0 k) (members_between (has_bit n) k (k + 1)) in
+    ap length (members_between-split (has_bit n) 0 k (k + 1) (omega arith) (omega arith))
+    ∙ length-append (members_between (has_bit n) 0 k) (members_between (has_bit n) k (k + 1)) in
     let whole : ones n ≡ ones (n / 2 ^ k) + ones (n % 2 ^ k) = ap ones (sym cut) ∙ parts in
     rw (← add-one) (omega (arith, ap length same))
 
@@ -113,7 +123,8 @@ length-tiny_members s fits =
 
 pub tiny_members-empty : (s : TinySet) → s.bits ≡ 0 → tiny_members s ≡ []
 unfolding tiny_members
-tiny_members-empty s none = members_between-none (tiny_has s) 0 64 (λ x above below. unfold tiny_has in rw none (let zero_bit = bit_at-zero x in grind (arith, nat_tests)))
+tiny_members-empty s none =
+    members_between-none (tiny_has s) 0 64 (λ x above below. unfold tiny_has in rw none (let zero_bit = bit_at-zero x in grind (arith, nat_tests)))
 
 pub bits-empty : (s : TinySet) → s.bits < 2 ^ 64 → tiny_members s ≡ [] → s.bits ≡ 0
 bits-empty s fits none = zero_from_ones s.bits (length-tiny_members s fits ∙ ap length none)
@@ -121,7 +132,8 @@ bits-empty s fits none = zero_from_ones s.bits (length-tiny_members s fits ∙ a
 -- ---- the lowest member
 
 module _ (s : TinySet) (fits : s.bits < 2 ^ 64) (some : 0 < s.bits) where
-  lowest_bit : (trailing_zeros w64 s.bits < 64) × (bit_at s.bits (trailing_zeros w64 s.bits) ≡ 1) × ((i : ℕ) → i < trailing_zeros w64 s.bits → bit_at s.bits i ≡ 0)
+  lowest_bit : (trailing_zeros w64 s.bits < 64) × (bit_at s.bits (trailing_zeros w64 s.bits) ≡ 1) ×
+      ((i : ℕ) → i < trailing_zeros w64 s.bits → bit_at s.bits i ≡ 0)
   lowest_bit = bit_at-trailing_zeros w64 s.bits some fits
 
   pub tiny_members-lowest : tiny_members s ≡ trailing_zeros w64 s.bits ∷ members_between (tiny_has s) (trailing_zeros w64 s.bits + 1) 64
@@ -133,7 +145,8 @@ module _ (s : TinySet) (fits : s.bits < 2 ^ 64) (some : 0 < s.bits) where
       (λ x above below. unfold tiny_has in let zero_bit = l.2 x below in rw zero_bit (grind (arith, nat_tests)))
 
   -- the lowest member goes, and no other
-  pub tiny_has-pop : (x : ℕ) → tiny_has (record { bits = bit_and s.bits (bit_not w64 (1 * 2 ^ trailing_zeros w64 s.bits % 2 ^ 64)) }) x ≡ (tiny_has s x && not (x == trailing_zeros w64 s.bits))
+  pub tiny_has-pop : (x : ℕ) → tiny_has (record { bits = bit_and s.bits (bit_not w64 (1 * 2 ^ trailing_zeros w64 s.bits % 2 ^ 64)) }) x
+      ≡ (tiny_has s x && not (x == trailing_zeros w64 s.bits))
   unfolding tiny_has
   tiny_has-pop x =
       let l = lowest_bit in
@@ -146,14 +159,16 @@ module _ (s : TinySet) (fits : s.bits < 2 ^ 64) (some : 0 < s.bits) where
         ]
       ]
 
-  pub tiny_members-pop : tiny_members (record { bits = bit_and s.bits (bit_not w64 (1 * 2 ^ trailing_zeros w64 s.bits % 2 ^ 64)) }) ≡ members_between (tiny_has s) (trailing_zeros w64 s.bits + 1) 64
+  pub tiny_members-pop : tiny_members (record { bits = bit_and s.bits (bit_not w64 (1 * 2 ^ trailing_zeros w64 s.bits % 2 ^ 64)) })
+      ≡ members_between (tiny_has s) (trailing_zeros w64 s.bits + 1) 64
   unfolding tiny_members
   tiny_members-pop =
       let l = lowest_bit in
       let lowest : ℕ = trailing_zeros w64 s.bits in
       let left : TinySet = record { bits = bit_and s.bits (bit_not w64 (1 * 2 ^ lowest % 2 ^ 64)) } in
       let gone : tiny_has left lowest ≡ false = tiny_has-pop lowest ∙ rw (eq-eqb lowest lowest refl) (and_right (tiny_has s lowest) false refl) in
-      let kept : (x : ℕ) → (x ≡ lowest → ⊥) → tiny_has left x ≡ tiny_has s x = λ x other. tiny_has-pop x ∙ rw (ne_eqb x lowest other) (and_true (tiny_has s x)) in
+      let kept : (x : ℕ) → (x ≡ lowest → ⊥) → tiny_has left x ≡ tiny_has s x = λ x other. tiny_has-pop x
+      ∙ rw (ne_eqb x lowest other) (and_true (tiny_has s x)) in
       members_between-skip (tiny_has left) 0 (lowest + 1) 64 (omega arith)
       (λ x above below. elim (cases_eq x lowest) [
         | inl same ↦ rw (same, gone)

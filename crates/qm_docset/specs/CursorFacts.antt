@@ -7,7 +7,8 @@ use Rattle.qm_docset.specs.EntryFacts.{AreEntries-from, head_document-bounds}
 use Rattle.qm_docset.specs.declared.numbers.TheConstants.{TERMINATED}
 
 -- the first document that a seek leaves is a bound, where it is not the target
-pub IsLowerBound-reached : (target low : ℕ) (limits : Limits) (es : List Entry) → target ≤ TERMINATED → AreEntries low limits es → (target < TERMINATED → head_document (from target es) ≢ target)
+pub IsLowerBound-reached : (target low : ℕ) (limits : Limits) (es : List Entry) → target ≤ TERMINATED →
+    AreEntries low limits es → (target < TERMINATED → head_document (from target es) ≢ target)
     → IsLowerBound target (from target es) (head_document (from target es))
 IsLowerBound-reached target low limits es fits ascends apart =
     let bounds = head_document-bounds target limits (from target es) fits (AreEntries-from target low limits es ascends) in

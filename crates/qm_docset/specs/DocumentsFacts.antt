@@ -7,7 +7,8 @@ use Rattle.qm_docset.specs.Entry.{AreEntries, no_limits, plain}
 -- what is left behind the first of some documents
 AreDocuments-rest : (x : ℕ) (docs : List ℕ) → AreDocuments (x ∷ docs) → AreDocuments docs
 AreDocuments-rest x docs h = record {
-  ascending = λ k l. let P : ℕ → Type 0 = λ n. slice_index docs k < slice_index (x ∷ docs) n in let one_on : suc k + 1 ≡ suc (k + 1) = omega arith in subst P one_on (h.ascending (suc k) (omega arith));
+  ascending = λ k l. let P : ℕ → Type 0 = λ n. slice_index docs k < slice_index (x ∷ docs) n in
+      let one_on : suc k + 1 ≡ suc (k + 1) = omega arith in subst P one_on (h.ascending (suc k) (omega arith));
   below_end = λ k d l. h.below_end (suc k) d (omega arith);
 }
 

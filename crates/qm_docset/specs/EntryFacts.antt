@@ -23,7 +23,8 @@ from-skip t e es h = grind (arith, nat_tests)
 pub IsEntry-low : (low least : ℕ) (limits : Limits) (e : Entry) → least ≤ e.document → IsEntry low limits e → IsEntry least limits e
 IsEntry-low low least limits e h a = record { from_low = h; below_end = a.below_end; score = a.score; positions = a.positions }
 
-pub AreEntries-low : (low least : ℕ) (limits : Limits) (e : Entry) (es : List Entry) → least ≤ e.document → AreEntries low limits (e ∷ es) → AreEntries least limits (e ∷ es)
+pub AreEntries-low : (low least : ℕ) (limits : Limits) (e : Entry) (es : List Entry) →
+    least ≤ e.document → AreEntries low limits (e ∷ es) → AreEntries least limits (e ∷ es)
 AreEntries-low low least limits e es h a = record { here = IsEntry-low low least limits e h a.here; others = a.others }
 
 pub AreEntries-below : (low least : ℕ) (limits : Limits) (es : List Entry) → least ≤ low → AreEntries low limits es → AreEntries least limits es
@@ -33,7 +34,8 @@ AreEntries-below low least limits (e ∷ es) h a = AreEntries-low low least limi
 -- nothing is dropped below the first entry
 pub from-all : (t low : ℕ) (limits : Limits) (es : List Entry) → t ≤ low → AreEntries low limits es → from t es ≡ es
 from-all t low limits [] h a = from-nil t
-from-all t low limits (e ∷ es) h a = let here : t ≤ e.document = omega arith in from-keep t e es here ∙ ap (λ r. e ∷ r) (from-all t (e.document + 1) limits es (omega arith) a.others)
+from-all t low limits (e ∷ es) h a = let here : t ≤ e.document = omega arith in from-keep t e es here
+    ∙ ap (λ r. e ∷ r) (from-all t (e.document + 1) limits es (omega arith) a.others)
 
 -- a seek to 0 drops nothing
 pub from-zero : (es : List Entry) → from 0 es ≡ es
@@ -51,7 +53,8 @@ AreEntries-from t low limits [] a = rw (from-nil t) tt
 AreEntries-from t low limits (e ∷ es) a =
     elim (cases_lt e.document t) [
       | inl below ↦ rw (from-skip t e es below) (AreEntries-from t (e.document + 1) limits es a.others)
-      | inr kept ↦ rw (from-keep t e es kept) (record { here = IsEntry-low low t limits e kept a.here; others = rw (from-all t (e.document + 1) limits es (omega arith) a.others) a.others })
+      | inr kept ↦ rw (from-keep t e es kept)
+          (record { here = IsEntry-low low t limits e kept a.here; others = rw (from-all t (e.document + 1) limits es (omega arith) a.others) a.others })
     ]
 
 -- and they are still past where they began
@@ -59,17 +62,20 @@ pub AreEntries-from_low : (t low : ℕ) (limits : Limits) (es : List Entry) → 
 AreEntries-from_low t low limits [] a = rw (from-nil t) tt
 AreEntries-from_low t low limits (e ∷ es) a =
     elim (cases_lt e.document t) [
-      | inl below ↦ rw (from-skip t e es below) (AreEntries-below (e.document + 1) low limits (from t es) (omega arith) (AreEntries-from_low t (e.document + 1) limits es a.others))
+      | inl below ↦ rw (from-skip t e es below)
+          (AreEntries-below (e.document + 1) low limits (from t es) (omega arith) (AreEntries-from_low t (e.document + 1) limits es a.others))
       | inr kept ↦ rw (from-keep t e es kept) (record { here = a.here; others = AreEntries-from_low t (e.document + 1) limits es a.others })
     ]
 
 pub AreEntries-drop : (n low : ℕ) (limits : Limits) (es : List Entry) → AreEntries low limits es → AreEntries low limits (drop n es)
 AreEntries-drop zero low limits es a = a
 AreEntries-drop (suc n) low limits [] a = tt
-AreEntries-drop (suc n) low limits (e ∷ es) a = AreEntries-below (e.document + 1) low limits (drop n es) (omega arith) (AreEntries-drop n (e.document + 1) limits es a.others)
+AreEntries-drop (suc n) low limits (e ∷ es) a =
+    AreEntries-below (e.document + 1) low limits (drop n es) (omega arith) (AreEntries-drop n (e.document + 1) limits es a.others)
 
 -- a cursor stands from its lower bound on, and at TERMINATED at the most
-pub head_document-bounds : (low : ℕ) (limits : Limits) (es : List Entry) → low ≤ TERMINATED → AreEntries low limits es → (low ≤ head_document es) × (head_document es ≤ TERMINATED)
+pub head_document-bounds : (low : ℕ) (limits : Limits) (es : List Entry) → low ≤ TERMINATED →
+    AreEntries low limits es → (low ≤ head_document es) × (head_document es ≤ TERMINATED)
 head_document-bounds low limits [] h a = (h, omega arith)
 head_document-bounds low limits (e ∷ es) h a = (a.here.from_low, omega arith)
 
@@ -116,8 +122,10 @@ from-reached t low limits [] h a = from-nil t
 from-reached t low limits (e ∷ es) h a = from-all t e.document limits (e ∷ es) h (AreEntries-low low e.document limits e es (omega arith) a)
 
 -- the entries at or past a target are those from the first one on that is
-pub from-cut : (t n low : ℕ) (limits : Limits) (es : List Entry) → AreEntries low limits es → n ≤ length es → ((k : ℕ) → k < n → slice_index (documents es) k < t) → (n < length es → t ≤ slice_index (documents es) n) → from t es ≡ drop n es
+pub from-cut : (t n low : ℕ) (limits : Limits) (es : List Entry) → AreEntries low limits es → n ≤ length es →
+    ((k : ℕ) → k < n → slice_index (documents es) k < t) → (n < length es → t ≤ slice_index (documents es) n) → from t es ≡ drop n es
 from-cut t n low limits [] a h passed reached = from-nil t ∙ sym (drop_all n [] (omega arith))
 from-cut t zero low limits (e ∷ es) a h passed reached = from-reached t low limits (e ∷ es) (reached (omega arith)) a
 from-cut t (suc n) low limits (e ∷ es) a h passed reached =
-    from-skip t e es (passed 0 (omega arith)) ∙ from-cut t n (e.document + 1) limits es a.others (omega arith) (λ k l. passed (suc k) (omega arith)) (λ l. reached (omega arith))
+    from-skip t e es (passed 0 (omega arith))
+    ∙ from-cut t n (e.document + 1) limits es a.others (omega arith) (λ k l. passed (suc k) (omega arith)) (λ l. reached (omega arith))

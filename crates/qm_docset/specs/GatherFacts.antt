@@ -32,19 +32,23 @@ entries_of-before d low limits (e ∷ es) h a = entries_of-other d e es (omega a
 
 -- and one entry of the document that it begins with
 pub entries_of-first : (low : ℕ) (limits : Limits) (e : Entry) (es : List Entry) → AreEntries low limits (e ∷ es) → entries_of e.document (e ∷ es) ≡ e ∷ []
-entries_of-first low limits e es a = entries_of-here e.document e es refl ∙ ap (λ r. e ∷ r) (entries_of-before e.document (e.document + 1) limits es (omega arith) a.others)
+entries_of-first low limits e es a = entries_of-here e.document e es refl
+    ∙ ap (λ r. e ∷ r) (entries_of-before e.document (e.document + 1) limits es (omega arith) a.others)
 
 -- none of the documents before its first
 pub entries_of-ahead : (d low : ℕ) (limits : Limits) (es : List Entry) → AreEntries low limits es → d < head_document es → entries_of d es ≡ []
 entries_of-ahead d low limits es a h = entries_of-before d (head_document es) limits es h (AreEntries-head low limits es a)
 
 -- and one score of its first
-pub score_of-here : (d low : ℕ) (limits : Limits) (es : List Entry) → AreEntries low limits es → head_document es ≡ d → d < TERMINATED → map (λ e. e.score) (entries_of d es) ≡ head_score es ∷ []
+pub score_of-here : (d low : ℕ) (limits : Limits) (es : List Entry) → AreEntries low limits es →
+    head_document es ≡ d → d < TERMINATED → map (λ e. e.score) (entries_of d es) ≡ head_score es ∷ []
 score_of-here d low limits [] a here h = absurd (omega arith)
-score_of-here d low limits (e ∷ es) a here h = ap (λ n. map (λ x. x.score) (entries_of n (e ∷ es))) (sym here) ∙ ap (map (λ x. x.score)) (entries_of-first low limits e es a)
+score_of-here d low limits (e ∷ es) a here h = ap (λ n. map (λ x. x.score) (entries_of n (e ∷ es))) (sym here)
+    ∙ ap (map (λ x. x.score)) (entries_of-first low limits e es a)
 
 -- Two ascending lists that say the same of each document are equal.
-pub same_list : (low : ℕ) (limits others : Limits) (xs ys : List Entry) → AreEntries low limits xs → AreEntries low others ys → ((d : ℕ) → d < TERMINATED → entries_of d xs ≡ entries_of d ys) → xs ≡ ys
+pub same_list : (low : ℕ) (limits others : Limits) (xs ys : List Entry) → AreEntries low limits xs →
+    AreEntries low others ys → ((d : ℕ) → d < TERMINATED → entries_of d xs ≡ entries_of d ys) → xs ≡ ys
 same_list low limits others [] [] a b same = refl
 same_list low limits others [] (y ∷ ys) a b same =
     let none : [] ≡ y ∷ [] = sym (entries_of-nil y.document) ∙ same y.document b.here.below_end ∙ entries_of-first low others y ys b in
@@ -55,19 +59,23 @@ same_list low limits others (x ∷ xs) [] a b same =
 same_list low limits others (x ∷ xs) (y ∷ ys) a b same =
     elim (cases_order x.document y.document) [
       | inl level ↦
-          let first : x ∷ [] ≡ y ∷ [] = sym (entries_of-first low limits x xs a) ∙ same x.document a.here.below_end ∙ ap (λ d. entries_of d (y ∷ ys)) level ∙ entries_of-first low others y ys b in
+          let first : x ∷ [] ≡ y ∷ [] = sym (entries_of-first low limits x xs a) ∙ same x.document a.here.below_end
+          ∙ ap (λ d. entries_of d (y ∷ ys)) level ∙ entries_of-first low others y ys b in
           let rest : xs ≡ ys = same_list (x.document + 1) limits others xs ys a.others (rw level b.others) (λ d below.
           elim (cases_lt d (x.document + 1)) [
-            | inl before ↦ entries_of-before d (x.document + 1) limits xs before a.others ∙ sym (entries_of-before d (y.document + 1) others ys (omega arith) b.others)
+            | inl before ↦ entries_of-before d (x.document + 1) limits xs before a.others
+                ∙ sym (entries_of-before d (y.document + 1) others ys (omega arith) b.others)
             | inr past ↦ sym (entries_of-other d x xs (omega arith)) ∙ same d below ∙ entries_of-other d y ys (omega arith)
           ]) in
           cc
       | inr apart ↦ elim apart [
         | inl less ↦
-            let none : x ∷ [] ≡ [] = sym (entries_of-first low limits x xs a) ∙ same x.document a.here.below_end ∙ entries_of-before x.document y.document others (y ∷ ys) less (AreEntries-low low y.document others y ys (omega arith) b) in
+            let none : x ∷ [] ≡ [] = sym (entries_of-first low limits x xs a) ∙ same x.document a.here.below_end
+            ∙ entries_of-before x.document y.document others (y ∷ ys) less (AreEntries-low low y.document others y ys (omega arith) b) in
             cc
         | inr more ↦
-            let none : [] ≡ y ∷ [] = sym (entries_of-before y.document x.document limits (x ∷ xs) more (AreEntries-low low x.document limits x xs (omega arith) a)) ∙ same y.document b.here.below_end ∙ entries_of-first low others y ys b in
+            let none : [] ≡ y ∷ [] = sym (entries_of-before y.document x.document limits (x ∷ xs) more
+            (AreEntries-low low x.document limits x xs (omega arith) a)) ∙ same y.document b.here.below_end ∙ entries_of-first low others y ys b in
             cc
       ]
     ]
@@ -88,34 +96,42 @@ pub gathered-nil : (least : ℕ) (combined : List ℕ → ℕ) (ess : List (List
 unfolding gathered
 gathered-nil least combined ess = refl
 
-pub gathered-keep : (least : ℕ) (combined : List ℕ → ℕ) (d : ℕ) (ds : List ℕ) (ess : List (List Entry)) → least ≤ length (scores_at d ess) → gathered least combined (d ∷ ds) ess ≡ scored d (combined (scores_at d ess)) ∷ gathered least combined ds ess
+pub gathered-keep : (least : ℕ) (combined : List ℕ → ℕ) (d : ℕ) (ds : List ℕ) (ess : List (List Entry)) → least ≤ length (scores_at d ess) →
+    gathered least combined (d ∷ ds) ess ≡ scored d (combined (scores_at d ess)) ∷ gathered least combined ds ess
 unfolding gathered
 gathered-keep least combined d ds ess h = rw (le-leb least (length (scores_at d ess)) h)
 
-pub gathered-skip : (least : ℕ) (combined : List ℕ → ℕ) (d : ℕ) (ds : List ℕ) (ess : List (List Entry)) → length (scores_at d ess) < least → gathered least combined (d ∷ ds) ess ≡ gathered least combined ds ess
+pub gathered-skip : (least : ℕ) (combined : List ℕ → ℕ) (d : ℕ) (ds : List ℕ) (ess : List (List Entry)) →
+    length (scores_at d ess) < least → gathered least combined (d ∷ ds) ess ≡ gathered least combined ds ess
 unfolding gathered
 gathered-skip least combined d ds ess h = rw (lt-leb least (length (scores_at d ess)) h)
 
-AreEntries-gathered : (least : ℕ) (combined : List ℕ → ℕ) (top a n : ℕ) (ess : List (List Entry)) → a + n ≤ TERMINATED → IsWithin least combined top ess → AreEntries a (record { top = top; room = 0 }) (gathered least combined (range_with_len a n) ess)
+AreEntries-gathered : (least : ℕ) (combined : List ℕ → ℕ) (top a n : ℕ) (ess : List (List Entry)) → a + n ≤ TERMINATED →
+    IsWithin least combined top ess → AreEntries a (record { top = top; room = 0 }) (gathered least combined (range_with_len a n) ess)
 AreEntries-gathered least combined top a zero ess h within = rw (gathered-nil least combined ess) tt
 AreEntries-gathered least combined top a (suc n) ess h within =
     let rest = AreEntries-gathered least combined top (a + 1) n ess (omega arith) within in
     elim (cases_lt (length (scores_at a ess)) least) [
-      | inl few ↦ rw (gathered-skip least combined a (range_with_len (a + 1) n) ess few) (AreEntries-below (a + 1) a (record { top = top; room = 0 }) _ (omega arith) rest)
-      | inr enough ↦ rw (gathered-keep least combined a (range_with_len (a + 1) n) ess enough) (record { here = record { from_low = omega arith; below_end = omega arith; score = within a enough; positions = omega arith }; others = rest })
+      | inl few ↦ rw (gathered-skip least combined a (range_with_len (a + 1) n) ess few)
+          (AreEntries-below (a + 1) a (record { top = top; room = 0 }) _ (omega arith) rest)
+      | inr enough ↦ rw (gathered-keep least combined a (range_with_len (a + 1) n) ess enough)
+          (record { here = record { from_low = omega arith; below_end = omega arith; score = within a enough; positions = omega arith }; others = rest })
     ]
 
-AreEntries-gathered_below : (least : ℕ) (combined : List ℕ → ℕ) (top n : ℕ) (ess : List (List Entry)) → n ≤ TERMINATED → IsWithin least combined top ess → AreEntries 0 (record { top = top; room = 0 }) (gathered least combined (documents_below n) ess)
+AreEntries-gathered_below : (least : ℕ) (combined : List ℕ → ℕ) (top n : ℕ) (ess : List (List Entry)) → n ≤ TERMINATED →
+    IsWithin least combined top ess → AreEntries 0 (record { top = top; room = 0 }) (gathered least combined (documents_below n) ess)
 unfolding documents_below
 AreEntries-gathered_below least combined top n ess h within = AreEntries-gathered least combined top 0 n ess (omega arith) within
 
 -- what is gathered are a cursor's entries, within the bound on its scores and without positions
-pub AreEntries-gather : (least : ℕ) (combined : List ℕ → ℕ) (top : ℕ) (ess : List (List Entry)) → IsWithin least combined top ess → AreEntries 0 (record { top = top; room = 0 }) (gather least combined ess)
+pub AreEntries-gather : (least : ℕ) (combined : List ℕ → ℕ) (top : ℕ) (ess : List (List Entry)) →
+    IsWithin least combined top ess → AreEntries 0 (record { top = top; room = 0 }) (gather least combined ess)
 unfolding gather
 AreEntries-gather least combined top ess within = AreEntries-gathered_below least combined top TERMINATED ess (omega arith) within
 
 -- outside of the documents asked for nothing is gathered
-entries_of-gathered_out : (least : ℕ) (combined : List ℕ → ℕ) (d a n : ℕ) (ess : List (List Entry)) → (d < a) ⊎ (a + n ≤ d) → entries_of d (gathered least combined (range_with_len a n) ess) ≡ []
+entries_of-gathered_out : (least : ℕ) (combined : List ℕ → ℕ) (d a n : ℕ) (ess : List (List Entry)) →
+    (d < a) ⊎ (a + n ≤ d) → entries_of d (gathered least combined (range_with_len a n) ess) ≡ []
 entries_of-gathered_out least combined d a zero ess h = ap (entries_of d) (gathered-nil least combined ess) ∙ entries_of-nil d
 entries_of-gathered_out least combined d a (suc n) ess h =
     let es = gathered least combined (range_with_len (a + 1) n) ess in
@@ -124,11 +140,13 @@ entries_of-gathered_out least combined d a (suc n) ess h =
     let rest = entries_of-gathered_out least combined d (a + 1) n ess out in
     elim (cases_lt (length (scores_at a ess)) least) [
       | inl few ↦ ap (entries_of d) (gathered-skip least combined a (range_with_len (a + 1) n) ess few) ∙ rest
-      | inr many ↦ ap (entries_of d) (gathered-keep least combined a (range_with_len (a + 1) n) ess many) ∙ entries_of-other d (scored a (combined (scores_at a ess))) es other ∙ rest
+      | inr many ↦ ap (entries_of d) (gathered-keep least combined a (range_with_len (a + 1) n) ess many)
+          ∙ entries_of-other d (scored a (combined (scores_at a ess))) es other ∙ rest
     ]
 
 -- of a document that too few of the lists have nothing is gathered
-entries_of-gathered_few : (least : ℕ) (combined : List ℕ → ℕ) (d a n : ℕ) (ess : List (List Entry)) → length (scores_at d ess) < least → entries_of d (gathered least combined (range_with_len a n) ess) ≡ []
+entries_of-gathered_few : (least : ℕ) (combined : List ℕ → ℕ) (d a n : ℕ) (ess : List (List Entry)) →
+    length (scores_at d ess) < least → entries_of d (gathered least combined (range_with_len a n) ess) ≡ []
 entries_of-gathered_few least combined d a zero ess h = ap (entries_of d) (gathered-nil least combined ess) ∙ entries_of-nil d
 entries_of-gathered_few least combined d a (suc n) ess h =
     let es = gathered least combined (range_with_len (a + 1) n) ess in
@@ -137,10 +155,12 @@ entries_of-gathered_few least combined d a (suc n) ess h =
       | inl few ↦ ap (entries_of d) (gathered-skip least combined a (range_with_len (a + 1) n) ess few) ∙ rest
       | inr many ↦
           let other : a ≢ d = λ same. absurd (omega (arith, ap (λ x. length (scores_at x ess)) same)) in
-          ap (entries_of d) (gathered-keep least combined a (range_with_len (a + 1) n) ess many) ∙ entries_of-other d (scored a (combined (scores_at a ess))) es other ∙ rest
+          ap (entries_of d) (gathered-keep least combined a (range_with_len (a + 1) n) ess many)
+          ∙ entries_of-other d (scored a (combined (scores_at a ess))) es other ∙ rest
     ]
 
-entries_of-gathered : (least : ℕ) (combined : List ℕ → ℕ) (d a n : ℕ) (ess : List (List Entry)) → a ≤ d → d < a + n → least ≤ length (scores_at d ess) → entries_of d (gathered least combined (range_with_len a n) ess) ≡ scored d (combined (scores_at d ess)) ∷ []
+entries_of-gathered : (least : ℕ) (combined : List ℕ → ℕ) (d a n : ℕ) (ess : List (List Entry)) → a ≤ d → d < a + n →
+    least ≤ length (scores_at d ess) → entries_of d (gathered least combined (range_with_len a n) ess) ≡ scored d (combined (scores_at d ess)) ∷ []
 entries_of-gathered least combined d a zero ess h k enough = absurd (omega arith)
 entries_of-gathered least combined d a (suc n) ess h k enough =
     let es = gathered least combined (range_with_len (a + 1) n) ess in
@@ -156,36 +176,43 @@ entries_of-gathered least combined d a (suc n) ess h k enough =
           let rest = entries_of-gathered least combined d (a + 1) n ess (omega arith) (omega arith) enough in
           elim (cases_lt (length (scores_at a ess)) least) [
             | inl few ↦ ap (entries_of d) (gathered-skip least combined a (range_with_len (a + 1) n) ess few) ∙ rest
-            | inr many ↦ ap (entries_of d) (gathered-keep least combined a (range_with_len (a + 1) n) ess many) ∙ entries_of-other d (scored a (combined (scores_at a ess))) es other ∙ rest
+            | inr many ↦ ap (entries_of d) (gathered-keep least combined a (range_with_len (a + 1) n) ess many)
+                ∙ entries_of-other d (scored a (combined (scores_at a ess))) es other ∙ rest
           ]
     ]
 
-entries_of-gathered_below : (least : ℕ) (combined : List ℕ → ℕ) (d n : ℕ) (ess : List (List Entry)) → d < n → least ≤ length (scores_at d ess) → entries_of d (gathered least combined (documents_below n) ess) ≡ scored d (combined (scores_at d ess)) ∷ []
+entries_of-gathered_below : (least : ℕ) (combined : List ℕ → ℕ) (d n : ℕ) (ess : List (List Entry)) → d < n → least ≤ length (scores_at d ess) →
+    entries_of d (gathered least combined (documents_below n) ess) ≡ scored d (combined (scores_at d ess)) ∷ []
 unfolding documents_below
 entries_of-gathered_below least combined d n ess h enough = entries_of-gathered least combined d 0 n ess (omega arith) (omega arith) enough
 
-entries_of-gathered_below_few : (least : ℕ) (combined : List ℕ → ℕ) (d n : ℕ) (ess : List (List Entry)) → length (scores_at d ess) < least → entries_of d (gathered least combined (documents_below n) ess) ≡ []
+entries_of-gathered_below_few : (least : ℕ) (combined : List ℕ → ℕ) (d n : ℕ) (ess : List (List Entry)) →
+    length (scores_at d ess) < least → entries_of d (gathered least combined (documents_below n) ess) ≡ []
 unfolding documents_below
 entries_of-gathered_below_few least combined d n ess few = entries_of-gathered_few least combined d 0 n ess few
 
 -- what is gathered has a document that enough of the lists have, with what is made of its scores there
-pub entries_of-gather : (least : ℕ) (combined : List ℕ → ℕ) (d : ℕ) (ess : List (List Entry)) → d < TERMINATED → least ≤ length (scores_at d ess) → entries_of d (gather least combined ess) ≡ scored d (combined (scores_at d ess)) ∷ []
+pub entries_of-gather : (least : ℕ) (combined : List ℕ → ℕ) (d : ℕ) (ess : List (List Entry)) → d < TERMINATED →
+    least ≤ length (scores_at d ess) → entries_of d (gather least combined ess) ≡ scored d (combined (scores_at d ess)) ∷ []
 unfolding gather
 entries_of-gather least combined d ess h enough = entries_of-gathered_below least combined d TERMINATED ess h enough
 
 -- and no other
-pub entries_of-gather_few : (least : ℕ) (combined : List ℕ → ℕ) (d : ℕ) (ess : List (List Entry)) → length (scores_at d ess) < least → entries_of d (gather least combined ess) ≡ []
+pub entries_of-gather_few : (least : ℕ) (combined : List ℕ → ℕ) (d : ℕ) (ess : List (List Entry)) →
+    length (scores_at d ess) < least → entries_of d (gather least combined ess) ≡ []
 unfolding gather
 entries_of-gather_few least combined d ess few = entries_of-gathered_below_few least combined d TERMINATED ess few
 
 -- The scores of a document in the lists of cursors.
 
 -- a cursor's list has at most one entry of a document, and its score is at most the cursor's bound
-pub entries_of-most : (d low : ℕ) (limits : Limits) (es : List Entry) → AreEntries low limits es → (length (map (λ e. e.score) (entries_of d es)) ≤ 1) × (sum (map (λ e. e.score) (entries_of d es)) ≤ limits.top)
+pub entries_of-most : (d low : ℕ) (limits : Limits) (es : List Entry) → AreEntries low limits es →
+    (length (map (λ e. e.score) (entries_of d es)) ≤ 1) × (sum (map (λ e. e.score) (entries_of d es)) ≤ limits.top)
 entries_of-most d low limits [] a = rw (entries_of-nil d) (omega arith, omega arith)
 entries_of-most d low limits (e ∷ es) a =
     elim (cases_eq e.document d) [
-      | inl here ↦ rw (entries_of-here d e es here, entries_of-before d (e.document + 1) limits es (omega arith) a.others) (omega arith, omega (arith, sum_by-cons (λ x. x) e.score []))
+      | inl here ↦ rw (entries_of-here d e es here, entries_of-before d (e.document + 1) limits es (omega arith) a.others)
+          (omega arith, omega (arith, sum_by-cons (λ x. x) e.score []))
       | inr other ↦ rw (entries_of-other d e es other) (entries_of-most d (e.document + 1) limits es a.others)
     ]
 
@@ -198,21 +225,26 @@ length-scores_at d (limits ∷ bounds) (es ∷ ess) members =
     let rest = length-scores_at d bounds ess members.1 in
     rw (scores_at-cons d es ess) (omega (arith, length-append (map (λ e. e.score) (entries_of d es)) (scores_at d ess)))
 
-pub sum-scores_at : (d : ℕ) (bounds : List Limits) (ess : List (List Entry)) → AreMembers bounds ess → sum (scores_at d ess) ≤ sum_by (λ limits. limits.top) bounds
+pub sum-scores_at : (d : ℕ) (bounds : List Limits) (ess : List (List Entry)) →
+    AreMembers bounds ess → sum (scores_at d ess) ≤ sum_by (λ limits. limits.top) bounds
 sum-scores_at d [] [] members = rw (scores_at-nil d) (omega arith)
 sum-scores_at d [] (es ∷ ess) members = absurd members
 sum-scores_at d (limits ∷ bounds) [] members = absurd members
 sum-scores_at d (limits ∷ bounds) (es ∷ ess) members =
     let one = entries_of-most d 0 limits es members.0 in
     let rest = sum-scores_at d bounds ess members.1 in
-    rw (scores_at-cons d es ess, sum_by-append (λ x. x) (map (λ e. e.score) (entries_of d es)) (scores_at d ess), sum_by-cons (λ l. l.top) limits bounds) (omega arith)
+    rw (scores_at-cons d es ess, sum_by-append (λ x. x) (map (λ e. e.score) (entries_of d es)) (scores_at d ess), sum_by-cons (λ l. l.top) limits bounds)
+    (omega arith)
 
 -- Where the scores of a document are combined into at most `top` whenever they add up to at most the
 -- sum of the members' bounds, `top` bounds what is gathered.
-pub IsWithin-tops : (least : ℕ) (combined : List ℕ → ℕ) (top : ℕ) (bounds : List Limits) (ess : List (List Entry)) → AreMembers bounds ess → ((scores : List ℕ) → sum scores ≤ sum_by (λ limits. limits.top) bounds → combined scores ≤ top) → IsWithin least combined top ess
+pub IsWithin-tops : (least : ℕ) (combined : List ℕ → ℕ) (top : ℕ) (bounds : List Limits) (ess : List (List Entry)) → AreMembers bounds ess →
+    ((scores : List ℕ) → sum scores ≤ sum_by (λ limits. limits.top) bounds → combined scores ≤ top) → IsWithin least combined top ess
 IsWithin-tops least combined top bounds ess members bound d enough = bound (scores_at d ess) (sum-scores_at d bounds ess members)
 
 -- members by their cursors
-pub AreMembers-map : {X : Type 0} (bound : X → Limits) (list : X → List Entry) (xs : List X) → All (λ x. AreEntries 0 (bound x) (list x)) xs → AreMembers (map bound xs) (map list xs)
+pub AreMembers-map : {X : Type 0} (bound : X → Limits) (list : X → List Entry) (xs : List X) →
+    All (λ x. AreEntries 0 (bound x) (list x)) xs → AreMembers (map bound xs) (map list xs)
 AreMembers-map bound list [] all = tt
-AreMembers-map bound list (x ∷ xs) all = (All-head (λ y. AreEntries 0 (bound y) (list y)) x xs all, AreMembers-map bound list xs (All-tail (λ y. AreEntries 0 (bound y) (list y)) x xs all))
+AreMembers-map bound list (x ∷ xs) all =
+    (All-head (λ y. AreEntries 0 (bound y) (list y)) x xs all, AreMembers-map bound list xs (All-tail (λ y. AreEntries 0 (bound y) (list y)) x xs all))

@@ -55,20 +55,24 @@ filter-range_none p a (suc n) none =
     ap (λ b. cond b (a ∷ filter p (range_with_len (a + 1) n)) (filter p (range_with_len (a + 1) n))) (none a (omega arith) (omega arith))
     ∙ filter-range_none p (a + 1) n (λ d above below. none d (omega arith) (omega arith))
 
-filter-longer : (p : ℕ → Bool) (a n m : ℕ) → ((d : ℕ) → a + n ≤ d → d < a + n + m → p d ≡ false) → filter p (range_with_len a (n + m)) ≡ filter p (range_with_len a n)
+filter-longer : (p : ℕ → Bool) (a n m : ℕ) → ((d : ℕ) → a + n ≤ d → d < a + n + m → p d ≡ false) →
+    filter p (range_with_len a (n + m)) ≡ filter p (range_with_len a n)
 filter-longer p a zero m none = rw (zero-add m) (filter-range_none p a m (λ d above below. none d (omega arith) (omega arith)))
 filter-longer p a (suc n) m none =
     let more : suc n + m ≡ suc (n + m) = omega arith in
-    ap (λ k. filter p (range_with_len a k)) more ∙ ap (λ r. cond (p a) (a ∷ r) r) (filter-longer p (a + 1) n m (λ d above below. none d (omega arith) (omega arith)))
+    ap (λ k. filter p (range_with_len a k)) more
+    ∙ ap (λ r. cond (p a) (a ∷ r) r) (filter-longer p (a + 1) n m (λ d above below. none d (omega arith) (omega arith)))
 
 -- where no number from n on passes, those below n are all that do
-pub filter-below : (p : ℕ → Bool) (n most : ℕ) → n ≤ most → ((d : ℕ) → n ≤ d → d < most → p d ≡ false) → filter p (range_with_len 0 most) ≡ filter p (range_with_len 0 n)
+pub filter-below : (p : ℕ → Bool) (n most : ℕ) → n ≤ most → ((d : ℕ) → n ≤ d → d < most → p d ≡ false) →
+    filter p (range_with_len 0 most) ≡ filter p (range_with_len 0 n)
 filter-below p n most h none =
     let split : most ≡ n + (most - n) = omega arith in
     ap (λ k. filter p (range_with_len 0 k)) split ∙ filter-longer p 0 n (most - n) (λ d above below. none d (omega arith) (omega arith))
 
 -- whether a number is among those of a range that pass
-pub list_any-outside : (p : ℕ → Bool) (a n d : ℕ) → ((x : ℕ) → a ≤ x → x < a + n → (x == d) ≡ false) → list_any (λ y. y == d) (filter p (range_with_len a n)) ≡ false
+pub list_any-outside : (p : ℕ → Bool) (a n d : ℕ) → ((x : ℕ) → a ≤ x → x < a + n → (x == d) ≡ false) →
+    list_any (λ y. y == d) (filter p (range_with_len a n)) ≡ false
 list_any-outside p a zero d other = refl
 list_any-outside p a (suc n) d other =
     let rest = list_any-outside p (a + 1) n d (λ x above below. other x (omega arith) (omega arith)) in

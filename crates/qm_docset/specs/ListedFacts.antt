@@ -12,7 +12,8 @@ use Rattle.qm_docset.specs.Listed.{listed, IsNamed, IsNoneBelow, IsLimited, IsMo
 use Rattle.qm_docset.specs.declared.numbers.TheConstants.{TERMINATED}
 
 -- what enough of some lists have, with their scores combined, is such a list
-pub gather-listed : (least : ℕ) (combined : List ℕ → ℕ) (ess : List (List Entry)) → gather least combined ess ≡ listed (λ d. nat_le least (length (scores_at d ess))) (λ d. scored d (combined (scores_at d ess)))
+pub gather-listed : (least : ℕ) (combined : List ℕ → ℕ) (ess : List (List Entry)) →
+    gather least combined ess ≡ listed (λ d. nat_le least (length (scores_at d ess))) (λ d. scored d (combined (scores_at d ess)))
 unfolding gather gathered listed
 gather-listed least combined ess = refl
 
@@ -37,7 +38,8 @@ unfolding listed chosen
 listed-chosen kept made = refl
 
 -- It ascends.
-AreEntries-chosen : (limits : Limits) (kept : ℕ → Bool) (made : ℕ → Entry) (a n : ℕ) → a + n ≤ TERMINATED → IsNamed made → IsLimited limits kept made → AreEntries a limits (chosen kept made (range_with_len a n))
+AreEntries-chosen : (limits : Limits) (kept : ℕ → Bool) (made : ℕ → Entry) (a n : ℕ) → a + n ≤ TERMINATED →
+    IsNamed made → IsLimited limits kept made → AreEntries a limits (chosen kept made (range_with_len a n))
 AreEntries-chosen limits kept made a zero fits named within = rw (chosen-nil kept made) tt
 AreEntries-chosen limits kept made a (suc n) fits named within =
     let rest = AreEntries-chosen limits kept made (a + 1) n (omega arith) named within in
@@ -45,20 +47,31 @@ AreEntries-chosen limits kept made a (suc n) fits named within =
     elim (cases_Bool (kept a)) [
       | inl holds ↦
           let most = within a holds in
-          rw (chosen-keep kept made a (range_with_len (a + 1) n) holds) (record { here = record { from_low = omega arith; below_end = omega arith; score = most.0; positions = most.1 }; others = AreEntries-below (a + 1) ((made a).document + 1) limits _ (omega arith) rest })
+          rw (chosen-keep kept made a (range_with_len (a + 1) n) holds) (record {
+            here = record {
+              from_low = omega arith;
+              below_end = omega arith;
+              score = most.0;
+              positions = most.1;
+            };
+            others = AreEntries-below (a + 1) ((made a).document + 1) limits _ (omega arith) rest;
+          })
       | inr fails ↦ rw (chosen-skip kept made a (range_with_len (a + 1) n) fails) (AreEntries-below (a + 1) a limits _ (omega arith) rest)
     ]
 
-AreEntries-chosen_below : (limits : Limits) (kept : ℕ → Bool) (made : ℕ → Entry) (n : ℕ) → n ≤ TERMINATED → IsNamed made → IsLimited limits kept made → AreEntries 0 limits (chosen kept made (documents_below n))
+AreEntries-chosen_below : (limits : Limits) (kept : ℕ → Bool) (made : ℕ → Entry) (n : ℕ) → n ≤ TERMINATED →
+    IsNamed made → IsLimited limits kept made → AreEntries 0 limits (chosen kept made (documents_below n))
 unfolding documents_below
 AreEntries-chosen_below limits kept made n fits named within = AreEntries-chosen limits kept made 0 n (omega arith) named within
 
 -- such a list is that of a cursor within the limits
-pub AreEntries-listed : (limits : Limits) (kept : ℕ → Bool) (made : ℕ → Entry) → IsNamed made → IsLimited limits kept made → AreEntries 0 limits (listed kept made)
+pub AreEntries-listed : (limits : Limits) (kept : ℕ → Bool) (made : ℕ → Entry) →
+    IsNamed made → IsLimited limits kept made → AreEntries 0 limits (listed kept made)
 AreEntries-listed limits kept made named within = rw (listed-chosen kept made) (AreEntries-chosen_below limits kept made TERMINATED (omega arith) named within)
 
 -- A pass over the members drops what lies below its target.
-chosen-moved : (t : ℕ) (kept kept_new : ℕ → Bool) (made made_new : ℕ → Entry) (ds : List ℕ) → IsNamed made → IsMoved t kept made kept_new made_new → chosen kept_new made_new ds ≡ from t (chosen kept made ds)
+chosen-moved : (t : ℕ) (kept kept_new : ℕ → Bool) (made made_new : ℕ → Entry) (ds : List ℕ) → IsNamed made →
+    IsMoved t kept made kept_new made_new → chosen kept_new made_new ds ≡ from t (chosen kept made ds)
 chosen-moved t kept kept_new made made_new [] named moved = chosen-nil kept_new made_new ∙ sym (ap (from t) (chosen-nil kept made) ∙ from-nil t)
 chosen-moved t kept kept_new made made_new (d ∷ ds) named moved =
     let rest = chosen-moved t kept kept_new made made_new ds named moved in
@@ -83,30 +96,37 @@ chosen-moved t kept kept_new made made_new (d ∷ ds) named moved =
           ]
     ]
 
-pub listed-moved : (t : ℕ) (kept kept_new : ℕ → Bool) (made made_new : ℕ → Entry) → IsNamed made → IsMoved t kept made kept_new made_new → listed kept_new made_new ≡ from t (listed kept made)
+pub listed-moved : (t : ℕ) (kept kept_new : ℕ → Bool) (made made_new : ℕ → Entry) → IsNamed made →
+    IsMoved t kept made kept_new made_new → listed kept_new made_new ≡ from t (listed kept made)
 listed-moved t kept kept_new made made_new named moved =
-    listed-chosen kept_new made_new ∙ chosen-moved t kept kept_new made made_new (documents_below TERMINATED) named moved ∙ ap (from t) (sym (listed-chosen kept made))
+    listed-chosen kept_new made_new ∙ chosen-moved t kept kept_new made made_new (documents_below TERMINATED) named moved
+    ∙ ap (from t) (sym (listed-chosen kept made))
 
 -- nothing is dropped where nothing is kept below the target
 pub listed-reached : (t : ℕ) (kept : ℕ → Bool) (made : ℕ → Entry) → IsNamed made → IsNoneBelow t kept → listed kept made ≡ from t (listed kept made)
-listed-reached t kept made named bare = listed-moved t kept kept made made named (record { none_below = bare; same_test = λ d past. refl; same_entry = λ d past holds. refl })
+listed-reached t kept made named bare =
+    listed-moved t kept kept made made named (record { none_below = bare; same_test = λ d past. refl; same_entry = λ d past holds. refl })
 
-chosen-same : (kept kept_new : ℕ → Bool) (made made_new : ℕ → Entry) (ds : List ℕ) → ((d : ℕ) → kept_new d ≡ kept d) → ((d : ℕ) → kept d ≡ true → made_new d ≡ made d) → chosen kept_new made_new ds ≡ chosen kept made ds
+chosen-same : (kept kept_new : ℕ → Bool) (made made_new : ℕ → Entry) (ds : List ℕ) → ((d : ℕ) → kept_new d ≡ kept d) →
+    ((d : ℕ) → kept d ≡ true → made_new d ≡ made d) → chosen kept_new made_new ds ≡ chosen kept made ds
 chosen-same kept kept_new made made_new [] test entry = chosen-nil kept_new made_new ∙ sym (chosen-nil kept made)
 chosen-same kept kept_new made made_new (d ∷ ds) test entry =
     let rest = chosen-same kept kept_new made made_new ds test entry in
     elim (cases_Bool (kept d)) [
-      | inl holds ↦ chosen-keep kept_new made_new d ds (test d ∙ holds) ∙ ap (λ e. e ∷ chosen kept_new made_new ds) (entry d holds) ∙ ap (λ r. made d ∷ r) rest ∙ sym (chosen-keep kept made d ds holds)
+      | inl holds ↦ chosen-keep kept_new made_new d ds (test d ∙ holds) ∙ ap (λ e. e ∷ chosen kept_new made_new ds) (entry d holds)
+          ∙ ap (λ r. made d ∷ r) rest ∙ sym (chosen-keep kept made d ds holds)
       | inr fails ↦ chosen-skip kept_new made_new d ds (test d ∙ fails) ∙ rest ∙ sym (chosen-skip kept made d ds fails)
     ]
 
 -- tests that agree, and entries that agree where documents are kept, make the same list
-pub listed-same : (kept kept_new : ℕ → Bool) (made made_new : ℕ → Entry) → ((d : ℕ) → kept_new d ≡ kept d) → ((d : ℕ) → kept d ≡ true → made_new d ≡ made d) → listed kept_new made_new ≡ listed kept made
+pub listed-same : (kept kept_new : ℕ → Bool) (made made_new : ℕ → Entry) → ((d : ℕ) → kept_new d ≡ kept d) →
+    ((d : ℕ) → kept d ≡ true → made_new d ≡ made d) → listed kept_new made_new ≡ listed kept made
 listed-same kept kept_new made made_new test entry =
     listed-chosen kept_new made_new ∙ chosen-same kept kept_new made made_new (documents_below TERMINATED) test entry ∙ sym (listed-chosen kept made)
 
 -- It begins with the first document that is kept.
-chosen-past : (t a n : ℕ) (kept : ℕ → Bool) (made : ℕ → Entry) → t ≤ a → IsNamed made → from t (chosen kept made (range_with_len a n)) ≡ chosen kept made (range_with_len a n)
+chosen-past : (t a n : ℕ) (kept : ℕ → Bool) (made : ℕ → Entry) → t ≤ a → IsNamed made →
+    from t (chosen kept made (range_with_len a n)) ≡ chosen kept made (range_with_len a n)
 chosen-past t a zero kept made h named = ap (from t) (chosen-nil kept made) ∙ from-nil t ∙ sym (chosen-nil kept made)
 chosen-past t a (suc n) kept made h named =
     let ds = range_with_len (a + 1) n in
@@ -114,11 +134,13 @@ chosen-past t a (suc n) kept made h named =
     let reached : t ≤ (made a).document = omega arith in
     let rest = chosen-past t (a + 1) n kept made (omega arith) named in
     elim (cases_Bool (kept a)) [
-      | inl holds ↦ ap (from t) (chosen-keep kept made a ds holds) ∙ from-keep t (made a) (chosen kept made ds) reached ∙ ap (λ r. made a ∷ r) rest ∙ sym (chosen-keep kept made a ds holds)
+      | inl holds ↦ ap (from t) (chosen-keep kept made a ds holds) ∙ from-keep t (made a) (chosen kept made ds) reached
+          ∙ ap (λ r. made a ∷ r) rest ∙ sym (chosen-keep kept made a ds holds)
       | inr fails ↦ ap (from t) (chosen-skip kept made a ds fails) ∙ rest ∙ sym (chosen-skip kept made a ds fails)
     ]
 
-chosen-first : (d a n : ℕ) (kept : ℕ → Bool) (made : ℕ → Entry) → a ≤ d → d < a + n → IsNamed made → IsNoneBelow d kept → kept d ≡ true → chosen kept made (range_with_len a n) ≡ made d ∷ from (d + 1) (chosen kept made (range_with_len a n))
+chosen-first : (d a n : ℕ) (kept : ℕ → Bool) (made : ℕ → Entry) → a ≤ d → d < a + n → IsNamed made → IsNoneBelow d kept →
+    kept d ≡ true → chosen kept made (range_with_len a n) ≡ made d ∷ from (d + 1) (chosen kept made (range_with_len a n))
 chosen-first d a zero kept made low high named bare here = absurd (omega arith)
 chosen-first d a (suc n) kept made low high named bare here =
     let ds = range_with_len (a + 1) n in
@@ -133,20 +155,24 @@ chosen-first d a (suc n) kept made low high named bare here =
           let name = named a in
           let below : (made a).document < d + 1 = omega arith in
           let rest : from (d + 1) (chosen kept made ds) ≡ chosen kept made ds = chosen-past (d + 1) (a + 1) n kept made (omega arith) named in
-          first ∙ ap (λ x. made x ∷ chosen kept made ds) (sym same) ∙ ap (λ r. made d ∷ r) (sym (ap (from (d + 1)) first ∙ from-skip (d + 1) (made a) (chosen kept made ds) below ∙ rest))
+          first ∙ ap (λ x. made x ∷ chosen kept made ds) (sym same)
+          ∙ ap (λ r. made d ∷ r) (sym (ap (from (d + 1)) first ∙ from-skip (d + 1) (made a) (chosen kept made ds) below ∙ rest))
     ]
 
-chosen_below-first : (d n : ℕ) (kept : ℕ → Bool) (made : ℕ → Entry) → d < n → IsNamed made → IsNoneBelow d kept → kept d ≡ true → chosen kept made (documents_below n) ≡ made d ∷ from (d + 1) (chosen kept made (documents_below n))
+chosen_below-first : (d n : ℕ) (kept : ℕ → Bool) (made : ℕ → Entry) → d < n → IsNamed made → IsNoneBelow d kept →
+    kept d ≡ true → chosen kept made (documents_below n) ≡ made d ∷ from (d + 1) (chosen kept made (documents_below n))
 unfolding documents_below
 chosen_below-first d n kept made below named bare here = chosen-first d 0 n kept made (omega arith) (omega arith) named bare here
 
 -- the first of the list, and the rest, which a cursor's step leaves
-pub listed-first : (d : ℕ) (kept : ℕ → Bool) (made : ℕ → Entry) → d < TERMINATED → IsNamed made → IsNoneBelow d kept → kept d ≡ true → listed kept made ≡ made d ∷ from (d + 1) (listed kept made)
+pub listed-first : (d : ℕ) (kept : ℕ → Bool) (made : ℕ → Entry) → d < TERMINATED → IsNamed made →
+    IsNoneBelow d kept → kept d ≡ true → listed kept made ≡ made d ∷ from (d + 1) (listed kept made)
 listed-first d kept made below named bare here = rw (listed-chosen kept made) (chosen_below-first d TERMINATED kept made below named bare here)
 
 chosen-none : (a n : ℕ) (kept : ℕ → Bool) (made : ℕ → Entry) → IsNoneBelow (a + n) kept → chosen kept made (range_with_len a n) ≡ []
 chosen-none a zero kept made bare = chosen-nil kept made
-chosen-none a (suc n) kept made bare = chosen-skip kept made a (range_with_len (a + 1) n) (bare a (omega arith)) ∙ chosen-none (a + 1) n kept made (λ d h. bare d (omega arith))
+chosen-none a (suc n) kept made bare = chosen-skip kept made a (range_with_len (a + 1) n) (bare a (omega arith))
+    ∙ chosen-none (a + 1) n kept made (λ d h. bare d (omega arith))
 
 chosen_below-none : (n : ℕ) (kept : ℕ → Bool) (made : ℕ → Entry) → IsNoneBelow n kept → chosen kept made (documents_below n) ≡ []
 unfolding documents_below
@@ -165,13 +191,15 @@ head_document-past t (e ∷ es) h =
     ]
 
 -- where nothing is kept below a bound, the list begins there or later
-pub head_document-listed : (t : ℕ) (kept : ℕ → Bool) (made : ℕ → Entry) → t ≤ TERMINATED → IsNamed made → IsNoneBelow t kept → t ≤ head_document (listed kept made)
+pub head_document-listed : (t : ℕ) (kept : ℕ → Bool) (made : ℕ → Entry) → t ≤ TERMINATED →
+    IsNamed made → IsNoneBelow t kept → t ≤ head_document (listed kept made)
 head_document-listed t kept made below named bare =
     let all = listed-reached t kept made named bare in
     omega (arith, head_document-past t (listed kept made) below, ap head_document all)
 
 -- What the list says of each document.
-entries_of-chosen_out : (d a n : ℕ) (kept : ℕ → Bool) (made : ℕ → Entry) → (d < a) ⊎ (a + n ≤ d) → IsNamed made → entries_of d (chosen kept made (range_with_len a n)) ≡ []
+entries_of-chosen_out : (d a n : ℕ) (kept : ℕ → Bool) (made : ℕ → Entry) → (d < a) ⊎ (a + n ≤ d) →
+    IsNamed made → entries_of d (chosen kept made (range_with_len a n)) ≡ []
 entries_of-chosen_out d a zero kept made out named = ap (entries_of d) (chosen-nil kept made) ∙ entries_of-nil d
 entries_of-chosen_out d a (suc n) kept made out named =
     let ds = range_with_len (a + 1) n in
@@ -184,7 +212,8 @@ entries_of-chosen_out d a (suc n) kept made out named =
       | inr fails ↦ ap (entries_of d) (chosen-skip kept made a ds fails) ∙ rest
     ]
 
-entries_of-chosen : (d a n : ℕ) (kept : ℕ → Bool) (made : ℕ → Entry) → a ≤ d → d < a + n → IsNamed made → kept d ≡ true → entries_of d (chosen kept made (range_with_len a n)) ≡ made d ∷ []
+entries_of-chosen : (d a n : ℕ) (kept : ℕ → Bool) (made : ℕ → Entry) → a ≤ d → d < a + n →
+    IsNamed made → kept d ≡ true → entries_of d (chosen kept made (range_with_len a n)) ≡ made d ∷ []
 entries_of-chosen d a zero kept made low high named here = absurd (omega arith)
 entries_of-chosen d a (suc n) kept made low high named here =
     let ds = range_with_len (a + 1) n in
@@ -205,7 +234,8 @@ entries_of-chosen d a (suc n) kept made low high named here =
           ]
     ]
 
-entries_of-chosen_lacks : (d a n : ℕ) (kept : ℕ → Bool) (made : ℕ → Entry) → IsNamed made → kept d ≡ false → entries_of d (chosen kept made (range_with_len a n)) ≡ []
+entries_of-chosen_lacks : (d a n : ℕ) (kept : ℕ → Bool) (made : ℕ → Entry) → IsNamed made →
+    kept d ≡ false → entries_of d (chosen kept made (range_with_len a n)) ≡ []
 entries_of-chosen_lacks d a zero kept made named lacks = ap (entries_of d) (chosen-nil kept made) ∙ entries_of-nil d
 entries_of-chosen_lacks d a (suc n) kept made named lacks =
     let ds = range_with_len (a + 1) n in
@@ -218,16 +248,19 @@ entries_of-chosen_lacks d a (suc n) kept made named lacks =
       | inr fails ↦ ap (entries_of d) (chosen-skip kept made a ds fails) ∙ rest
     ]
 
-entries_of-chosen_below : (d n : ℕ) (kept : ℕ → Bool) (made : ℕ → Entry) → d < n → IsNamed made → kept d ≡ true → entries_of d (chosen kept made (documents_below n)) ≡ made d ∷ []
+entries_of-chosen_below : (d n : ℕ) (kept : ℕ → Bool) (made : ℕ → Entry) → d < n → IsNamed made →
+    kept d ≡ true → entries_of d (chosen kept made (documents_below n)) ≡ made d ∷ []
 unfolding documents_below
 entries_of-chosen_below d n kept made below named here = entries_of-chosen d 0 n kept made (omega arith) (omega arith) named here
 
-entries_of-chosen_below_lacks : (d n : ℕ) (kept : ℕ → Bool) (made : ℕ → Entry) → IsNamed made → kept d ≡ false → entries_of d (chosen kept made (documents_below n)) ≡ []
+entries_of-chosen_below_lacks : (d n : ℕ) (kept : ℕ → Bool) (made : ℕ → Entry) →
+    IsNamed made → kept d ≡ false → entries_of d (chosen kept made (documents_below n)) ≡ []
 unfolding documents_below
 entries_of-chosen_below_lacks d n kept made named lacks = entries_of-chosen_lacks d 0 n kept made named lacks
 
 -- one entry of a document that is kept
-pub entries_of-listed : (d : ℕ) (kept : ℕ → Bool) (made : ℕ → Entry) → d < TERMINATED → IsNamed made → kept d ≡ true → entries_of d (listed kept made) ≡ made d ∷ []
+pub entries_of-listed : (d : ℕ) (kept : ℕ → Bool) (made : ℕ → Entry) → d < TERMINATED →
+    IsNamed made → kept d ≡ true → entries_of d (listed kept made) ≡ made d ∷ []
 entries_of-listed d kept made below named here = ap (entries_of d) (listed-chosen kept made) ∙ entries_of-chosen_below d TERMINATED kept made below named here
 
 -- and none of another

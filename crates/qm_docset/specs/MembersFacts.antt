@@ -13,7 +13,8 @@ counted has low zero fits = tt
 counted has low (suc n) fits =
     let rest = counted has (low + 1) n (omega arith) in
     elim (cases_Bool (has low)) [
-      | inl has_it ↦ rw has_it (record { here = record { from_low = omega arith; below_end = omega arith; score = omega arith; positions = omega arith }; others = rest })
+      | inl has_it ↦
+          rw has_it (record { here = record { from_low = omega arith; below_end = omega arith; score = omega arith; positions = omega arith }; others = rest })
       | inr lacks ↦ rw lacks (AreEntries-below (low + 1) low no_limits (map plain (filter has (range_with_len (low + 1) n))) (omega arith) rest)
     ]
 
@@ -22,5 +23,6 @@ unfolding members_between
 AreEntries-members_between has low high fits =
     elim (cases_lt high low) [
       | inl past ↦ let none : high - low ≡ 0 = omega arith in rw none tt
-      | inr within ↦ AreEntries-below low 0 no_limits (map plain (filter has (range_with_len low (high - low)))) (omega arith) (counted has low (high - low) (omega arith))
+      | inr within ↦
+          AreEntries-below low 0 no_limits (map plain (filter has (range_with_len low (high - low)))) (omega arith) (counted has low (high - low) (omega arith))
     ]

@@ -15,8 +15,10 @@ entries_of-from d t (e ∷ es) h =
     elim (cases_lt e.document t) [
       | inl below ↦ ap (entries_of d) (from-skip t e es below) ∙ entries_of-from d t es h ∙ sym (entries_of-other d e es (omega arith))
       | inr kept ↦ elim (cases_eq e.document d) [
-        | inl here ↦ ap (entries_of d) (from-keep t e es kept) ∙ entries_of-here d e (from t es) here ∙ ap (λ r. e ∷ r) (entries_of-from d t es h) ∙ sym (entries_of-here d e es here)
-        | inr other ↦ ap (entries_of d) (from-keep t e es kept) ∙ entries_of-other d e (from t es) other ∙ entries_of-from d t es h ∙ sym (entries_of-other d e es other)
+        | inl here ↦ ap (entries_of d) (from-keep t e es kept) ∙ entries_of-here d e (from t es) here
+            ∙ ap (λ r. e ∷ r) (entries_of-from d t es h) ∙ sym (entries_of-here d e es here)
+        | inr other ↦ ap (entries_of d) (from-keep t e es kept) ∙ entries_of-other d e (from t es) other
+            ∙ entries_of-from d t es h ∙ sym (entries_of-other d e es other)
       ]
     ]
 
@@ -33,9 +35,11 @@ scores_at-from d t [] h = refl
 scores_at-from d t (es ∷ ess) h =
     let first = entries_of-from d t es h in
     let rest = scores_at-from d t ess h in
-    scores_at-cons d (from t es) (map (from t) ess) ∙ ap (λ r. map (λ e. e.score) r ++ scores_at d (map (from t) ess)) first ∙ ap (λ r. map (λ e. e.score) (entries_of d es) ++ r) rest ∙ sym (scores_at-cons d es ess)
+    scores_at-cons d (from t es) (map (from t) ess) ∙ ap (λ r. map (λ e. e.score) r ++ scores_at d (map (from t) ess)) first
+    ∙ ap (λ r. map (λ e. e.score) (entries_of d es) ++ r) rest ∙ sym (scores_at-cons d es ess)
 
 pub scores_at-from_past : (d t : ℕ) (ess : List (List Entry)) → d < t → scores_at d (map (from t) ess) ≡ []
 scores_at-from_past d t [] h = scores_at-nil d
 scores_at-from_past d t (es ∷ ess) h =
-    scores_at-cons d (from t es) (map (from t) ess) ∙ ap (λ r. map (λ e. e.score) r ++ scores_at d (map (from t) ess)) (entries_of-from_past d t es h) ∙ scores_at-from_past d t ess h
+    scores_at-cons d (from t es) (map (from t) ess)
+    ∙ ap (λ r. map (λ e. e.score) r ++ scores_at d (map (from t) ess)) (entries_of-from_past d t es h) ∙ scores_at-from_past d t ess h

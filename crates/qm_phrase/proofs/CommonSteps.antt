@@ -1,5 +1,6 @@
 -- The places that all of some sets have: as starts without slop, and collected one after another.
-use Rattle.std.proofs.Common.{◌≡◌, ◌≢◌, ℕ, zero, suc, ◌+◌, ◌<◌, ◌≤◌, Bool, true, false, ◌&&◌, ◌||◌, ◌==◌, List, [], ◌∷◌, ◌++◌, All, length, map, get_or, refl, ap, sym, ◌∙◌, arith, inl, inr}
+use Rattle.std.proofs.Common.{◌≡◌, ◌≢◌, ℕ, zero, suc, ◌+◌, ◌<◌, ◌≤◌, Bool, true, false, ◌&&◌, ◌||◌, ◌==◌, List, [], ◌∷◌, ◌++◌, All, length, map, get_or, refl}
+use Rattle.std.proofs.Common.{ap, sym, ◌∙◌, arith, inl, inr}
 use Rattle.std.specs.List.{count_by, list_all, range_with_len, sum_by}
 use Rattle.std.proofs.lemmas.Bool.{cases_Bool, cases_lt, cases_eq, eq-eqb, ne_eqb, le-leb, lt-leb}
 use Rattle.std.proofs.lemmas.List.Elements.{All-nil, All-cons, All-head, All-tail}
@@ -10,7 +11,8 @@ use Rattle.qm_postings.specs.Positions.{is_in}
 use Rattle.qm_phrase.specs.PhrasePrefix.{IsCommonOf, common_below, common_count, is_common}
 use Rattle.qm_phrase.specs.Places.{Ascends, first_place, greatest_first, least_first, past}
 use Rattle.qm_phrase.specs.Starts.{all_places, has_near, is_place, is_start, starts, starts_below}
-use Rattle.qm_phrase.proofs.StartSteps.{All-least, All-past, and_false, count_by-none, count_by-same, is_start-least, is_start-past, is_start-past_here, least_first-past, near-empty, one_if, starts-ended, starts-step}
+use Rattle.qm_phrase.proofs.StartSteps.{All-least, All-past, and_false, count_by-none, count_by-same, is_start-least, is_start-past, is_start-past_here}
+use Rattle.qm_phrase.proofs.StartSteps.{least_first-past, near-empty, one_if, starts-ended, starts-step}
 
 -- A place that all have is a start without slop.
 
@@ -150,7 +152,8 @@ is_in-push_other : (x y : ℕ) (ps : List ℕ) → y ≢ x → is_in y (ps ++ x 
 is_in-push_other x y ps other = list_any-append (λ p. y == p) ps (x ∷ []) ∙ rw (ne_eqb y x other) (or_false (is_in y ps))
 
 -- a place that all begin with is found
-pub collected-common : (all left : List (List ℕ)) (found : List ℕ) (x : ℕ) → x ≡ least_first left → x ≡ greatest_first left → x < all_places → IsCollected all left found → IsCollected all (map (past x) left) (found ++ x ∷ [])
+pub collected-common : (all left : List (List ℕ)) (found : List ℕ) (x : ℕ) → x ≡ least_first left → x ≡ greatest_first left →
+    x < all_places → IsCollected all left found → IsCollected all (map (past x) left) (found ++ x ∷ [])
 collected-common all left found x least greatest under was =
     let rows = All-least x left (omega arith) was.rows in
     let below : All (λ p. p < x) found = below-later (least_first left) x found (omega arith) was.below in
@@ -164,15 +167,18 @@ collected-common all left found x least greatest under was =
         | inl same ↦
             let found_here = is_in-push_here x y found same in
             let starts_here : is_start 0 left y ≡ true = ap (is_start 0 left) same ∙ start in
-            ap (λ b. b || is_start 0 (map (past x) left) y) found_here ∙ sym (or_true (is_in y found)) ∙ ap (λ b. is_in y found || b) (sym starts_here) ∙ was.members y
+            ap (λ b. b || is_start 0 (map (past x) left) y) found_here ∙ sym (or_true (is_in y found))
+            ∙ ap (λ b. is_in y found || b) (sym starts_here) ∙ was.members y
         | inr other ↦
-            ap (λ b. b || is_start 0 (map (past x) left) y) (is_in-push_other x y found other) ∙ ap (λ b. is_in y found || b) (sym (is_start-past 0 x left rows y other)) ∙ was.members y
+            ap (λ b. b || is_start 0 (map (past x) left) y) (is_in-push_other x y found other)
+            ∙ ap (λ b. is_in y found || b) (sym (is_start-past 0 x left rows y other)) ∙ was.members y
       ];
       number = omega (arith, length-append found (x ∷ []), step, ap one_if start, was.number);
     }
 
 -- a place that one lacks is not
-pub collected-skip : (all left : List (List ℕ)) (found : List ℕ) (x : ℕ) → x ≡ least_first left → x < greatest_first left → greatest_first left < all_places → IsCollected all left found → IsCollected all (map (past x) left) found
+pub collected-skip : (all left : List (List ℕ)) (found : List ℕ) (x : ℕ) → x ≡ least_first left → x < greatest_first left →
+    greatest_first left < all_places → IsCollected all left found → IsCollected all (map (past x) left) found
 collected-skip all left found x least greatest under was =
     let rows = All-least x left (omega arith) was.rows in
     let below : x < all_places = omega arith in
@@ -194,7 +200,8 @@ collected-skip all left found x least greatest under was =
     }
 
 -- where a set has no place left, all are found
-pub collected-all : (all left : List (List ℕ)) (found : List ℕ) → 0 < length all → greatest_first left ≡ all_places → IsCollected all left found → IsCommonOf all found
+pub collected-all : (all left : List (List ℕ)) (found : List ℕ) → 0 < length all →
+    greatest_first left ≡ all_places → IsCollected all left found → IsCommonOf all found
 collected-all all left found some ended was = record {
   ascends = was.ascends;
   members = λ x.
@@ -209,7 +216,8 @@ pub first-common : (x : ℕ) (sets : List (List ℕ)) → 0 < length sets → x 
 first-common x [] some least greatest = absurd (omega arith)
 first-common x (s ∷ sets) some least greatest = omega arith
 
-pub shorter-common : (x : ℕ) (sets : List (List ℕ)) → 0 < length sets → x < all_places → first_place (get_or sets 0 []) ≡ x → length (get_or (map (past x) sets) 0 []) + 1 ≡ length (get_or sets 0 [])
+pub shorter-common : (x : ℕ) (sets : List (List ℕ)) → 0 < length sets → x < all_places →
+    first_place (get_or sets 0 []) ≡ x → length (get_or (map (past x) sets) 0 []) + 1 ≡ length (get_or sets 0 [])
 shorter-common x [] some under first = absurd (omega arith)
 shorter-common x ([] ∷ sets) some under first = absurd (omega arith)
 shorter-common x ((p ∷ ps) ∷ sets) some under first = rw (eq-eqb p x first) (omega arith)

@@ -3,7 +3,8 @@ use Rattle.std.proofs.Common.{◌≡◌, ℕ, zero, suc, ◌+◌, ◌<◌, ◌�
 use Rattle.std.proofs.lemmas.List.{append-nil, drop_all, take_all}
 
 -- one more element was changed
-pub each_more : {X Y : Type 0} (f : X → Y) (g : Y → Y) (rows : List X) (ys : List Y) (i : ℕ) (x d : X) → i < length rows → map f rows ≡ map g (take i ys) ++ drop i ys → f x ≡ g (f (get_or rows i d)) → map f (set rows i x) ≡ map g (take (i + 1) ys) ++ drop (i + 1) ys
+pub each_more : {X Y : Type 0} (f : X → Y) (g : Y → Y) (rows : List X) (ys : List Y) (i : ℕ) (x d : X) → i < length rows →
+    map f rows ≡ map g (take i ys) ++ drop i ys → f x ≡ g (f (get_or rows i d)) → map f (set rows i x) ≡ map g (take (i + 1) ys) ++ drop (i + 1) ys
 each_more f g [] ys i x d h so_far here = absurd (omega arith)
 each_more f g (r ∷ rows) [] zero x d h so_far here = absurd (cc)
 each_more f g (r ∷ rows) [] (suc i) x d h so_far here = absurd (cc)
@@ -22,7 +23,8 @@ pub each_done : {Y : Type 0} (g : Y → Y) (ys : List Y) (i : ℕ) → length ys
 each_done g ys i h = ap (λ r. map g r ++ drop i ys) (take_all i ys h) ∙ ap (λ r. map g ys ++ r) (drop_all i ys h) ∙ append-nil (map g ys)
 
 -- one more element was changed, into what a list says of it
-pub each_set : {X Y : Type 0} (f : X → Y) (rows : List X) (zs ys : List Y) (i : ℕ) (x : X) (e : Y) → i < length rows → length zs ≡ length rows → length ys ≡ length rows → map f rows ≡ take i zs ++ drop i ys → f x ≡ get_or zs i e → map f (set rows i x) ≡ take (i + 1) zs ++ drop (i + 1) ys
+pub each_set : {X Y : Type 0} (f : X → Y) (rows : List X) (zs ys : List Y) (i : ℕ) (x : X) (e : Y) → i < length rows → length zs ≡ length rows →
+    length ys ≡ length rows → map f rows ≡ take i zs ++ drop i ys → f x ≡ get_or zs i e → map f (set rows i x) ≡ take (i + 1) zs ++ drop (i + 1) ys
 each_set f [] zs ys i x e h long wide so_far here = absurd (omega arith)
 each_set f (r ∷ rows) [] ys i x e h long wide so_far here = absurd (omega arith)
 each_set f (r ∷ rows) (z ∷ zs) [] i x e h long wide so_far here = absurd (omega arith)

@@ -43,7 +43,9 @@ module _ {P : Type 0} (D : Ghosts P) where
       fold_max-le 4294967295 0 (map offset items) (omega arith) (All-map (λ x. x ≤ 4294967295) offset items all)
 
   -- split from their offsets they are terms
-  pub AreTerms-split : (items : List (ℕ × P)) (members : List P) (places : List Places) (greatest : ℕ) → 0 < length items → greatest ≤ 4294967295 → All (λ pair. D.valid pair.1) items → members ≡ map (λ pair. pair.1) items → map shift_of places ≡ map (λ pair. greatest - pair.0) items → AreRoomy (bounds D members) (map room_of places) → AreTerms D members places
+  pub AreTerms-split : (items : List (ℕ × P)) (members : List P) (places : List Places) (greatest : ℕ) → 0 < length items →
+      greatest ≤ 4294967295 → All (λ pair. D.valid pair.1) items → members ≡ map (λ pair. pair.1) items →
+      map shift_of places ≡ map (λ pair. greatest - pair.0) items → AreRoomy (bounds D members) (map room_of places) → AreTerms D members places
   AreTerms-split items members places greatest two most valid is shifts roomy =
       let postings_of : ℕ × P → P = λ pair. pair.1 in
       let shift : ℕ × P → ℕ = λ pair. greatest - pair.0 in
@@ -55,23 +57,34 @@ module _ {P : Type 0} (D : Ghosts P) where
       }
 
   -- a document with a start has a length id
-  first_lacks : (ids : List ℕ) (d : ℕ) (items : List (ℕ × P)) → 0 < length items → All (λ pair. AreCovered ids (D.entries pair.1)) items → length ids ≤ d → positions_at d (get_or (lists D (map (λ pair. pair.1) items)) 0 []) ≡ []
+  first_lacks : (ids : List ℕ) (d : ℕ) (items : List (ℕ × P)) → 0 < length items → All (λ pair. AreCovered ids (D.entries pair.1)) items →
+      length ids ≤ d → positions_at d (get_or (lists D (map (λ pair. pair.1) items)) 0 []) ≡ []
   first_lacks ids d [] two covered past = absurd (omega arith)
   first_lacks ids d (pair ∷ items) two covered past =
       ap head_positions (uncovered ids d (D.entries pair.1) (All-head (λ (p : ℕ × P). AreCovered ids (D.entries p.1)) pair items covered) past)
 
-  pub covered-split : (ids : List ℕ) (slop d : ℕ) (items : List (ℕ × P)) (members : List P) (places : List Places) → 0 < length items → All (λ pair. AreCovered ids (D.entries pair.1)) items → members ≡ map (λ pair. pair.1) items → AreTerms D members places → 0 < term_starts D slop members places d → d < length ids
+  pub covered-split : (ids : List ℕ) (slop d : ℕ) (items : List (ℕ × P)) (members : List P) (places : List Places) →
+      0 < length items → All (λ pair. AreCovered ids (D.entries pair.1)) items → members ≡ map (λ pair. pair.1) items →
+      AreTerms D members places → 0 < term_starts D slop members places d → d < length ids
   covered-split ids slop d items members places two covered is terms some =
       elim (cases_lt d (length ids)) [
         | inl within ↦ within
         | inr past ↦
-            let none : positions_at d (get_or (lists D members) 0 []) ≡ [] = ap (λ r. positions_at d (get_or (lists D r) 0 [])) is ∙ first_lacks ids d items two covered past in
+            let none : positions_at d (get_or (lists D members) 0 []) ≡ [] = ap (λ r. positions_at d (get_or (lists D r) 0 [])) is
+            ∙ first_lacks ids d items two covered past in
             let long = length-map members D.entries in
-            absurd (omega (arith, some, starts_at-lacks slop d 0 (map shift_of places) (lists D members) (omega (arith, paired D members places terms)) (omega (arith, terms.some)) none))
+            absurd (omega (
+              arith,
+              some,
+              starts_at-lacks slop d 0 (map shift_of places) (lists D members)
+                  (omega (arith, paired D members places terms)) (omega (arith, terms.some)) none,
+            ))
       ]
 
   -- and list what those handed in do
-  pub entries-split : (points : ℕ → ℕ → ℕ) (slop : ℕ) (items : List (ℕ × P)) (members : List P) (places : List Places) → members ≡ map (λ pair. pair.1) items → map shift_of places ≡ map (λ pair. fold max 0 (map (λ p. p.0) items) - pair.0) items → phrase_entries points slop (map shift_of places) (lists D members) ≡ phrase_entries points slop (shifts_of (map (λ pair. pair.0) items)) (map (λ pair. D.entries pair.1) items)
+  pub entries-split : (points : ℕ → ℕ → ℕ) (slop : ℕ) (items : List (ℕ × P)) (members : List P) (places : List Places) → members ≡ map (λ pair. pair.1) items →
+      map shift_of places ≡ map (λ pair. fold max 0 (map (λ p. p.0) items) - pair.0) items → phrase_entries points slop (map shift_of places) (lists D members)
+      ≡ phrase_entries points slop (shifts_of (map (λ pair. pair.0) items)) (map (λ pair. D.entries pair.1) items)
   entries-split points slop items members places is shifts =
       let postings_of : ℕ × P → P = λ pair. pair.1 in
       let offset : ℕ × P → ℕ = λ pair. pair.0 in
@@ -80,7 +93,9 @@ module _ {P : Type 0} (D : Ghosts P) where
       ap (λ s. phrase_entries points slop s (lists D members)) each ∙ ap (phrase_entries points slop (shifts_of (map offset items))) all
 
   -- so does the number of starts in a document
-  pub starts-split : (slop d : ℕ) (items : List (ℕ × P)) (members : List P) (places : List Places) → members ≡ map (λ pair. pair.1) items → map shift_of places ≡ map (λ pair. fold max 0 (map (λ p. p.0) items) - pair.0) items → term_starts D slop members places d ≡ starts_at slop (shifts_of (map (λ pair. pair.0) items)) (map (λ pair. D.entries pair.1) items) d
+  pub starts-split : (slop d : ℕ) (items : List (ℕ × P)) (members : List P) (places : List Places) →
+      members ≡ map (λ pair. pair.1) items → map shift_of places ≡ map (λ pair. fold max 0 (map (λ p. p.0) items) - pair.0) items →
+      term_starts D slop members places d ≡ starts_at slop (shifts_of (map (λ pair. pair.0) items)) (map (λ pair. D.entries pair.1) items) d
   starts-split slop d items members places is shifts =
       let postings_of : ℕ × P → P = λ pair. pair.1 in
       let offset : ℕ × P → ℕ = λ pair. pair.0 in

@@ -1,5 +1,6 @@
 -- A list of documents with points, by how many starts each has.
-use Rattle.std.proofs.Common.{◌≡◌, ℕ, get_or, length, Option, Some, None, Ok, Err, ◌+◌, ◌<◌, ◌≤◌, nat_lt, Bool, true, false, List, [], ◌∷◌, drop, min, refl, ap, sym, ◌∙◌, arith, inl, inr}
+use Rattle.std.proofs.Common.{◌≡◌, ℕ, get_or, length, Option, Some, None, Ok, Err, ◌+◌, ◌<◌, ◌≤◌, nat_lt, Bool, true, false, List, [], ◌∷◌, drop, min, refl, ap}
+use Rattle.std.proofs.Common.{sym, ◌∙◌, arith, inl, inr}
 use Rattle.std.proofs.lemmas.Bool.{cases_Bool, cases_lt, lt-ltb}
 use Rattle.std.proofs.lemmas.List.{get_or_default}
 use Rattle.qm_docset.specs.Entry.{Entry, Limits, AreEntries, from, head_document, head_score}
@@ -30,17 +31,21 @@ kept-none n none = ap (λ m. nat_lt 0 (held m)) none
 kept-some : (n : ℕ) → 0 < n → nat_lt 0 (held n) ≡ true
 kept-some n some = lt-ltb 0 (held n) (omega arith)
 
-pub by_counts-moved : (points : ℕ → ℕ → ℕ) (t : ℕ) (f g : ℕ → ℕ) → ((d : ℕ) → d < t → f d ≡ 0) → ((d : ℕ) → t ≤ d → f d ≡ g d) → by_counts points f ≡ from t (by_counts points g)
+pub by_counts-moved : (points : ℕ → ℕ → ℕ) (t : ℕ) (f g : ℕ → ℕ) → ((d : ℕ) → d < t → f d ≡ 0) →
+    ((d : ℕ) → t ≤ d → f d ≡ g d) → by_counts points f ≡ from t (by_counts points g)
 by_counts-moved points t f g behind same =
-    listed-moved t (λ d. nat_lt 0 (held (g d))) (λ d. nat_lt 0 (held (f d))) (λ d. scored d (points d (held (g d)))) (λ d. scored d (points d (held (f d)))) (λ d. refl) (record {
+    listed-moved t (λ d. nat_lt 0 (held (g d))) (λ d. nat_lt 0 (held (f d)))
+    (λ d. scored d (points d (held (g d)))) (λ d. scored d (points d (held (f d)))) (λ d. refl) (record {
       none_below = λ d below. kept-none (f d) (behind d below);
       same_test = λ d past. ap (λ n. nat_lt 0 (held n)) (same d past);
       same_entry = λ d past here. ap (λ n. scored d (points d (held n))) (same d past);
     })
 
-pub by_counts-first : (points : ℕ → ℕ → ℕ) (d : ℕ) (f : ℕ → ℕ) → d < TERMINATED → ((e : ℕ) → e < d → f e ≡ 0) → 0 < f d → by_counts points f ≡ scored d (points d (held (f d))) ∷ from (d + 1) (by_counts points f)
+pub by_counts-first : (points : ℕ → ℕ → ℕ) (d : ℕ) (f : ℕ → ℕ) → d < TERMINATED → ((e : ℕ) → e < d → f e ≡ 0) →
+    0 < f d → by_counts points f ≡ scored d (points d (held (f d))) ∷ from (d + 1) (by_counts points f)
 by_counts-first points d f below behind some =
-    listed-first d (λ e. nat_lt 0 (held (f e))) (λ e. scored e (points e (held (f e)))) below (λ e. refl) (λ e h. kept-none (f e) (behind e h)) (kept-some (f d) some)
+    listed-first d (λ e. nat_lt 0 (held (f e))) (λ e. scored e (points e (held (f e)))) below
+    (λ e. refl) (λ e h. kept-none (f e) (behind e h)) (kept-some (f d) some)
 
 pub by_counts-bound : (points : ℕ → ℕ → ℕ) (t : ℕ) (f : ℕ → ℕ) → t ≤ TERMINATED → ((d : ℕ) → d < t → f d ≡ 0) → t ≤ head_document (by_counts points f)
 by_counts-bound points t f below behind =
@@ -51,7 +56,8 @@ by_counts-none points f behind =
     listed-none (λ e. nat_lt 0 (held (f e))) (λ e. scored e (points e (held (f e)))) (λ e h. kept-none (f e) (behind e h))
 
 -- it begins with the first document that has a start
-pub by_counts-head : (points : ℕ → ℕ → ℕ) (d : ℕ) (f : ℕ → ℕ) → d ≤ TERMINATED → ((e : ℕ) → e < d → f e ≡ 0) → (d < TERMINATED → 0 < f d) → d ≡ head_document (by_counts points f)
+pub by_counts-head : (points : ℕ → ℕ → ℕ) (d : ℕ) (f : ℕ → ℕ) → d ≤ TERMINATED →
+    ((e : ℕ) → e < d → f e ≡ 0) → (d < TERMINATED → 0 < f d) → d ≡ head_document (by_counts points f)
 by_counts-head points d f most behind some =
     elim (cases_lt d TERMINATED) [
       | inl here ↦ sym (ap head_document (by_counts-first points d f here behind (some here)))
@@ -62,35 +68,50 @@ by_counts-head points d f most behind some =
 
 module _ {P : Type 0} (D : Ghosts P) where
   -- after a search for a start, the terms count the same from the target on, and nothing before it
-  pub found-behind : (slop most target : ℕ) (found : ℕ × ℕ) (members : List P) (places : List Places) (new : List P) (places_new : List Places) → IsFirstStart D slop most target members places found → AreMovedTo D slop found.0 members places new places_new → (d : ℕ) → d < target → term_starts D slop new places_new d ≡ 0
+  pub found-behind : (slop most target : ℕ) (found : ℕ × ℕ) (members : List P) (places : List Places) (new : List P) (places_new : List Places) →
+      IsFirstStart D slop most target members places found → AreMovedTo D slop found.0 members places new places_new →
+      (d : ℕ) → d < target → term_starts D slop new places_new d ≡ 0
   found-behind slop most target found members places new places_new first moved d h = moved.behind d (omega (arith, first.within.0))
 
-  pub found-same : (slop most target : ℕ) (found : ℕ × ℕ) (members : List P) (places : List Places) (new : List P) (places_new : List Places) → IsFirstStart D slop most target members places found → AreMovedTo D slop found.0 members places new places_new → (d : ℕ) → target ≤ d → term_starts D slop new places_new d ≡ term_starts D slop members places d
+  pub found-same : (slop most target : ℕ) (found : ℕ × ℕ) (members : List P) (places : List Places) (new : List P) (places_new : List Places) →
+      IsFirstStart D slop most target members places found → AreMovedTo D slop found.0 members places new places_new →
+      (d : ℕ) → target ≤ d → term_starts D slop new places_new d ≡ term_starts D slop members places d
   found-same slop most target found members places new places_new first moved d h =
       elim (cases_lt d found.0) [
         | inl before ↦ moved.behind d before ∙ sym (first.bare d h before)
         | inr past ↦ starts-ahead D slop found.0 d members places new places_new moved past
       ]
 
-  found-some : (slop most target : ℕ) (found : ℕ × ℕ) (members : List P) (places : List Places) (new : List P) (places_new : List Places) → IsFirstStart D slop most target members places found → AreMovedTo D slop found.0 members places new places_new → found.0 < TERMINATED → 0 < term_starts D slop new places_new found.0
+  found-some : (slop most target : ℕ) (found : ℕ × ℕ) (members : List P) (places : List Places) (new : List P) (places_new : List Places) →
+      IsFirstStart D slop most target members places found → AreMovedTo D slop found.0 members places new places_new →
+      found.0 < TERMINATED → 0 < term_starts D slop new places_new found.0
   found-some slop most target found members places new places_new first moved below =
       let here = first.here below in
       omega (arith, here.0, here.1, starts-ahead D slop found.0 found.0 members places new places_new moved (omega arith))
 
-  pub found-entries : (points : ℕ → ℕ → ℕ) (slop most target : ℕ) (found : ℕ × ℕ) (members : List P) (places : List Places) (new : List P) (places_new : List Places) → IsFirstStart D slop most target members places found → AreMovedTo D slop found.0 members places new places_new → by_counts points (term_starts D slop new places_new) ≡ from target (by_counts points (term_starts D slop members places))
+  pub found-entries : (points : ℕ → ℕ → ℕ) (slop most target : ℕ) (found : ℕ × ℕ) (members : List P) (places : List Places) (new : List P)
+      (places_new : List Places) → IsFirstStart D slop most target members places found → AreMovedTo D slop found.0 members places new places_new →
+      by_counts points (term_starts D slop new places_new) ≡ from target (by_counts points (term_starts D slop members places))
   found-entries points slop most target found members places new places_new first moved =
-      by_counts-moved points target (term_starts D slop new places_new) (term_starts D slop members places) (found-behind slop most target found members places new places_new first moved) (found-same slop most target found members places new places_new first moved)
+      by_counts-moved points target (term_starts D slop new places_new) (term_starts D slop members places) (found-behind slop most target
+      found members places new places_new first moved) (found-same slop most target found members places new places_new first moved)
 
-  pub found-head : (points : ℕ → ℕ → ℕ) (slop most target : ℕ) (found : ℕ × ℕ) (members : List P) (places : List Places) (new : List P) (places_new : List Places) → IsFirstStart D slop most target members places found → AreMovedTo D slop found.0 members places new places_new → found.0 ≡ head_document (by_counts points (term_starts D slop new places_new))
+  pub found-head : (points : ℕ → ℕ → ℕ) (slop most target : ℕ) (found : ℕ × ℕ) (members : List P) (places : List Places)
+      (new : List P) (places_new : List Places) → IsFirstStart D slop most target members places found →
+      AreMovedTo D slop found.0 members places new places_new → found.0 ≡ head_document (by_counts points (term_starts D slop new places_new))
   found-head points slop most target found members places new places_new first moved =
-      by_counts-head points found.0 (term_starts D slop new places_new) first.within.1 moved.behind (found-some slop most target found members places new places_new first moved)
+      by_counts-head points found.0 (term_starts D slop new places_new) first.within.1 moved.behind
+      (found-some slop most target found members places new places_new first moved)
 
-  pub found-count : (slop most target : ℕ) (found : ℕ × ℕ) (members : List P) (places : List Places) (new : List P) (places_new : List Places) → IsFirstStart D slop most target members places found → AreMovedTo D slop found.0 members places new places_new → found.0 < TERMINATED → found.1 ≡ min most (term_starts D slop new places_new found.0)
+  pub found-count : (slop most target : ℕ) (found : ℕ × ℕ) (members : List P) (places : List Places) (new : List P) (places_new : List Places) →
+      IsFirstStart D slop most target members places found → AreMovedTo D slop found.0 members places new places_new →
+      found.0 < TERMINATED → found.1 ≡ min most (term_starts D slop new places_new found.0)
   found-count slop most target found members places new places_new first moved below =
       (first.here below).1 ∙ ap (min most) (sym (starts-ahead D slop found.0 found.0 members places new places_new moved (omega arith)))
 
   -- what is left of the starts was there before
-  pub moved-some : (slop target : ℕ) (members : List P) (places : List Places) (new : List P) (places_new : List Places) → AreMovedTo D slop target members places new places_new → (d : ℕ) → 0 < term_starts D slop new places_new d → 0 < term_starts D slop members places d
+  pub moved-some : (slop target : ℕ) (members : List P) (places : List Places) (new : List P) (places_new : List Places) →
+      AreMovedTo D slop target members places new places_new → (d : ℕ) → 0 < term_starts D slop new places_new d → 0 < term_starts D slop members places d
   moved-some slop target members places new places_new moved d some =
       elim (cases_lt d target) [
         | inl before ↦ absurd (omega (arith, moved.behind d before, some))
@@ -98,7 +119,8 @@ module _ {P : Type 0} (D : Ghosts P) where
       ]
 
   -- and is as many
-  pub moved-same : (slop target : ℕ) (members : List P) (places : List Places) (new : List P) (places_new : List Places) → AreMovedTo D slop target members places new places_new → (d : ℕ) → 0 < term_starts D slop new places_new d → term_starts D slop new places_new d ≡ term_starts D slop members places d
+  pub moved-same : (slop target : ℕ) (members : List P) (places : List Places) (new : List P) (places_new : List Places) → AreMovedTo D slop target members
+      places new places_new → (d : ℕ) → 0 < term_starts D slop new places_new d → term_starts D slop new places_new d ≡ term_starts D slop members places d
   moved-same slop target members places new places_new moved d some =
       elim (cases_lt d target) [
         | inl before ↦ absurd (omega (arith, moved.behind d before, some))
@@ -106,10 +128,12 @@ module _ {P : Type 0} (D : Ghosts P) where
       ]
 
 -- where a cursor stands on a document, that one is kept, and its entry is what is made of it
-pub listed-stands : (limits : Limits) (kept : ℕ → Bool) (made : ℕ → Entry) (d : ℕ) (es : List Entry) → es ≡ listed kept made → AreEntries 0 limits es → IsNamed made → d ≡ head_document es → d < TERMINATED → (kept d ≡ true) × (es ≡ made d ∷ drop 1 es)
+pub listed-stands : (limits : Limits) (kept : ℕ → Bool) (made : ℕ → Entry) (d : ℕ) (es : List Entry) → es ≡ listed kept made →
+    AreEntries 0 limits es → IsNamed made → d ≡ head_document es → d < TERMINATED → (kept d ≡ true) × (es ≡ made d ∷ drop 1 es)
 listed-stands limits kept made d [] is a named here below = absurd (omega arith)
 listed-stands limits kept made d (e ∷ es) is a named here below =
-    let first : entries_of d (listed kept made) ≡ e ∷ [] = ap (entries_of d) (sym is) ∙ ap (λ n. entries_of n (e ∷ es)) here ∙ entries_of-first 0 limits e es a in
+    let first : entries_of d (listed kept made) ≡ e ∷ [] = ap (entries_of d) (sym is)
+    ∙ ap (λ n. entries_of n (e ∷ es)) here ∙ entries_of-first 0 limits e es a in
     elim (cases_Bool (kept d)) [
       | inl holds ↦
           let same : made d ≡ e = cc (entries_of-listed d kept made below named holds, first) in
@@ -117,9 +141,11 @@ listed-stands limits kept made d (e ∷ es) is a named here below =
       | inr fails ↦ absurd (cc (entries_of-listed_lacks d kept made named fails, first))
     ]
 
-pub by_counts-stands : (limits : Limits) (points : ℕ → ℕ → ℕ) (d : ℕ) (f : ℕ → ℕ) → AreEntries 0 limits (by_counts points f) → d ≡ head_document (by_counts points f) → d < TERMINATED → (0 < f d) × (head_score (by_counts points f) ≡ points d (held (f d)))
+pub by_counts-stands : (limits : Limits) (points : ℕ → ℕ → ℕ) (d : ℕ) (f : ℕ → ℕ) → AreEntries 0 limits (by_counts points f) →
+    d ≡ head_document (by_counts points f) → d < TERMINATED → (0 < f d) × (head_score (by_counts points f) ≡ points d (held (f d)))
 by_counts-stands limits points d f a here below =
-    let stands = listed-stands limits (λ e. nat_lt 0 (held (f e))) (λ e. scored e (points e (held (f e)))) d (by_counts points f) refl a (λ e. refl) here below in (
+    let stands =
+    listed-stands limits (λ e. nat_lt 0 (held (f e))) (λ e. scored e (points e (held (f e)))) d (by_counts points f) refl a (λ e. refl) here below in (
       elim (cases_lt 0 (f d)) [
         | inl some ↦ some
         | inr none ↦ absurd (cc (kept-none (f d) (omega arith), stands.0))
@@ -128,7 +154,8 @@ by_counts-stands limits points d f a here below =
     )
 
 -- what the weight gives a count at the document's length id
-pub points-some : (given : Option Bm25Weight) (weight : Bm25Weight) (ids : List ℕ) (d count id n : ℕ) → given ≡ Some weight → d < length ids → id ≡ get_or ids d id → count ≡ min (most_counted given) n → bm25 (weighing weight) id count ≡ phrase_points given ids d (held n)
+pub points-some : (given : Option Bm25Weight) (weight : Bm25Weight) (ids : List ℕ) (d count id n : ℕ) → given ≡ Some weight → d < length ids →
+    id ≡ get_or ids d id → count ≡ min (most_counted given) n → bm25 (weighing weight) id count ≡ phrase_points given ids d (held n)
 points-some None weight ids d count id n is below read counted = absurd (cc)
 points-some (Some other) weight ids d count id n is below read counted =
     let same : other ≡ weight = cc in
@@ -141,16 +168,26 @@ points-none (Some weight) ids d n is = absurd (cc)
 
 module _ {P : Type 0} (D : Ghosts P) where
   -- after a look at one document, the terms count the same from there on, and nothing before it
-  pub look-entries : (points : ℕ → ℕ → ℕ) (slop target : ℕ) (members : List P) (places : List Places) (new : List P) (places_new : List Places) → AreMovedTo D slop target members places new places_new → by_counts points (term_starts D slop new places_new) ≡ from target (by_counts points (term_starts D slop members places))
+  pub look-entries : (points : ℕ → ℕ → ℕ) (slop target : ℕ) (members : List P) (places : List Places) (new : List P) (places_new : List Places) →
+      AreMovedTo D slop target members places new places_new →
+      by_counts points (term_starts D slop new places_new) ≡ from target (by_counts points (term_starts D slop members places))
   look-entries points slop target members places new places_new moved =
-      by_counts-moved points target (term_starts D slop new places_new) (term_starts D slop members places) moved.behind (λ d h. starts-ahead D slop target d members places new places_new moved h)
+      by_counts-moved points target (term_starts D slop new places_new) (term_starts D slop members places) moved.behind
+      (λ d h. starts-ahead D slop target d members places new places_new moved h)
 
-  pub look-found : (points : ℕ → ℕ → ℕ) (slop most target count : ℕ) (members : List P) (places : List Places) (new : List P) (places_new : List Places) → target < TERMINATED → AreMovedTo D slop target members places new places_new → IsLook D slop most target members places (Ok count) → (target ≡ head_document (by_counts points (term_starts D slop new places_new))) × (count ≡ min most (term_starts D slop new places_new target))
+  pub look-found : (points : ℕ → ℕ → ℕ) (slop most target count : ℕ) (members : List P) (places : List Places) (new : List P) (places_new : List Places) →
+      target < TERMINATED → AreMovedTo D slop target members places new places_new → IsLook D slop most target members places (Ok count) →
+      (target ≡ head_document (by_counts points (term_starts D slop new places_new))) × (count ≡ min most (term_starts D slop new places_new target))
   look-found points slop most target count members places new places_new below moved look =
-      let same = starts-ahead D slop target target members places new places_new moved (omega arith) in
-      (by_counts-head points target (term_starts D slop new places_new) (omega arith) moved.behind (λ h. omega (arith, look.0, look.1, same)), look.1 ∙ ap (min most) (sym same))
+      let same = starts-ahead D slop target target members places new places_new moved (omega arith) in (
+        by_counts-head points target (term_starts D slop new places_new) (omega arith) moved.behind (λ h. omega (arith, look.0, look.1, same)),
+        look.1
+            ∙ ap (min most) (sym same),
+      )
 
-  pub look-bound : (points : ℕ → ℕ → ℕ) (slop most target bound : ℕ) (members : List P) (places : List Places) (new : List P) (places_new : List Places) → AreMovedTo D slop target members places new places_new → IsLook D slop most target members places (Err bound) → bound ≤ head_document (by_counts points (term_starts D slop new places_new))
+  pub look-bound : (points : ℕ → ℕ → ℕ) (slop most target bound : ℕ) (members : List P) (places : List Places) (new : List P) (places_new : List Places) →
+      AreMovedTo D slop target members places new places_new → IsLook D slop most target members places (Err bound) →
+      bound ≤ head_document (by_counts points (term_starts D slop new places_new))
   look-bound points slop most target bound members places new places_new moved look =
       by_counts-bound points bound (term_starts D slop new places_new) look.1 (λ d h. elim (cases_lt d target) [
         | inl before ↦ moved.behind d before

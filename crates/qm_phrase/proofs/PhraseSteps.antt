@@ -24,10 +24,12 @@ positions_at-from t d (es ∷ ess) h =
     let rest = positions_at-from t d ess h in
     λ i. here i ∷ rest i
 
-pub starts_at-from : (slop t d : ℕ) (shifts : List ℕ) (new old : List (List Entry)) → t ≤ d → map (from t) new ≡ map (from t) old → starts_at slop shifts new d ≡ starts_at slop shifts old d
+pub starts_at-from : (slop t d : ℕ) (shifts : List ℕ) (new old : List (List Entry)) → t ≤ d →
+    map (from t) new ≡ map (from t) old → starts_at slop shifts new d ≡ starts_at slop shifts old d
 unfolding sets_at
 starts_at-from slop t d shifts new old h same =
-    let positions : map (positions_at d) new ≡ map (positions_at d) old = sym (positions_at-from t d new h) ∙ ap (map (positions_at d)) same ∙ positions_at-from t d old h in
+    let positions : map (positions_at d) new ≡ map (positions_at d) old = sym (positions_at-from t d new h)
+    ∙ ap (map (positions_at d)) same ∙ positions_at-from t d old h in
     ap (λ r. starts slop (shifted_each shifts r)) positions
 
 -- Where one list lacks a document, there is no start.
@@ -35,18 +37,22 @@ starts_at-from slop t d shifts new old h same =
 near-lacks : (slop y k : ℕ) (sets : List (List ℕ)) → k < length sets → get_or sets k [] ≡ [] → list_all (λ s. has_near slop y s) sets ≡ false
 near-lacks slop y k sets h none = list_all_at (λ s. has_near slop y s) sets k [] h (ap (λ s. has_near slop y s) none)
 
-pub starts_at-lacks : (slop d k : ℕ) (shifts : List ℕ) (ess : List (List Entry)) → length shifts ≡ length ess → k < length ess → positions_at d (get_or ess k []) ≡ [] → starts_at slop shifts ess d ≡ 0
+pub starts_at-lacks : (slop d k : ℕ) (shifts : List ℕ) (ess : List (List Entry)) → length shifts ≡ length ess →
+    k < length ess → positions_at d (get_or ess k []) ≡ [] → starts_at slop shifts ess d ≡ 0
 unfolding sets_at
 starts_at-lacks slop d k shifts ess paired h none =
     let positions = map (positions_at d) ess in
     let long = length-map ess (positions_at d) in
-    let set : get_or (shifted_each shifts positions) k [] ≡ [] = get_or-shifted_each shifts positions k 0 [] [] (omega arith) (omega arith) ∙ ap (λ ps. map (λ p. p + get_or shifts k 0) ps) (get_or-map (positions_at d) ess k [] [] h ∙ none) in
+    let set : get_or (shifted_each shifts positions) k [] ≡ [] = get_or-shifted_each shifts positions k 0 [] [] (omega arith) (omega arith)
+    ∙ ap (λ ps. map (λ p. p + get_or shifts k 0) ps) (get_or-map (positions_at d) ess k [] [] h ∙ none) in
     let sets = shifted_each shifts positions in
     let wide = length-shifted_each shifts positions (omega arith) in
     starts-none slop sets (λ y. ap (λ b. is_place sets y && b) (near-lacks slop y k sets (omega arith) set) ∙ and_false (is_place sets y))
 
 -- no start before the place of one of the terms
-pub starts_at-behind : {X : Type 0} (valid : X → Type 0) (bound : X → Limits) (list : X → List Entry) → ((x : X) → valid x → AreEntries 0 (bound x) (list x)) → (slop d t : ℕ) (shifts : List ℕ) (xs : List X) → All valid xs → length shifts ≡ length xs → Any (λ x. t ≤ head_document (list x)) xs → d < t → starts_at slop shifts (map list xs) d ≡ 0
+pub starts_at-behind : {X : Type 0} (valid : X → Type 0) (bound : X → Limits) (list : X → List Entry) →
+    ((x : X) → valid x → AreEntries 0 (bound x) (list x)) → (slop d t : ℕ) (shifts : List ℕ) (xs : List X) → All valid xs →
+    length shifts ≡ length xs → Any (λ x. t ≤ head_document (list x)) xs → d < t → starts_at slop shifts (map list xs) d ≡ 0
 starts_at-behind valid bound list law slop d t shifts xs all paired one h =
     let k = one.0 in
     let x = one.1 in
@@ -58,7 +64,8 @@ starts_at-behind valid bound list law slop d t shifts xs all paired one h =
     starts_at-lacks slop d k shifts (map list xs) (omega (arith, length-map xs list)) (omega (arith, length-map xs list)) (ap (positions_at d) here ∙ none)
 
 -- the first of some members that stand on a document
-pub first_stands : {X : Type 0} (Placed : X → Type 0) (list : X → List Entry) (d : ℕ) (xs : List X) → 0 < length xs → All (λ x. Placed x × (head_document (list x) ≡ d)) xs → Any (λ x. d ≤ head_document (list x)) xs
+pub first_stands : {X : Type 0} (Placed : X → Type 0) (list : X → List Entry) (d : ℕ) (xs : List X) →
+    0 < length xs → All (λ x. Placed x × (head_document (list x) ≡ d)) xs → Any (λ x. d ≤ head_document (list x)) xs
 first_stands Placed list d [] some all = absurd (omega arith)
 first_stands {X} Placed list d (x ∷ xs) some all =
     let Stands : X → Type 0 = λ x. Placed x × (head_document (list x) ≡ d) in
@@ -66,11 +73,14 @@ first_stands {X} Placed list d (x ∷ xs) some all =
     (0, x, omega arith, refl, omega arith)
 
 -- where a cursor stands on a document, these are its positions there
-pub positions_at-here : (d : ℕ) (limits : Limits) (es : List Entry) → AreEntries 0 limits es → head_document es ≡ d → d < TERMINATED → positions_at d es ≡ head_positions es
+pub positions_at-here : (d : ℕ) (limits : Limits) (es : List Entry) → AreEntries 0 limits es →
+    head_document es ≡ d → d < TERMINATED → positions_at d es ≡ head_positions es
 positions_at-here d limits [] a h below = absurd (omega arith)
 positions_at-here d limits (e ∷ es) a h below = ap (λ n. head_positions (entries_of n (e ∷ es))) (sym h) ∙ ap head_positions (entries_of-first 0 limits e es a)
 
-pub positions_at-members : {X : Type 0} (valid Placed : X → Type 0) (bound : X → Limits) (list : X → List Entry) → ((x : X) → valid x → AreEntries 0 (bound x) (list x)) → (d : ℕ) (xs : List X) → d < TERMINATED → All valid xs → All (λ x. Placed x × (head_document (list x) ≡ d)) xs → map (positions_at d) (map list xs) ≡ map head_positions (map list xs)
+pub positions_at-members : {X : Type 0} (valid Placed : X → Type 0) (bound : X → Limits) (list : X → List Entry) →
+    ((x : X) → valid x → AreEntries 0 (bound x) (list x)) → (d : ℕ) (xs : List X) → d < TERMINATED → All valid xs →
+    All (λ x. Placed x × (head_document (list x) ≡ d)) xs → map (positions_at d) (map list xs) ≡ map head_positions (map list xs)
 positions_at-members valid Placed bound list law d [] below all here = refl
 positions_at-members {X} valid Placed bound list law d (x ∷ xs) below all here =
     let Stands : X → Type 0 = λ x. Placed x × (head_document (list x) ≡ d) in
@@ -78,16 +88,21 @@ positions_at-members {X} valid Placed bound list law d (x ∷ xs) below all here
     let rest = positions_at-members valid Placed bound list law d xs below (All-tail valid x xs all) (All-tail Stands x xs here) in
     λ i. first i ∷ rest i
 
-pub starts_at-here : {X : Type 0} (valid Placed : X → Type 0) (bound : X → Limits) (list : X → List Entry) → ((x : X) → valid x → AreEntries 0 (bound x) (list x)) → (slop d : ℕ) (shifts : List ℕ) (xs : List X) → d < TERMINATED → All valid xs → All (λ x. Placed x × (head_document (list x) ≡ d)) xs → starts_at slop shifts (map list xs) d ≡ starts slop (shifted_each shifts (map head_positions (map list xs)))
+pub starts_at-here : {X : Type 0} (valid Placed : X → Type 0) (bound : X → Limits) (list : X → List Entry) →
+    ((x : X) → valid x → AreEntries 0 (bound x) (list x)) → (slop d : ℕ) (shifts : List ℕ) (xs : List X) → d < TERMINATED → All valid xs → All (λ x. Placed x ×
+    (head_document (list x) ≡ d)) xs → starts_at slop shifts (map list xs) d ≡ starts slop (shifted_each shifts (map head_positions (map list xs)))
 unfolding sets_at
-starts_at-here valid Placed bound list law slop d shifts xs below all here = ap (λ r. starts slop (shifted_each shifts r)) (positions_at-members valid Placed bound list law d xs below all here)
+starts_at-here valid Placed bound list law slop d shifts xs below all here =
+    ap (λ r. starts slop (shifted_each shifts r)) (positions_at-members valid Placed bound list law d xs below all here)
 
 -- no list has a document past the end
 entries_of-end : (d low : ℕ) (limits : Limits) (es : List Entry) → TERMINATED ≤ d → AreEntries low limits es → entries_of d es ≡ []
 entries_of-end d low limits [] h a = entries_of-nil d
 entries_of-end d low limits (e ∷ es) h a = entries_of-other d e es (omega arith) ∙ entries_of-end d (e.document + 1) limits es h a.others
 
-pub starts_at-end : {X : Type 0} (valid : X → Type 0) (bound : X → Limits) (list : X → List Entry) → ((x : X) → valid x → AreEntries 0 (bound x) (list x)) → (slop d : ℕ) (shifts : List ℕ) (xs : List X) → All valid xs → length shifts ≡ length xs → 0 < length xs → TERMINATED ≤ d → starts_at slop shifts (map list xs) d ≡ 0
+pub starts_at-end : {X : Type 0} (valid : X → Type 0) (bound : X → Limits) (list : X → List Entry) →
+    ((x : X) → valid x → AreEntries 0 (bound x) (list x)) → (slop d : ℕ) (shifts : List ℕ) (xs : List X) → All valid xs →
+    length shifts ≡ length xs → 0 < length xs → TERMINATED ≤ d → starts_at slop shifts (map list xs) d ≡ 0
 starts_at-end valid bound list law slop d shifts [] all paired some h = absurd (omega arith)
 starts_at-end valid bound list law slop d shifts (x ∷ xs) all paired some h =
     let none : positions_at d (list x) ≡ [] = ap head_positions (entries_of-end d 0 (bound x) (list x) h (law x (All-head valid x xs all))) in

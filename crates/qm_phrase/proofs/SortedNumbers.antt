@@ -87,15 +87,19 @@ is_in-dedup x xs =
     (λ here. list_any-from_Contains nat_eq_equiv x (dedup (λ a b. a == b) xs) (Contains-dedup_nat xs x (Contains-from_any eqb-true x xs here)))
 
 -- they keep the members
-pub is_in-tidied : (x : ℕ) (before sorted after : List ℕ) → IsPermutation before sorted → IsFiltered (DiffersFromLast (λ a b. a == b)) [] sorted after → is_in x after ≡ is_in x before
+pub is_in-tidied : (x : ℕ) (before sorted after : List ℕ) → IsPermutation before sorted →
+    IsFiltered (DiffersFromLast (λ a b. a == b)) [] sorted after → is_in x after ≡ is_in x before
 is_in-tidied x before sorted after moved filtered =
     ap (is_in x) (dedup_is (λ a b. a == b) sorted after filtered) ∙ is_in-dedup x sorted ∙ sym (list_any-IsPermutation (λ y. x == y) before sorted moved)
 
 -- and the numbers ascend
-pub IsStrictlyIncreasing-tidied : (sorted after : List ℕ) → IsSorted nat_cmp sorted → IsFiltered (DiffersFromLast (λ a b. a == b)) [] sorted after → IsStrictlyIncreasing after
+pub IsStrictlyIncreasing-tidied : (sorted after : List ℕ) → IsSorted nat_cmp sorted →
+    IsFiltered (DiffersFromLast (λ a b. a == b)) [] sorted after → IsStrictlyIncreasing after
 IsStrictlyIncreasing-tidied sorted after rises filtered = rw (dedup_is (λ a b. a == b) sorted after filtered) (IsStrictlyIncreasing-dedup sorted rises)
 
 -- Where nothing stood in an output, an ascending one has just the positions that were added.
-pub alone : (offset : ℕ) (old new ps : List ℕ) → old ≡ [] → ArePositions ps → HasAdded (shifted offset ps) old new → IsStrictlyIncreasing new → new ≡ shifted offset ps
+pub alone : (offset : ℕ) (old new ps : List ℕ) → old ≡ [] → ArePositions ps →
+    HasAdded (shifted offset ps) old new → IsStrictlyIncreasing new → new ≡ shifted offset ps
 alone offset old new ps none ascends added rises =
-    same_rising 0 new (shifted offset ps) (RisesFrom-increasing new rises) (RisesFrom-positions offset ps ascends) (λ x. added x ∙ ap (λ r. is_in x r || is_in x (shifted offset ps)) none)
+    same_rising 0 new (shifted offset ps) (RisesFrom-increasing new rises) (RisesFrom-positions offset ps ascends)
+    (λ x. added x ∙ ap (λ r. is_in x r || is_in x (shifted offset ps)) none)

@@ -1,5 +1,6 @@
 -- One step of counting starts: the least place is counted where it is a start, and then passed.
-use Rattle.std.proofs.Common.{◌≡◌, ◌≢◌, ℕ, zero, suc, ◌+◌, ◌<◌, ◌≤◌, nat_le, min, max, Bool, true, false, ◌&&◌, ◌||◌, cond, List, [], ◌∷◌, ◌++◌, All, length, map, drop, add-one, refl, ap, sym, ◌∙◌, arith, inl, inr}
+use Rattle.std.proofs.Common.{◌≡◌, ◌≢◌, ℕ, zero, suc, ◌+◌, ◌<◌, ◌≤◌, nat_le, min, max, Bool, true, false, ◌&&◌, ◌||◌, cond, List, [], ◌∷◌, ◌++◌, All, length}
+use Rattle.std.proofs.Common.{map, drop, add-one, refl, ap, sym, ◌∙◌, arith, inl, inr}
 use Rattle.std.specs.List.{count_by, list_all, range_with_len}
 use Rattle.std.proofs.lemmas.Bool.{cases_lt, cases_eq, eq-eqb, ne_eqb, le-leb, lt-leb}
 use Rattle.std.proofs.lemmas.List.Elements.{All-nil, All-cons, All-head, All-tail, All-map, All-weaker}
@@ -23,7 +24,8 @@ count_by-same p q a (suc n) same =
     omega (arith, sum_by-cons (λ x. one_if (p x)) a ds, sum_by-cons (λ x. one_if (q x)) a ds, here, rest)
 
 -- two tests that agree but for one number, which the second lacks
-count_by-split : (p q : ℕ → Bool) (x a n : ℕ) → a ≤ x → x < a + n → ((y : ℕ) → y ≢ x → p y ≡ q y) → q x ≡ false → count_by p (range_with_len a n) ≡ one_if (p x) + count_by q (range_with_len a n)
+count_by-split : (p q : ℕ → Bool) (x a n : ℕ) → a ≤ x → x < a + n → ((y : ℕ) → y ≢ x → p y ≡ q y) →
+    q x ≡ false → count_by p (range_with_len a n) ≡ one_if (p x) + count_by q (range_with_len a n)
 count_by-split p q x a zero low high same lacks = absurd (omega arith)
 count_by-split p q x a (suc n) low high same lacks =
     let ds = range_with_len (a + 1) n in
@@ -155,13 +157,16 @@ is_start-past slop x sets all y other =
 pub is_start-past_here : (slop x : ℕ) (sets : List (List ℕ)) → All (Ascends x) sets → is_start slop (map (past x) sets) x ≡ false
 is_start-past_here slop x sets all = rw (is_place-past_here x sets all) refl
 
-starts_below-step : (slop x n : ℕ) (sets : List (List ℕ)) → x < n → All (Ascends x) sets → starts_below slop sets n ≡ one_if (is_start slop sets x) + starts_below slop (map (past x) sets) n
+starts_below-step : (slop x n : ℕ) (sets : List (List ℕ)) → x < n → All (Ascends x) sets →
+    starts_below slop sets n ≡ one_if (is_start slop sets x) + starts_below slop (map (past x) sets) n
 unfolding starts_below
 starts_below-step slop x n sets h all =
-    count_by-split (is_start slop sets) (is_start slop (map (past x) sets)) x 0 n (omega arith) (omega arith) (is_start-past slop x sets all) (is_start-past_here slop x sets all)
+    count_by-split (is_start slop sets) (is_start slop (map (past x) sets)) x 0 n (omega arith)
+    (omega arith) (is_start-past slop x sets all) (is_start-past_here slop x sets all)
 
 -- the starts are the place that some begin with, where it is one, and those behind it
-pub starts-step : (slop x : ℕ) (sets : List (List ℕ)) → x < all_places → All (Ascends x) sets → starts slop sets ≡ one_if (is_start slop sets x) + starts slop (map (past x) sets)
+pub starts-step : (slop x : ℕ) (sets : List (List ℕ)) → x < all_places → All (Ascends x) sets →
+    starts slop sets ≡ one_if (is_start slop sets x) + starts slop (map (past x) sets)
 unfolding starts
 starts-step slop x sets h all = starts_below-step slop x all_places sets h all
 
@@ -189,7 +194,8 @@ nat_le-max a b n =
 pub All-least : (low : ℕ) (sets : List (List ℕ)) → low ≤ least_first sets → All (Ascends 0) sets → All (Ascends low) sets
 All-least low [] h all = All-nil (Ascends low)
 All-least low (s ∷ sets) h all =
-    All-cons (Ascends low) s sets (Ascends-first low s (omega arith) (All-head (Ascends 0) s sets all)) (All-least low sets (omega arith) (All-tail (Ascends 0) s sets all))
+    All-cons (Ascends low) s sets (Ascends-first low s (omega arith) (All-head (Ascends 0) s sets all))
+    (All-least low sets (omega arith) (All-tail (Ascends 0) s sets all))
 
 is_place-least : (x : ℕ) (sets : List (List ℕ)) → x ≡ least_first sets → x < all_places → is_place sets x ≡ true
 is_place-least x [] h below = absurd (omega arith)
@@ -200,7 +206,8 @@ is_place-least x ((p ∷ ps) ∷ sets) h below =
       | inr other ↦ rw (is_place-least x sets (omega arith) below) (or_true (is_in x (p ∷ ps)))
     ]
 
-near-greatest : (slop x : ℕ) (sets : List (List ℕ)) → greatest_first sets < all_places → All (Ascends x) sets → list_all (λ s. has_near slop x s) sets ≡ nat_le (greatest_first sets) (x + slop)
+near-greatest : (slop x : ℕ) (sets : List (List ℕ)) → greatest_first sets < all_places →
+    All (Ascends x) sets → list_all (λ s. has_near slop x s) sets ≡ nat_le (greatest_first sets) (x + slop)
 near-greatest slop x [] h all = sym (le-leb 0 (x + slop) (omega arith))
 near-greatest slop x ([] ∷ sets) h all = absurd (omega arith)
 near-greatest slop x ((p ∷ ps) ∷ sets) h all =
@@ -209,7 +216,8 @@ near-greatest slop x ((p ∷ ps) ∷ sets) h all =
     rw (has_near-first slop x p ps here.0 here.2, rest) (nat_le-max p (greatest_first sets) (x + slop))
 
 -- the least place is a start exactly where the greatest of the first places is within the slop
-pub is_start-least : (slop x : ℕ) (sets : List (List ℕ)) → x ≡ least_first sets → x < all_places → greatest_first sets < all_places → All (Ascends x) sets → is_start slop sets x ≡ nat_le (greatest_first sets) (x + slop)
+pub is_start-least : (slop x : ℕ) (sets : List (List ℕ)) → x ≡ least_first sets → x < all_places →
+    greatest_first sets < all_places → All (Ascends x) sets → is_start slop sets x ≡ nat_le (greatest_first sets) (x + slop)
 is_start-least slop x sets least below h all = rw (is_place-least x sets least below) (near-greatest slop x sets h all)
 
 -- where a set has no place left, there is no start
@@ -241,14 +249,17 @@ least_first-past x (s ∷ sets) h all =
     omega (arith, first_place-past x s h (All-head (Ascends x) s sets all), least_first-past x sets h (All-tail (Ascends x) s sets all))
 
 -- what is known where some set has a least place
-pub within : (sets : List (List ℕ)) (least greatest : ℕ) → 0 < length sets → least ≡ least_first sets → greatest ≡ greatest_first sets → (greatest ≡ all_places → ⊥) → All (Ascends 0) sets → (least < all_places) × (greatest_first sets < all_places) × All (Ascends least) sets
+pub within : (sets : List (List ℕ)) (least greatest : ℕ) → 0 < length sets → least ≡ least_first sets → greatest ≡ greatest_first sets →
+    (greatest ≡ all_places → ⊥) → All (Ascends 0) sets → (least < all_places) × (greatest_first sets < all_places) × All (Ascends least) sets
 within sets least greatest some is most here all =
     let below : greatest_first sets < all_places = omega (arith, greatest_first-most sets all) in
     let under : least < all_places = omega (arith, least_first-le sets some) in
     (under, below, All-least least sets (omega arith) all)
 
 -- the place is counted exactly where the greatest is within the slop
-pub counted : (sets : List (List ℕ)) (slop least : ℕ) → least ≡ least_first sets → least < all_places → greatest_first sets < all_places → All (Ascends least) sets → (greatest_first sets ≤ least + slop → starts slop sets ≡ 1 + starts slop (map (past least) sets)) × (least + slop < greatest_first sets → starts slop sets ≡ starts slop (map (past least) sets))
+pub counted : (sets : List (List ℕ)) (slop least : ℕ) → least ≡ least_first sets → least < all_places → greatest_first sets < all_places →
+    All (Ascends least) sets → (greatest_first sets ≤ least + slop → starts slop sets ≡ 1 + starts slop (map (past least) sets)) ×
+    (least + slop < greatest_first sets → starts slop sets ≡ starts slop (map (past least) sets))
 counted sets slop least is under below all =
     let step = starts-step slop least sets under all in
     let start = is_start-least slop least sets is under below all in (
@@ -266,7 +277,8 @@ greatest_first-push [] s = refl
 greatest_first-push (t ∷ sets) s = omega (arith, greatest_first-push sets s)
 
 -- the first place is passed
-pub past-first : (x shift n : ℕ) (ps : List ℕ) → x < all_places → first_place (shifted shift (drop n ps)) ≡ x → shifted shift (drop (n + 1) ps) ≡ past x (shifted shift (drop n ps))
+pub past-first : (x shift n : ℕ) (ps : List ℕ) → x < all_places → first_place (shifted shift (drop n ps)) ≡ x →
+    shifted shift (drop (n + 1) ps) ≡ past x (shifted shift (drop n ps))
 past-first x shift n [] below first = absurd (omega (arith, ap (λ r. first_place (shifted shift r)) (drop_all n [] (omega arith))))
 past-first x shift zero (p ∷ ps) below first = rw (eq-eqb (p + shift) x first) refl
 past-first x shift (suc n) (p ∷ ps) below first = rw add-one (rw add-one at (past-first x shift n ps below first))

@@ -15,11 +15,13 @@ module _ (made : ℕ → Entry) (named : IsNamed made) where
   head_document-described (e ∷ es) = named e.document
 
   -- what is shown of the document that the set stands on
-  pub head_frequency-described : (set : List Entry) → head_document set < TERMINATED → head_frequency (described made set) ≡ (made (head_document set)).frequency
+  pub head_frequency-described : (set : List Entry) → head_document set < TERMINATED →
+      head_frequency (described made set) ≡ (made (head_document set)).frequency
   head_frequency-described [] h = absurd (omega arith)
   head_frequency-described (e ∷ es) h = refl
 
-  pub head_positions-described : (set : List Entry) → head_document set < TERMINATED → head_positions (described made set) ≡ (made (head_document set)).positions
+  pub head_positions-described : (set : List Entry) → head_document set < TERMINATED →
+      head_positions (described made set) ≡ (made (head_document set)).positions
   head_positions-described [] h = absurd (omega arith)
   head_positions-described (e ∷ es) h = refl
 
@@ -32,19 +34,24 @@ module _ (made : ℕ → Entry) (named : IsNamed made) where
   from-described t (e ∷ es) =
       let name = named e.document in
       elim (cases_lt e.document t) [
-        | inl below ↦ ap (described made) (from-skip t e es below) ∙ from-described t es ∙ sym (from-skip t (made e.document) (described made es) (omega (arith, name)))
-        | inr kept ↦ ap (described made) (from-keep t e es kept) ∙ ap (λ r. made e.document ∷ r) (from-described t es) ∙ sym (from-keep t (made e.document) (described made es) (omega (arith, name)))
+        | inl below ↦ ap (described made) (from-skip t e es below) ∙ from-described t es
+            ∙ sym (from-skip t (made e.document) (described made es) (omega (arith, name)))
+        | inr kept ↦ ap (described made) (from-keep t e es kept) ∙ ap (λ r. made e.document ∷ r) (from-described t es)
+            ∙ sym (from-keep t (made e.document) (described made es) (omega (arith, name)))
       ]
 
 -- postings that have dropped what lies before the documents say the same of them
-over-left : (t : ℕ) (limits : Limits) (set : List Entry) (old new : List (List Entry)) → AreEntries t limits set → map (from t) new ≡ map (from t) old → united_over set new ≡ united_over set old
+over-left : (t : ℕ) (limits : Limits) (set : List Entry) (old new : List (List Entry)) →
+    AreEntries t limits set → map (from t) new ≡ map (from t) old → united_over set new ≡ united_over set old
 over-left t limits [] old new a same = refl
 over-left t limits (e ∷ es) old new a same =
-    let here : united e.document (entries_at e.document new) ≡ united e.document (entries_at e.document old) = ap (united e.document) (entries_at-left e.document t old new a.here.from_low same) in
+    let here : united e.document (entries_at e.document new) ≡ united e.document (entries_at e.document old) =
+    ap (united e.document) (entries_at-left e.document t old new a.here.from_low same) in
     let rest = over-left t limits es old new (AreEntries-below (e.document + 1) t limits es (omega (arith, a.here.from_low)) a.others) same in
     λ i. here i ∷ rest i
 
-pub over-moved : (limits : Limits) (set : List Entry) (old new : List (List Entry)) → AreEntries 0 limits set → map (from (head_document set)) new ≡ map (from (head_document set)) old → united_over set new ≡ united_over set old
+pub over-moved : (limits : Limits) (set : List Entry) (old new : List (List Entry)) → AreEntries 0 limits set →
+    map (from (head_document set)) new ≡ map (from (head_document set)) old → united_over set new ≡ united_over set old
 over-moved limits set old new a same = over-left (head_document set) limits set old new (AreEntries-head 0 limits set a) same
 
 -- ---- by their names over postings
@@ -52,10 +59,12 @@ over-moved limits set old new a same = over-left (head_document set) limits set 
 pub head_document-over : (set : List Entry) (ess : List (List Entry)) → head_document (united_over set ess) ≡ head_document set
 head_document-over set ess = head_document-described (λ d. united d (entries_at d ess)) (λ d. refl) set
 
-pub head_positions-over : (set : List Entry) (ess : List (List Entry)) → head_document set < TERMINATED → head_positions (united_over set ess) ≡ united_positions (entries_at (head_document set) ess)
+pub head_positions-over : (set : List Entry) (ess : List (List Entry)) → head_document set < TERMINATED →
+    head_positions (united_over set ess) ≡ united_positions (entries_at (head_document set) ess)
 head_positions-over set ess h = head_positions-described (λ d. united d (entries_at d ess)) (λ d. refl) set h
 
-pub head_frequency-over : (set : List Entry) (ess : List (List Entry)) → head_document set < TERMINATED → head_frequency (united_over set ess) ≡ united_frequency (entries_at (head_document set) ess)
+pub head_frequency-over : (set : List Entry) (ess : List (List Entry)) → head_document set < TERMINATED →
+    head_frequency (united_over set ess) ≡ united_frequency (entries_at (head_document set) ess)
 head_frequency-over set ess h = head_frequency-described (λ d. united d (entries_at d ess)) (λ d. refl) set h
 
 pub drop-over : (set : List Entry) (ess : List (List Entry)) → united_over (drop 1 set) ess ≡ drop 1 (united_over set ess)

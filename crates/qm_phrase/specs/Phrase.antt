@@ -62,4 +62,5 @@ phrase_limits (Some weight) = record { top = bm25_bound (weighing weight); room 
 -- terms with their offsets
 abbrev pub ListsPhrase : {U P : Type 0} → Ghosts U → Ghosts P → Option Bm25Weight → FieldNormReader → ℕ → List (ℕ × P) → U → Type 0
 ListsPhrase U D weight norms slop terms s =
-    Lists U s (phrase_entries (phrase_points weight (norm_ids norms)) slop (shifts_of (map (λ pair. pair.0) terms)) (map (λ pair. D.entries pair.1) terms)) (phrase_limits weight)
+    Lists U s (phrase_entries (phrase_points weight (norm_ids norms)) slop (shifts_of (map (λ pair. pair.0) terms)) (map (λ pair. D.entries pair.1) terms))
+    (phrase_limits weight)

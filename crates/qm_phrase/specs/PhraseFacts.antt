@@ -20,6 +20,8 @@ phrase_points-le (Some weight) ids d count = bm25-le (weighing weight) (slice_in
 no_positions : (weight : Option Bm25Weight) → 0 ≤ (phrase_limits weight).room
 no_positions weight = omega arith
 
-pub AreEntries-phrase : (weight : Option Bm25Weight) (ids : List ℕ) (slop : ℕ) (shifts : List ℕ) (ess : List (List Entry)) → AreEntries 0 (phrase_limits weight) (phrase_entries (phrase_points weight ids) slop shifts ess)
+pub AreEntries-phrase : (weight : Option Bm25Weight) (ids : List ℕ) (slop : ℕ) (shifts : List ℕ) (ess : List (List Entry)) →
+    AreEntries 0 (phrase_limits weight) (phrase_entries (phrase_points weight ids) slop shifts ess)
 AreEntries-phrase weight ids slop shifts ess =
-    AreEntries-listed (phrase_limits weight) (λ d. nat_lt 0 (count_at slop shifts ess d)) (λ d. scored d (phrase_points weight ids d (count_at slop shifts ess d))) (λ d. refl) (λ d here. (phrase_points-le weight ids d (count_at slop shifts ess d), no_positions weight))
+    AreEntries-listed (phrase_limits weight) (λ d. nat_lt 0 (count_at slop shifts ess d)) (λ d. scored d (phrase_points weight ids d
+    (count_at slop shifts ess d))) (λ d. refl) (λ d here. (phrase_points-le weight ids d (count_at slop shifts ess d), no_positions weight))

@@ -85,7 +85,8 @@ prefix_limits (Some weight) false = record { top = (weighing weight).boost; room
 
 -- the documents with a count, each with the points that the places of its full terms give it
 abbrev pub prefix_entries : Option Bm25Weight → List ℕ → PrefixLists → List Entry
-prefix_entries weight ids t = listed (λ d. nat_lt 0 (held (prefix_count t d))) (λ d. scored d (prefix_points weight (has_several t) ids d (held (full_count t d))))
+prefix_entries weight ids t =
+    listed (λ d. nat_lt 0 (held (prefix_count t d))) (λ d. scored d (prefix_points weight (has_several t) ids d (held (full_count t d))))
 
 -- the greatest of all offsets, that of the prefix too
 abbrev pub greatest_of : List ℕ → ℕ → ℕ
@@ -105,4 +106,5 @@ lists_at D terms suffix_pos suffixes = record {
 -- their offsets and of those that begin with the prefix, whose offset is `suffix_pos`
 abbrev pub ListsPrefix : {U P : Type 0} → Ghosts U → Ghosts P → Option Bm25Weight → FieldNormReader → List (ℕ × P) → ℕ → List P → U → Type 0
 ListsPrefix U D weight norms terms suffix_pos suffixes s =
-    Lists U s (prefix_entries weight (norm_ids norms) (lists_at D terms suffix_pos suffixes)) (prefix_limits weight (has_several (lists_at D terms suffix_pos suffixes)))
+    Lists U s (prefix_entries weight (norm_ids norms) (lists_at D terms suffix_pos suffixes))
+    (prefix_limits weight (has_several (lists_at D terms suffix_pos suffixes)))

@@ -11,7 +11,8 @@ use Rattle.qm_phrase.specs.PhraseFacts.{phrase_points-le}
 use Rattle.qm_phrase.specs.PhrasePrefix.{PrefixLists, full_count, has_several, held, prefix_count, prefix_entries, prefix_limits, prefix_points}
 
 -- no points are above the limit
-prefix_points-le : (weight : Option Bm25Weight) (several : Bool) (ids : List ℕ) (d count : ℕ) → prefix_points weight several ids d count ≤ (prefix_limits weight several).top
+prefix_points-le : (weight : Option Bm25Weight) (several : Bool) (ids : List ℕ) (d count : ℕ) →
+    prefix_points weight several ids d count ≤ (prefix_limits weight several).top
 prefix_points-le weight true ids d count = phrase_points-le weight ids d count
 prefix_points-le None false ids d count = omega arith
 prefix_points-le (Some weight) false ids d count = omega arith
@@ -19,6 +20,9 @@ prefix_points-le (Some weight) false ids d count = omega arith
 no_positions : (weight : Option Bm25Weight) (several : Bool) → 0 ≤ (prefix_limits weight several).room
 no_positions weight several = omega arith
 
-pub AreEntries-prefix : (weight : Option Bm25Weight) (ids : List ℕ) (t : PrefixLists) → AreEntries 0 (prefix_limits weight (has_several t)) (prefix_entries weight ids t)
+pub AreEntries-prefix : (weight : Option Bm25Weight) (ids : List ℕ) (t : PrefixLists) →
+    AreEntries 0 (prefix_limits weight (has_several t)) (prefix_entries weight ids t)
 AreEntries-prefix weight ids t =
-    AreEntries-listed (prefix_limits weight (has_several t)) (λ d. nat_lt 0 (held (prefix_count t d))) (λ d. scored d (prefix_points weight (has_several t) ids d (held (full_count t d)))) (λ d. refl) (λ d here. (prefix_points-le weight (has_several t) ids d (held (full_count t d)), no_positions weight (has_several t)))
+    AreEntries-listed (prefix_limits weight (has_several t)) (λ d. nat_lt 0 (held (prefix_count t d)))
+    (λ d. scored d (prefix_points weight (has_several t) ids d (held (full_count t d)))) (λ d. refl)
+    (λ d here. (prefix_points-le weight (has_several t) ids d (held (full_count t d)), no_positions weight (has_several t)))

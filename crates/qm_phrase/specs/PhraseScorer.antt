@@ -30,7 +30,8 @@ module _ {P : Type 0} (D : Ghosts P) where
 
   -- the documents that remain, with their scores
   abbrev pub phrase_left : PhraseScorer P → List Entry
-  phrase_left s = phrase_entries (phrase_points s.similarity_weight (norm_ids s.fieldnorm_reader)) s.slop (map shift_of s.places.items) (lists D s.members.items)
+  phrase_left s =
+      phrase_entries (phrase_points s.similarity_weight (norm_ids s.fieldnorm_reader)) s.slop (map shift_of s.places.items) (lists D s.members.items)
 
   abbrev pub phrase_scorer_limits : PhraseScorer P → Limits
   phrase_scorer_limits s = phrase_limits s.similarity_weight
@@ -47,7 +48,8 @@ module _ {P : Type 0} (D : Ghosts P) where
   -- scored by such a weight, it counts in each document that it has left the starts of such terms
   pub record CountsPhrase (weight : Option Bm25Weight) (slop : ℕ) (terms : List (ℕ × P)) (s : PhraseScorer P) : Type 0 where
     pub weighted : is_weighted s ≡ has_weight weight
-    pub counts : (d : ℕ) → 0 < phrase_starts s d → phrase_starts s d ≡ starts_at slop (shifts_of (map (λ pair. pair.0) terms)) (map (λ pair. D.entries pair.1) terms) d
+    pub counts : (d : ℕ) → 0 < phrase_starts s d →
+        phrase_starts s d ≡ starts_at slop (shifts_of (map (λ pair. pair.0) terms)) (map (λ pair. D.entries pair.1) terms) d
 
   -- its terms, and that each document with a start has a length id
   pub record IsPhrase (s : PhraseScorer P) : Type 0 where

@@ -16,7 +16,8 @@ use Rattle.qm_docset.specs.Listed.{listed, IsNamed}
 use Rattle.qm_docset.specs.ListedFacts.{AreEntries-listed}
 use Rattle.qm_postings.specs.Positions.{ArePositions, is_in}
 use Rattle.qm_postings.specs.Segment.{AscendFrom}
-use Rattle.qm_phrase.specs.PostingUnions.{described, entries_at, has_position, positions_below, postings_limits, united, united_entries, united_over, united_positions, united_room}
+use Rattle.qm_phrase.specs.PostingUnions.{described, entries_at, has_position, positions_below, postings_limits, united, united_entries, united_over}
+use Rattle.qm_phrase.specs.PostingUnions.{united_positions, united_room}
 
 -- ---- positions ascend
 
@@ -57,7 +58,8 @@ one_number y a zero = omega arith
 one_number y a (suc n) =
     elim (cases_eq a y) [
       | inl here ↦
-          let none : filter (λ x. x == y) (range_with_len (a + 1) n) ≡ [] = filter-range_none (λ x. x == y) (a + 1) n (λ d above below. ne_eqb d y (omega arith)) in
+          let none : filter (λ x. x == y) (range_with_len (a + 1) n) ≡ [] =
+          filter-range_none (λ x. x == y) (a + 1) n (λ d above below. ne_eqb d y (omega arith)) in
           rw (eq-eqb a y here, none) (omega arith)
       | inr other ↦ rw (ne_eqb a y other) (one_number y (a + 1) n)
     ]
@@ -69,9 +71,16 @@ few_numbers (p ∷ ps) a n = omega (arith, length-filter_either (λ x. x == p) (
 few_positions : (es : List Entry) (a n : ℕ) → length (filter (λ p. has_position es p) (range_with_len a n)) ≤ sum_by (λ e. length e.positions) es
 few_positions [] a n = let none = ap length (filter-none (λ p. has_position [] p) (range_with_len a n) (λ k d below. refl)) in omega arith
 few_positions (e ∷ es) a n =
-    omega (arith, length-filter_either (λ p. is_in p e.positions) (λ p. has_position es p) (range_with_len a n), few_numbers e.positions a n, few_positions es a n, sum_by-cons (λ (x : Entry). length x.positions) e es)
+    omega (
+      arith,
+      length-filter_either (λ p. is_in p e.positions) (λ p. has_position es p) (range_with_len a n),
+      few_numbers e.positions a n,
+      few_positions es a n,
+      sum_by-cons (λ (x : Entry). length x.positions) e es,
+    )
 
-few_positions_below : (es : List Entry) (n : ℕ) → (length (filter (λ p. has_position es p) (positions_below n)) ≤ sum_by (λ e. length e.positions) es) × (length (filter (λ p. has_position es p) (positions_below n)) ≤ n)
+few_positions_below : (es : List Entry) (n : ℕ) → (length (filter (λ p. has_position es p) (positions_below n)) ≤ sum_by (λ e. length e.positions) es) ×
+    (length (filter (λ p. has_position es p) (positions_below n)) ≤ n)
 unfolding positions_below
 few_positions_below es n =
     let most = count_by-le-length (λ p. has_position es p) (range_with_len 0 n) in
@@ -97,21 +106,28 @@ room-entries_of d low limits (e ∷ es) a =
     elim (cases_eq e.document d) [
       | inl here ↦
           let most = a.here.positions in
-          rw (entries_of-here d e es here, entries_of-before d (e.document + 1) limits es (omega arith) a.others) (omega (arith, most, sum_by-cons (λ (x : Entry). length x.positions) e []))
+          rw (entries_of-here d e es here, entries_of-before d (e.document + 1) limits es (omega arith) a.others)
+          (omega (arith, most, sum_by-cons (λ (x : Entry). length x.positions) e []))
       | inr other ↦ rw (entries_of-other d e es other) (room-entries_of d (e.document + 1) limits es a.others)
     ]
 
-room-entries_at : (d : ℕ) (bounds : List Limits) (ess : List (List Entry)) → AreMembers bounds ess → sum_by (λ e. length e.positions) (entries_at d ess) ≤ sum_by (λ limits. limits.room) bounds
+room-entries_at : (d : ℕ) (bounds : List Limits) (ess : List (List Entry)) → AreMembers bounds ess →
+    sum_by (λ e. length e.positions) (entries_at d ess) ≤ sum_by (λ limits. limits.room) bounds
 room-entries_at d [] [] members = rw (entries_at-nil d) (omega arith)
 room-entries_at d [] (es ∷ ess) members = absurd members
 room-entries_at d (limits ∷ bounds) [] members = absurd members
 room-entries_at d (limits ∷ bounds) (es ∷ ess) members =
     let here = room-entries_of d 0 limits es members.0 in
     let rest = room-entries_at d bounds ess members.1 in
-    rw (entries_at-cons d es ess, sum_by-append (λ (e : Entry). length e.positions) (entries_of d es) (entries_at d ess), sum_by-cons (λ (l : Limits). l.room) limits bounds) (omega arith)
+    rw (
+      entries_at-cons d es ess,
+      sum_by-append (λ (e : Entry). length e.positions) (entries_of d es) (entries_at d ess),
+      sum_by-cons (λ (l : Limits). l.room) limits bounds,
+    ) (omega arith)
 
 -- no document has more positions than there is room for
-pub length-united : (d : ℕ) (bounds : List Limits) (ess : List (List Entry)) → AreMembers bounds ess → length (united_positions (entries_at d ess)) ≤ united_room bounds
+pub length-united : (d : ℕ) (bounds : List Limits) (ess : List (List Entry)) →
+    AreMembers bounds ess → length (united_positions (entries_at d ess)) ≤ united_room bounds
 length-united d bounds ess members =
     let few = length-united_positions (entries_at d ess) in
     let room = room-entries_at d bounds ess members in
@@ -120,26 +136,36 @@ length-united d bounds ess members =
 -- ---- what they list
 
 -- a union's list is that of a cursor
-pub AreEntries-united : {X : Type 0} (bound : X → Limits) (list : X → List Entry) (xs : List X) → All (λ x. AreEntries 0 (bound x) (list x)) xs → AreEntries 0 (postings_limits (map bound xs)) (united_entries (map list xs))
+pub AreEntries-united : {X : Type 0} (bound : X → Limits) (list : X → List Entry) (xs : List X) →
+    All (λ x. AreEntries 0 (bound x) (list x)) xs → AreEntries 0 (postings_limits (map bound xs)) (united_entries (map list xs))
 AreEntries-united bound list xs all =
     let ess = map list xs in
-    AreEntries-listed (postings_limits (map bound xs)) (λ d. some_has_document ess d) (λ d. united d (entries_at d ess)) (λ d. refl) (λ d here. (omega arith, length-united d (map bound xs) ess (AreMembers-map bound list xs all)))
+    AreEntries-listed (postings_limits (map bound xs)) (λ d. some_has_document ess d) (λ d. united d (entries_at d ess))
+    (λ d. refl) (λ d here. (omega arith, length-united d (map bound xs) ess (AreMembers-map bound list xs all)))
 
 -- so is a set's, with what is made of its documents
-pub AreEntries-described : (made : ℕ → Entry) (named : IsNamed made) (low : ℕ) (limits new : Limits) (set : List Entry) → ((d : ℕ) → ((made d).score ≤ new.top) × (length (made d).positions ≤ new.room)) → AreEntries low limits set → AreEntries low new (described made set)
+pub AreEntries-described : (made : ℕ → Entry) (named : IsNamed made) (low : ℕ) (limits new : Limits) (set : List Entry) →
+    ((d : ℕ) → ((made d).score ≤ new.top) × (length (made d).positions ≤ new.room)) → AreEntries low limits set → AreEntries low new (described made set)
 AreEntries-described made named low limits new [] within a = tt
 AreEntries-described made named low limits new (e ∷ es) within a =
     let name = named e.document in
     let rest = AreEntries-described made named (e.document + 1) limits new es within a.others in
     record {
-      here = record { from_low = omega (arith, name, a.here.from_low); below_end = omega (arith, name, a.here.below_end); score = (within e.document).0; positions = (within e.document).1 };
+      here = record {
+        from_low = omega (arith, name, a.here.from_low);
+        below_end = omega (arith, name, a.here.below_end);
+        score = (within e.document).0;
+        positions = (within e.document).1;
+      };
       others = rw name rest;
     }
 
-pub AreEntries-over : {X : Type 0} (bound : X → Limits) (list : X → List Entry) (xs : List X) (limits : Limits) (set : List Entry) → All (λ x. AreEntries 0 (bound x) (list x)) xs → AreEntries 0 limits set → AreEntries 0 (postings_limits (map bound xs)) (united_over set (map list xs))
+pub AreEntries-over : {X : Type 0} (bound : X → Limits) (list : X → List Entry) (xs : List X) (limits : Limits) (set : List Entry) →
+    All (λ x. AreEntries 0 (bound x) (list x)) xs → AreEntries 0 limits set → AreEntries 0 (postings_limits (map bound xs)) (united_over set (map list xs))
 AreEntries-over bound list xs limits set all a =
     let ess = map list xs in
-    AreEntries-described (λ d. united d (entries_at d ess)) (λ d. refl) 0 limits (postings_limits (map bound xs)) set (λ d. (omega arith, length-united d (map bound xs) ess (AreMembers-map bound list xs all))) a
+    AreEntries-described (λ d. united d (entries_at d ess)) (λ d. refl) 0 limits (postings_limits (map bound xs)) set
+    (λ d. (omega arith, length-united d (map bound xs) ess (AreMembers-map bound list xs all))) a
 
 -- and positions ascend
 pub ArePositions-united : (ess : List (List Entry)) → All (λ e. ArePositions e.positions) (united_entries ess)
@@ -147,4 +173,5 @@ unfolding listed
 ArePositions-united ess = All-map (λ e. ArePositions e.positions) (λ d. united d (entries_at d ess)) _ (λ k d below. ArePositions-united_positions _)
 
 pub ArePositions-over : (ess : List (List Entry)) (set : List Entry) → All (λ e. ArePositions e.positions) (united_over set ess)
-ArePositions-over ess set = All-map (λ e. ArePositions e.positions) (λ e. united e.document (entries_at e.document ess)) set (λ k d below. ArePositions-united_positions _)
+ArePositions-over ess set =
+    All-map (λ e. ArePositions e.positions) (λ e. united e.document (entries_at e.document ess)) set (λ k d below. ArePositions-united_positions _)

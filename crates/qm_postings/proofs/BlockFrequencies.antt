@@ -63,12 +63,14 @@ read-rises SkipFreq few many h = omega arith
 read-rises ReadFreq few many h = h
 
 module _ (reading : FreqReadingOption) (a : TermArrays) (h : AreArrays reading a) where
-  block_most : (b : ℕ) → b < length a.blocks.now → (get_or (map (block_read reading) a.blocks.now) b no_block).most ≡ frequency_read reading (greatest (piece a.block_len b a.frequencies.now))
+  block_most : (b : ℕ) → b < length a.blocks.now →
+      (get_or (map (block_read reading) a.blocks.now) b no_block).most ≡ frequency_read reading (greatest (piece a.block_len b a.frequencies.now))
   unfolding all_infos
   block_most b l =
       let own = block_info a.block_len h.ids a.documents.now a.frequencies.now in
       ap (λ (x : Block). x.most) (get_or-map (block_read reading) a.blocks.now b (own b) no_block l
-      ∙ ap (block_read reading) (ap (λ xs. get_or xs b (own b)) h.blocks ∙ get_or-map-range_with_len own 0 (block_count a.block_len (length a.documents.now)) b b (own b) (omega (arith, infos_count reading a h)) (omega arith)))
+      ∙ ap (block_read reading) (ap (λ xs. get_or xs b (own b)) h.blocks ∙ get_or-map-range_with_len own 0
+      (block_count a.block_len (length a.documents.now)) b b (own b) (omega (arith, infos_count reading a h)) (omega arith)))
 
   within_block : All (λ e. e.frequency ≤ (block_at e.document (map (block_read reading) a.blocks.now)).most) (stored reading a)
   within_block = λ n d l.
@@ -79,22 +81,32 @@ module _ (reading : FreqReadingOption) (a : TermArrays) (h : AreArrays reading a
       let b = n / a.block_len in
       let block = b in
       let small : b < length a.blocks.now = omega (arith, infos_count reading a h, block_of_place n (length ds) a.block_len h.block_len inside) in
-      let document : (get_or es n d).document ≡ get_or ds n 0 = sym (get_or-map (λ (e : Entry). e.document) es n d 0 l) ∙ ap (λ xs. get_or xs n 0) (documents-stored reading ds fs a.positions.now) in
+      let document : (get_or es n d).document ≡ get_or ds n 0 = sym (get_or-map (λ (e : Entry). e.document) es n d 0 l)
+      ∙ ap (λ xs. get_or xs n 0) (documents-stored reading ds fs a.positions.now) in
       let frequency : (get_or es n d).frequency ≡ frequency_read reading (get_or fs n 0) =
-      sym (get_or-map (λ (e : Entry). e.frequency) es n d 0 l) ∙ ap (λ xs. get_or xs n 0) (frequencies-stored reading ds fs a.positions.now h.frequencies) ∙ get_or-map (frequency_read reading) fs n 0 0 (omega (arith, h.frequencies)) in
+      sym (get_or-map (λ (e : Entry). e.frequency) es n d 0 l) ∙ ap (λ xs. get_or xs n 0) (frequencies-stored reading ds fs a.positions.now h.frequencies)
+      ∙ get_or-map (frequency_read reading) fs n 0 0 (omega (arith, h.frequencies)) in
       let at : max 0 (get_or ds n 0) ≡ (get_or es n d).document = omega (arith, document) in
       let found = ap (λ x. block_at x (map (block_read reading) a.blocks.now)) (sym at) ∙ block_here reading a h n no_block inside in
       let most = ap (λ (x : Block). x.most) found ∙ block_most b small in
-      omega (arith, frequency, most, read-rises reading (get_or fs n 0) (greatest (piece a.block_len b fs)) (at_most-piece a.block_len n fs h.block_len (omega (arith, h.frequencies))))
+      omega (
+        arith,
+        frequency,
+        most,
+        read-rises reading (get_or fs n 0) (greatest (piece a.block_len b fs)) (at_most-piece a.block_len n fs h.block_len (omega (arith, h.frequencies))),
+      )
 
 -- no document has a length id below the least of its block, by the ids that the bounds are of
-module _ (reading : FreqReadingOption) (a : TermArrays) (h : AreArrays reading a) (ids : List ℕ) (are : a.blocks.now ≡ all_infos a.block_len ids a.documents.now a.frequencies.now) where
-  block_least : (b : ℕ) → b < length a.blocks.now → (get_or (map (block_read reading) a.blocks.now) b no_block).least_id ≡ least_id ids (piece a.block_len b a.documents.now)
+module _ (reading : FreqReadingOption) (a : TermArrays) (h : AreArrays reading a) (ids : List ℕ)
+    (are : a.blocks.now ≡ all_infos a.block_len ids a.documents.now a.frequencies.now) where
+  block_least : (b : ℕ) → b < length a.blocks.now →
+      (get_or (map (block_read reading) a.blocks.now) b no_block).least_id ≡ least_id ids (piece a.block_len b a.documents.now)
   unfolding all_infos
   block_least b l =
       let own = block_info a.block_len ids a.documents.now a.frequencies.now in
       ap (λ (x : Block). x.least_id) (get_or-map (block_read reading) a.blocks.now b (own b) no_block l
-      ∙ ap (block_read reading) (ap (λ xs. get_or xs b (own b)) are ∙ get_or-map-range_with_len own 0 (block_count a.block_len (length a.documents.now)) b b (own b) (omega (arith, infos_count reading a h)) (omega arith)))
+      ∙ ap (block_read reading) (ap (λ xs. get_or xs b (own b)) are ∙ get_or-map-range_with_len own 0
+      (block_count a.block_len (length a.documents.now)) b b (own b) (omega (arith, infos_count reading a h)) (omega arith)))
 
   pub within_ids : All (λ e. (block_at e.document (postings_blocks (at_start reading a))).least_id ≤ get_or ids e.document 1) (stored reading a)
   within_ids = λ n d l.
@@ -103,7 +115,8 @@ module _ (reading : FreqReadingOption) (a : TermArrays) (h : AreArrays reading a
       let inside : n < length ds = omega (arith, length-stored reading ds a.frequencies.now a.positions.now) in
       let b = n / a.block_len in
       let small : b < length a.blocks.now = omega (arith, infos_count reading a h, block_of_place n (length ds) a.block_len h.block_len inside) in
-      let document : (get_or es n d).document ≡ get_or ds n 0 = sym (get_or-map (λ (e : Entry). e.document) es n d 0 l) ∙ ap (λ xs. get_or xs n 0) (documents-stored reading ds a.frequencies.now a.positions.now) in
+      let document : (get_or es n d).document ≡ get_or ds n 0 = sym (get_or-map (λ (e : Entry). e.document) es n d 0 l)
+      ∙ ap (λ xs. get_or xs n 0) (documents-stored reading ds a.frequencies.now a.positions.now) in
       let at : max 0 (get_or ds n 0) ≡ (get_or es n d).document = omega (arith, document) in
       let found = ap (λ x. block_at x (map (block_read reading) a.blocks.now)) (sym at) ∙ block_here reading a h n no_block inside in
       let least = ap (λ (x : Block). x.least_id) found ∙ block_least b small in
@@ -112,4 +125,5 @@ module _ (reading : FreqReadingOption) (a : TermArrays) (h : AreArrays reading a
 
 -- what is left of a cursor's postings keeps to its blocks
 pub within_blocks : (s : SegmentPostings) → IsPostings s → All (λ e. e.frequency ≤ (block_at e.document (postings_blocks s)).most) (postings_left s)
-within_blocks s h = All-drop (λ e. e.frequency ≤ (block_at e.document (postings_blocks s)).most) s.cursor (stored s.reading s.arrays) (within_block s.reading s.arrays h.arrays)
+within_blocks s h =
+    All-drop (λ e. e.frequency ≤ (block_at e.document (postings_blocks s)).most) s.cursor (stored s.reading s.arrays) (within_block s.reading s.arrays h.arrays)

@@ -1,5 +1,6 @@
 -- The blocks of a list of documents: which one has a document, and where it ends.
-use Rattle.std.proofs.Common.{◌≡◌, ℕ, zero, suc, ◌+◌, ◌-◌, ◌*◌, ◌/◌, ◌<◌, ◌≤◌, true, false, List, [], ◌∷◌, length, map, get_or, max, sum, take, sym, ap, refl, subst, ◌∙◌, arith, inl, inr}
+use Rattle.std.proofs.Common.{◌≡◌, ℕ, zero, suc, ◌+◌, ◌-◌, ◌*◌, ◌/◌, ◌<◌, ◌≤◌, true, false, List, [], ◌∷◌, length, map, get_or, max, sum, take, sym, ap, refl}
+use Rattle.std.proofs.Common.{subst, ◌∙◌, arith, inl, inr}
 use Rattle.std.specs.Prelude.{nat_eq, nat_le, nat_lt}
 use Rattle.std.specs.Int.{div_ceil}
 use Rattle.std.proofs.Math.Nat.{add-mul, div-lt_iff_lt-mul, div-mul-le_self, lt-div-mul-add, mul-le-mul_left, mul-le-mul_right, one-mul, zero-div}
@@ -23,7 +24,8 @@ use Rattle.qm_postings.specs.declared.term_arrays.TermArrays.{TermArrays}
 use Rattle.qm_postings.proofs.PostingsLeft.{named}
 
 -- the first block that ends at or past a document is the one at a place, where those before it end below
-pub first_at : (t b : ℕ) (bs : List Block) (d : Block) → b < length bs → t ≤ (get_or bs b d).last → ((k : ℕ) → k < b → (get_or bs k d).last < t) → block_at t bs ≡ get_or bs b d
+pub first_at : (t b : ℕ) (bs : List Block) (d : Block) → b < length bs → t ≤ (get_or bs b d).last →
+    ((k : ℕ) → k < b → (get_or bs k d).last < t) → block_at t bs ≡ get_or bs b d
 unfolding block_at
 first_at t b [] d l here passed = absurd (omega arith)
 first_at t zero (x ∷ xs) d l here passed = let is : nat_le t x.last ≡ true = le-leb t x.last here in rw is refl
@@ -113,41 +115,57 @@ module _ (bl : ℕ) (ds : List ℕ) (h : AreDocuments ds) (some : 0 < bl) where
 module _ (reading : FreqReadingOption) (a : TermArrays) (h : AreArrays reading a) where
   pub infos_count : length a.blocks.now ≡ block_count a.block_len (length a.documents.now)
   unfolding all_infos
-  infos_count = ap length h.blocks ∙ length-map-range_with_len (block_info a.block_len h.ids a.documents.now a.frequencies.now) 0 (block_count a.block_len (length a.documents.now))
+  infos_count = ap length h.blocks
+      ∙ length-map-range_with_len (block_info a.block_len h.ids a.documents.now a.frequencies.now) 0 (block_count a.block_len (length a.documents.now))
 
   -- how many positions come before a block
-  pub block_starts : (b : ℕ) (d : BlockInfo) → b * a.block_len < length a.frequencies.now → (b < length a.blocks.now) × ((get_or a.blocks.now b d).positions_start ≡ sum (take (b * a.block_len) a.frequencies.now))
+  pub block_starts : (b : ℕ) (d : BlockInfo) → b * a.block_len < length a.frequencies.now → (b < length a.blocks.now) ×
+      ((get_or a.blocks.now b d).positions_start ≡ sum (take (b * a.block_len) a.frequencies.now))
   unfolding all_infos
   block_starts b d l =
       let own = block_info a.block_len h.ids a.documents.now a.frequencies.now in
-      let inside : b < block_count a.block_len (length a.documents.now) = block_of_start b (length a.documents.now) a.block_len h.block_len (omega (arith, h.frequencies)) in
-      (omega (arith, infos_count, inside), ap (λ (x : BlockInfo). x.positions_start) (ap (λ xs. get_or xs b d) h.blocks ∙ get_or-map-range_with_len own 0 (block_count a.block_len (length a.documents.now)) b b d inside (omega arith)))
+      let inside : b < block_count a.block_len (length a.documents.now) =
+      block_of_start b (length a.documents.now) a.block_len h.block_len (omega (arith, h.frequencies)) in (
+        omega (arith, infos_count, inside),
+        ap (λ (x : BlockInfo). x.positions_start)
+            (ap (λ xs. get_or xs b d) h.blocks ∙ get_or-map-range_with_len own 0 (block_count a.block_len (length a.documents.now)) b b d inside (omega arith)),
+      )
 
   pub blocks_count : length (map (block_read reading) a.blocks.now) ≡ block_count a.block_len (length a.documents.now)
   blocks_count = length-map a.blocks.now (block_read reading) ∙ infos_count
 
-  pub block_last : (b : ℕ) (d : Block) → b < length a.blocks.now → (get_or (map (block_read reading) a.blocks.now) b d).last ≡ end_of a.block_len a.documents.now b
+  pub block_last : (b : ℕ) (d : Block) → b < length a.blocks.now →
+      (get_or (map (block_read reading) a.blocks.now) b d).last ≡ end_of a.block_len a.documents.now b
   unfolding all_infos
   block_last b d l =
       let own = block_info a.block_len h.ids a.documents.now a.frequencies.now in
       ap (λ (x : Block). x.last) (get_or-map (block_read reading) a.blocks.now b (own b) d l
-      ∙ ap (block_read reading) (ap (λ xs. get_or xs b (own b)) h.blocks ∙ get_or-map-range_with_len own 0 (block_count a.block_len (length a.documents.now)) b b (own b) (omega (arith, infos_count)) (omega arith)))
+      ∙ ap (block_read reading) (ap (λ xs. get_or xs b (own b)) h.blocks
+      ∙ get_or-map-range_with_len own 0 (block_count a.block_len (length a.documents.now)) b b (own b) (omega (arith, infos_count)) (omega arith)))
 
   -- the first block from that of a place on that ends at or past a target
-  pub found_at : (c t b : ℕ) (d : Block) → c < length a.documents.now → c / a.block_len ≤ b → b < length a.blocks.now → ((k : ℕ) → c / a.block_len ≤ k → k < b → (get_or (map (block_read reading) a.blocks.now) k d).last < t) → t ≤ (get_or (map (block_read reading) a.blocks.now) b d).last
+  pub found_at : (c t b : ℕ) (d : Block) → c < length a.documents.now → c / a.block_len ≤ b → b < length a.blocks.now → ((k : ℕ) → c / a.block_len ≤ k →
+      k < b → (get_or (map (block_read reading) a.blocks.now) k d).last < t) → t ≤ (get_or (map (block_read reading) a.blocks.now) b d).last
       → block_at (max t (get_or a.documents.now c 0)) (map (block_read reading) a.blocks.now) ≡ get_or (map (block_read reading) a.blocks.now) b d
   found_at c t b d l from inside passed reached =
       let bs = map (block_read reading) a.blocks.now in
       let reaches = end_reaches a.block_len a.documents.now h.documents h.block_len b c l (place_below c b a.block_len h.block_len from) in
-      first_at (max t (get_or a.documents.now c 0)) b bs d (omega (arith, length-map a.blocks.now (block_read reading))) (omega (arith, reached, reaches, block_last b d inside))
+      first_at (max t (get_or a.documents.now c 0)) b bs d (omega (arith, length-map a.blocks.now (block_read reading)))
+      (omega (arith, reached, reaches, block_last b d inside))
       (λ k lt. elim (cases_lt k (c / a.block_len)) [
-        | inl before ↦ omega (arith, block_last k d (omega arith), end_before a.block_len a.documents.now h.documents h.block_len k c l (place_from c k a.block_len before))
+        | inl before ↦ omega (
+          arith,
+          block_last k d (omega arith),
+          end_before a.block_len a.documents.now h.documents h.block_len k c l (place_from c k a.block_len before),
+        )
         | inr past ↦ omega (arith, passed k past lt)
       ])
 
   -- and the block of a place
-  pub block_here : (c : ℕ) (d : Block) → c < length a.documents.now → block_at (max 0 (get_or a.documents.now c 0)) (map (block_read reading) a.blocks.now) ≡ get_or (map (block_read reading) a.blocks.now) (c / a.block_len) d
-  block_here c d l = found_at c 0 (c / a.block_len) d l (omega arith) (omega (arith, infos_count, block_of_place c (length a.documents.now) a.block_len h.block_len l)) (λ k from lt. absurd (omega arith)) (omega arith)
+  pub block_here : (c : ℕ) (d : Block) → c < length a.documents.now →
+      block_at (max 0 (get_or a.documents.now c 0)) (map (block_read reading) a.blocks.now) ≡ get_or (map (block_read reading) a.blocks.now) (c / a.block_len) d
+  block_here c d l = found_at c 0 (c / a.block_len) d l (omega arith)
+      (omega (arith, infos_count, block_of_place c (length a.documents.now) a.block_len h.block_len l)) (λ k from lt. absurd (omega arith)) (omega arith)
 
 -- ---- what a cursor looks at
 
@@ -201,20 +219,29 @@ module _ (s : SegmentPostings) (h : IsPostings s) where
   ]
 
 -- the ends of blocks rise
-pub ends_rise : (reading : FreqReadingOption) (a : TermArrays) → AreArrays reading a → (b k : ℕ) (d : Block) → b ≤ k → k < length a.blocks.now → (get_or (map (block_read reading) a.blocks.now) b d).last ≤ (get_or (map (block_read reading) a.blocks.now) k d).last
+pub ends_rise : (reading : FreqReadingOption) (a : TermArrays) → AreArrays reading a → (b k : ℕ) (d : Block) → b ≤ k → k < length a.blocks.now →
+    (get_or (map (block_read reading) a.blocks.now) b d).last ≤ (get_or (map (block_read reading) a.blocks.now) k d).last
 ends_rise reading a h b k d le l =
     elim (cases_eq b k) [
-      | inl same ↦ let P : ℕ → Type 0 = λ n. (get_or (map (block_read reading) a.blocks.now) b d).last ≤ (get_or (map (block_read reading) a.blocks.now) n d).last in subst P same (omega arith)
+      | inl same ↦ let P : ℕ → Type 0 = λ n.
+          (get_or (map (block_read reading) a.blocks.now) b d).last ≤ (get_or (map (block_read reading) a.blocks.now) n d).last in subst P same (omega arith)
       | inr less ↦
           let n = length a.documents.now in
           let start = k * a.block_len in
           let inside : start < n = block_start k n a.block_len h.block_len (omega (arith, infos_count reading a h)) in
           let up : (b + 1) * a.block_len ≤ start = mul-le-mul_right a.block_len (omega arith) in
-          omega (arith, block_last reading a h b d (omega arith), block_last reading a h k d l, end_before a.block_len a.documents.now h.documents h.block_len b start inside up, end_reaches a.block_len a.documents.now h.documents h.block_len k start inside (omega (arith, more_block k a.block_len, h.block_len)))
+          omega (
+            arith,
+            block_last reading a h b d (omega arith),
+            block_last reading a h k d l,
+            end_before a.block_len a.documents.now h.documents h.block_len b start inside up,
+            end_reaches a.block_len a.documents.now h.documents h.block_len k start inside (omega (arith, more_block k a.block_len, h.block_len)),
+          )
     ]
 
 -- the last block ends at the end
-pub ends_at_end : (reading : FreqReadingOption) (a : TermArrays) → AreArrays reading a → (b : ℕ) (d : Block) → b < length a.blocks.now → length a.blocks.now ≤ b + 1 → (get_or (map (block_read reading) a.blocks.now) b d).last ≡ TERMINATED
+pub ends_at_end : (reading : FreqReadingOption) (a : TermArrays) → AreArrays reading a → (b : ℕ) (d : Block) →
+    b < length a.blocks.now → length a.blocks.now ≤ b + 1 → (get_or (map (block_read reading) a.blocks.now) b d).last ≡ TERMINATED
 ends_at_end reading a h b d l last =
     let n = length a.documents.now in
     let up : div_ceil n a.block_len * a.block_len ≤ (b + 1) * a.block_len = mul-le-mul_right a.block_len (omega (arith, infos_count reading a h)) in
@@ -226,7 +253,8 @@ block_within s h l =
     omega (arith, infos_count s.reading s.arrays h.arrays, small)
 
 -- a block from the cursor's on begins among the postings, and ends behind the cursor
-pub ends_behind : (s : SegmentPostings) (b : ℕ) → IsPostings s → s.cursor < length s.arrays.documents.now → s.cursor / s.arrays.block_len ≤ b → b < length s.arrays.blocks.now
+pub ends_behind : (s : SegmentPostings) (b : ℕ) → IsPostings s → s.cursor < length s.arrays.documents.now →
+    s.cursor / s.arrays.block_len ≤ b → b < length s.arrays.blocks.now
     → (b * s.arrays.block_len < length s.arrays.documents.now) × (s.cursor < b * s.arrays.block_len + s.arrays.block_len)
 ends_behind s b h l from within = (
   block_start b (length s.arrays.documents.now) s.arrays.block_len h.arrays.block_len (omega (arith, within, infos_count s.reading s.arrays h.arrays)),
@@ -250,15 +278,28 @@ blocks_small reading a h = omega (arith, blocks_few reading a h, few 0 a.documen
 abbrev pub no_info : BlockInfo
 no_info = record { last_doc = 0; max_term_freq = 0; least_fieldnorm_id = 0; positions_start = 0 }
 
-pub last_read : (reading : FreqReadingOption) (bounds : List BlockInfo) (b : ℕ) (d : Block) → b < length bounds → (get_or (map (block_read reading) bounds) b d).last ≡ (get_or bounds b no_info).last_doc
+pub last_read : (reading : FreqReadingOption) (bounds : List BlockInfo) (b : ℕ) (d : Block) →
+    b < length bounds → (get_or (map (block_read reading) bounds) b d).last ≡ (get_or bounds b no_info).last_doc
 last_read reading bounds b d l = ap (λ (x : Block). x.last) (get_or-map (block_read reading) bounds b no_info d l)
 
 -- a cursor that is made to look at a block
 module _ (s : SegmentPostings) (h : IsPostings s) (look : ℕ) (l : s.cursor < length s.arrays.documents.now) (t : ℕ) where
   abbrev looking : SegmentPostings
-  looking = record { arrays = s.arrays; reading = s.reading; cursor = s.cursor; mark = s.mark; mark_start = s.mark_start; block = s.block; block_end = s.block_end; last_doc = s.last_doc; look_from = s.cursor; look = look }
+  looking = record {
+    arrays = s.arrays;
+    reading = s.reading;
+    cursor = s.cursor;
+    mark = s.mark;
+    mark_start = s.mark_start;
+    block = s.block;
+    block_end = s.block_end;
+    last_doc = s.last_doc;
+    look_from = s.cursor;
+    look = look;
+  }
 
-  pub looks_at : s.cursor / s.arrays.block_len ≤ look → look < length s.arrays.blocks.now → ((k : ℕ) (d : Block) → s.cursor / s.arrays.block_len ≤ k → k < look → (get_or (postings_blocks s) k d).last < t) → ((d : Block) → t ≤ (get_or (postings_blocks s) look d).last)
+  pub looks_at : s.cursor / s.arrays.block_len ≤ look → look < length s.arrays.blocks.now → ((k : ℕ) (d : Block) → s.cursor / s.arrays.block_len ≤ k →
+      k < look → (get_or (postings_blocks s) k d).last < t) → ((d : Block) → t ≤ (get_or (postings_blocks s) look d).last)
       → looked_block looking ≡ looked_at t (head_document (postings_left s)) (postings_blocks s)
   looks_at from inside passed reached =
       let is : nat_eq s.cursor s.cursor ≡ true = eq-eqb s.cursor s.cursor refl in
@@ -286,7 +327,8 @@ no_last = no_block
 
 -- a cursor at its start
 abbrev pub at_start : FreqReadingOption → TermArrays → SegmentPostings
-at_start reading a = record { arrays = a; reading = reading; cursor = 0; mark = 0; mark_start = 0; block = 0; block_end = 0; last_doc = 0; look_from = 0; look = 0 }
+at_start reading a =
+    record { arrays = a; reading = reading; cursor = 0; mark = 0; mark_start = 0; block = 0; block_end = 0; last_doc = 0; look_from = 0; look = 0 }
 
 pub zero_blocks : (reading : FreqReadingOption) (a : TermArrays) → looked_number (at_start reading a) ≡ 0 / a.block_len
 zero_blocks reading a = sym (zero-div a.block_len)
@@ -301,13 +343,26 @@ starts reading a h = record {
   block_end = (omega arith, omega arith);
   last_doc = λ inside. absurd (omega arith);
   look_from = omega arith;
-  look = λ at inside. (omega (arith, zero-div a.block_len), omega (arith, infos_count reading a h, block_of_place 0 (length a.documents.now) a.block_len h.block_len inside));
+  look = λ at inside.
+      (omega (arith, zero-div a.block_len), omega (arith, infos_count reading a h, block_of_place 0 (length a.documents.now) a.block_len h.block_len inside));
 }
 
 -- a cursor that goes on to a place of the block that it knows looks at that block
-module _ (s : SegmentPostings) (h : IsPostings s) (place : ℕ) (from : s.cursor ≤ place) (start : s.cursor < s.block_end) (within : place ≤ s.block_end) (end : place < length s.arrays.documents.now → place < s.block_end) where
+module _ (s : SegmentPostings) (h : IsPostings s) (place : ℕ) (from : s.cursor ≤ place) (start : s.cursor < s.block_end)
+    (within : place ≤ s.block_end) (end : place < length s.arrays.documents.now → place < s.block_end) where
   abbrev standing : SegmentPostings
-  standing = record { arrays = s.arrays; reading = s.reading; cursor = place; mark = s.mark; mark_start = s.mark_start; block = s.block; block_end = s.block_end; last_doc = s.last_doc; look_from = place; look = s.block }
+  standing = record {
+    arrays = s.arrays;
+    reading = s.reading;
+    cursor = place;
+    mark = s.mark;
+    mark_start = s.mark_start;
+    block = s.block;
+    block_end = s.block_end;
+    last_doc = s.last_doc;
+    look_from = place;
+    look = s.block;
+  }
 
   stands_here : place < length s.arrays.documents.now → s.block ≡ place / s.arrays.block_len
   stands_here inside = number_of_place place s.block s.arrays.block_len h.arrays.block_len (omega (arith, h.block)) (omega (arith, end inside, h.block_end))
@@ -322,7 +377,15 @@ module _ (s : SegmentPostings) (h : IsPostings s) (place : ℕ) (from : s.cursor
     block_end = h.block_end;
     last_doc = λ inside. h.last_doc start;
     look_from = omega arith;
-    look = λ at inside. (omega (arith, stands_here inside), omega (arith, stands_here inside, infos_count s.reading s.arrays h.arrays, block_of_place place (length s.arrays.documents.now) s.arrays.block_len h.arrays.block_len inside));
+    look = λ at inside. (
+      omega (arith, stands_here inside),
+      omega (
+        arith,
+        stands_here inside,
+        infos_count s.reading s.arrays h.arrays,
+        block_of_place place (length s.arrays.documents.now) s.arrays.block_len h.arrays.block_len inside,
+      ),
+    );
   }
 
   stands_number : place < length s.arrays.documents.now → looked_number standing ≡ place / s.arrays.block_len
@@ -332,9 +395,21 @@ module _ (s : SegmentPostings) (h : IsPostings s) (place : ℕ) (from : s.cursor
   stands_looking = looks_here standing stands_valid stands_number
 
 -- a cursor that goes on, however it does, looks at the block of the place that it comes to
-module _ (s : SegmentPostings) (h : IsPostings s) (place : ℕ) (from : s.cursor ≤ place) (within : place ≤ length s.arrays.documents.now) (on : place < length s.arrays.documents.now → s.cursor < place) where
+module _ (s : SegmentPostings) (h : IsPostings s) (place : ℕ) (from : s.cursor ≤ place)
+    (within : place ≤ length s.arrays.documents.now) (on : place < length s.arrays.documents.now → s.cursor < place) where
   abbrev moved : SegmentPostings
-  moved = record { arrays = s.arrays; reading = s.reading; cursor = place; mark = s.mark; mark_start = s.mark_start; block = s.block; block_end = s.block_end; last_doc = s.last_doc; look_from = s.look_from; look = s.look }
+  moved = record {
+    arrays = s.arrays;
+    reading = s.reading;
+    cursor = place;
+    mark = s.mark;
+    mark_start = s.mark_start;
+    block = s.block;
+    block_end = s.block_end;
+    last_doc = s.last_doc;
+    look_from = s.look_from;
+    look = s.look;
+  }
 
   pub moved_valid : IsPostings moved
   moved_valid = record {
@@ -350,7 +425,8 @@ module _ (s : SegmentPostings) (h : IsPostings s) (place : ℕ) (from : s.cursor
   }
 
   pub moved_looking : LooksHere moved
-  moved_looking = looks_here moved moved_valid (λ inside. let off : nat_eq s.look_from place ≡ false = ne_eqb s.look_from place (λ same. omega (arith, on inside, h.look_from)) in rw off refl)
+  moved_looking = looks_here moved moved_valid
+      (λ inside. let off : nat_eq s.look_from place ≡ false = ne_eqb s.look_from place (λ same. omega (arith, on inside, h.look_from)) in rw off refl)
 
 -- one that has gone by all postings looks at none, wherever it looked
 pub looks_at_none : (s : SegmentPostings) → IsPostings s → length s.arrays.documents.now ≤ s.cursor → LooksHere s

@@ -1,5 +1,6 @@
 -- The bounds of blocks, as they are made and as they are read.
-use Rattle.std.proofs.Common.{◌≡◌, ℕ, zero, suc, ◌+◌, ◌-◌, ◌*◌, ◌<◌, ◌≤◌, true, false, cond, sum, List, [], ◌∷◌, ◌++◌, length, length-append, map, get_or, take, drop, min, sym, ap, refl, subst, ◌∙◌, arith, inl, inr, length-drop}
+use Rattle.std.proofs.Common.{◌≡◌, ℕ, zero, suc, ◌+◌, ◌-◌, ◌*◌, ◌<◌, ◌≤◌, true, false, cond, sum, List, [], ◌∷◌, ◌++◌, length, length-append, map, get_or, take}
+use Rattle.std.proofs.Common.{drop, min, sym, ap, refl, subst, ◌∙◌, arith, inl, inr, length-drop}
 use Rattle.std.specs.Prelude.{nat_lt}
 use Rattle.std.specs.List.{flat_map, fold}
 use Rattle.std.proofs.Math.Nat.{mul-le-mul_right}
@@ -17,7 +18,8 @@ pub least-none : (ids : List ℕ) → 255 ≡ least_id ids []
 unfolding least_id least
 least-none ids = refl
 
-pub least-more : (ids ds : List ℕ) (i : ℕ) (d : ℕ) → i < length ds → least_id ids (take (i + 1) ds) ≡ min (least_id ids (take i ds)) (get_or ids (get_or ds i d) 1)
+pub least-more : (ids ds : List ℕ) (i : ℕ) (d : ℕ) → i < length ds →
+    least_id ids (take (i + 1) ds) ≡ min (least_id ids (take i ds)) (get_or ids (get_or ds i d) 1)
 unfolding least_id least
 least-more ids ds i d l =
     let f : ℕ → ℕ = λ x. get_or ids x 1 in
@@ -30,11 +32,13 @@ unfolding piece
 part-piece bl b n xs long =
     let width : b * bl + min bl (n - b * bl) - b * bl ≡ min bl (n - b * bl) = omega arith in
     ap (λ k. take k (drop (b * bl) xs)) width ∙ elim (cases_lt (n - b * bl) bl) [
-      | inl fewer ↦ ap (λ k. take k (drop (b * bl) xs)) (omega arith) ∙ take_all (n - b * bl) (drop (b * bl) xs) (omega (arith, length-drop (b * bl) xs)) ∙ sym (take_all bl (drop (b * bl) xs) (omega (arith, length-drop (b * bl) xs)))
+      | inl fewer ↦ ap (λ k. take k (drop (b * bl) xs)) (omega arith) ∙ take_all (n - b * bl) (drop (b * bl) xs) (omega (arith, length-drop (b * bl) xs))
+          ∙ sym (take_all bl (drop (b * bl) xs) (omega (arith, length-drop (b * bl) xs)))
       | inr whole ↦ ap (λ k. take k (drop (b * bl) xs)) (omega arith)
     ]
 
-pub end-inside : (bl b : ℕ) (ds : List ℕ) → b * bl + min bl (length ds - b * bl) < length ds → get_or ds (b * bl + min bl (length ds - b * bl) - 1) 0 ≡ end_of bl ds b
+pub end-inside : (bl b : ℕ) (ds : List ℕ) → b * bl + min bl (length ds - b * bl) < length ds →
+    get_or ds (b * bl + min bl (length ds - b * bl) - 1) 0 ≡ end_of bl ds b
 end-inside bl b ds l =
     let end : b * bl + min bl (length ds - b * bl) ≡ (b + 1) * bl = omega (arith, more_block b bl) in
     ap (λ k. get_or ds (k - 1) 0) end ∙ sym (end_inside bl ds b (omega arith))
@@ -43,7 +47,8 @@ pub end-last : (bl b : ℕ) (ds : List ℕ) → length ds ≤ b * bl + min bl (l
 end-last bl b ds l = sym (end_last bl ds b (omega (arith, more_block b bl)))
 
 -- the document before a place, or the end where that place is the end, is the end of the block
-pub end_before_place : (bl b : ℕ) (ds : List ℕ) → cond (nat_lt (b * bl + min bl (length ds - b * bl)) (length ds)) (get_or ds (b * bl + min bl (length ds - b * bl) - 1) 0) TERMINATED ≡ end_of bl ds b
+pub end_before_place : (bl b : ℕ) (ds : List ℕ) →
+    cond (nat_lt (b * bl + min bl (length ds - b * bl)) (length ds)) (get_or ds (b * bl + min bl (length ds - b * bl) - 1) 0) TERMINATED ≡ end_of bl ds b
 end_before_place bl b ds =
     let end = b * bl + min bl (length ds - b * bl) in
     elim (cases_lt end (length ds)) [
@@ -69,7 +74,8 @@ sum-more bl b fs within =
 
 -- ---- the bounds of all terms
 
-pub flat-more : {X A : Type 0} (f : X → List A) (xs : List X) (i : ℕ) (d : X) → i < length xs → flat_map f (take (i + 1) xs) ≡ flat_map f (take i xs) ++ f (get_or xs i d)
+pub flat-more : {X A : Type 0} (f : X → List A) (xs : List X) (i : ℕ) (d : X) →
+    i < length xs → flat_map f (take (i + 1) xs) ≡ flat_map f (take i xs) ++ f (get_or xs i d)
 flat-more f [] i d l = absurd (omega arith)
 flat-more f (x ∷ xs) zero d l = flat_map-cons f x [] ∙ append-nil (f x)
 flat-more f (x ∷ xs) (suc i) d l =
@@ -77,11 +83,13 @@ flat-more f (x ∷ xs) (suc i) d l =
     ap (λ k. flat_map f (take k (x ∷ xs))) n ∙ flat_map-cons f x (take (i + 1) xs) ∙ ap (λ ys. f x ++ ys) (flat-more f xs i d (omega arith))
     ∙ sym (append_assoc (f x) (flat_map f (take i xs)) (f (get_or xs i d))) ∙ ap (λ ys. ys ++ f (get_or xs i d)) (sym (flat_map-cons f x (take i xs)))
 
-pub flat-piece : {X A : Type 0} (f : X → List A) (xs : List X) (i : ℕ) (d : X) → i < length xs → take (length (f (get_or xs i d))) (drop (length (flat_map f (take i xs))) (flat_map f xs)) ≡ f (get_or xs i d)
+pub flat-piece : {X A : Type 0} (f : X → List A) (xs : List X) (i : ℕ) (d : X) → i < length xs →
+    take (length (f (get_or xs i d))) (drop (length (flat_map f (take i xs))) (flat_map f xs)) ≡ f (get_or xs i d)
 flat-piece f [] i d l = absurd (omega arith)
 flat-piece f (x ∷ xs) zero d l = ap (take (length (f x))) (flat_map-cons f x xs) ∙ take-append_seam (f x) (flat_map f xs)
 flat-piece f (x ∷ xs) (suc i) d l =
-    let at : length (flat_map f (x ∷ take i xs)) ≡ length (f x) + length (flat_map f (take i xs)) = ap length (flat_map-cons f x (take i xs)) ∙ length-append (f x) (flat_map f (take i xs)) in
+    let at : length (flat_map f (x ∷ take i xs)) ≡ length (f x) + length (flat_map f (take i xs)) = ap length (flat_map-cons f x (take i xs))
+    ∙ length-append (f x) (flat_map f (take i xs)) in
     (λ j. take (length (f (get_or xs i d))) (drop (at j) (flat_map-cons f x xs j)))
     ∙ ap (take (length (f (get_or xs i d)))) (drop-append-add (f x) (flat_map f xs) (length (flat_map f (take i xs))))
     ∙ flat-piece f xs i d (omega arith)

@@ -2,7 +2,8 @@
 -- column of length ids. The postings of all terms stand end to end, term by term, in an array of
 -- documents, one of frequencies and one of positions; a term has a range of each. Its blocks stand in a
 -- row of their own: what is known of each `block_len` of its postings, the last ones being fewer or full.
-use Rattle.std.specs.Prelude.{◌≡◌, ℕ, ◌+◌, ◌-◌, ◌*◌, ◌<◌, ◌≤◌, ◌==◌, nat_lt, List, [], ◌∷◌, ◌++◌, All, length, filter, map, max, min, fold, take, drop, cond, if◌then◌else◌, slice_index, slice_index_or, sum}
+use Rattle.std.specs.Prelude.{◌≡◌, ℕ, ◌+◌, ◌-◌, ◌*◌, ◌<◌, ◌≤◌, ◌==◌, nat_lt, List, [], ◌∷◌, ◌++◌, All, length, filter, map, max, min, fold, take, drop, cond}
+use Rattle.std.specs.Prelude.{if◌then◌else◌, slice_index, slice_index_or, sum}
 use Rattle.std.specs.Int.{div_ceil}
 use Rattle.std.specs.List.{IsDistinct, flat_map, range_with_len}
 use Rattle.std.specs.List.Sorted.{IsStrictlySortedBy}
@@ -164,16 +165,19 @@ pub record IsCounted (schema : List FieldFacts) (p : Posted) : Type 0 where
 pub record HavePositions (schema : List FieldFacts) (ranges : List PostingsRange) (ds fs ps : List ℕ) : Type 0 where
   pub within : All (λ r. r.positions_start + r.positions_count ≤ length ps) ranges
   pub counted : All (λ r. r.positions_count ≡ (if keeps_positions schema r.term.field then sum (in_range r fs) else 0)) ranges
-  pub ascending : (reading : FreqReadingOption) → All (λ r. All (λ e. ArePositions e.positions) (stored_entries reading (in_range r ds) (in_range r fs) (positions_in r ps))) ranges
+  pub ascending : (reading : FreqReadingOption) →
+      All (λ r. All (λ e. ArePositions e.positions) (stored_entries reading (in_range r ds) (in_range r fs) (positions_in r ps))) ranges
 
 -- The blocks of all terms, term by term, and where those of each term begin.
-pub record HaveBlocks (block_len : ℕ) (ranges : List PostingsRange) (ds fs : List ℕ) (columns : List (List ℕ)) (starts : List ℕ) (infos : List BlockInfo) : Type 0 where
+pub record HaveBlocks (block_len : ℕ) (ranges : List PostingsRange) (ds fs : List ℕ)
+    (columns : List (List ℕ)) (starts : List ℕ) (infos : List BlockInfo) : Type 0 where
   pub all : infos ≡ flat_map (range_infos block_len columns ds fs) ranges
   pub places : starts ≡ map (λ i. length (flat_map (range_infos block_len columns ds fs) (take i ranges))) (range_with_len 0 (length ranges))
 
 -- A segment as it is kept: so many documents, the ranges of its terms, the arrays of all postings, a
 -- column of length ids for each field, and the blocks of all terms.
-pub record IsKept (schema : List FieldFacts) (block_len count : ℕ) (ranges : List PostingsRange) (ds fs ps : List ℕ) (columns : List (List ℕ)) (starts : List ℕ) (infos : List BlockInfo) : Type 0 where
+pub record IsKept (schema : List FieldFacts) (block_len count : ℕ) (ranges : List PostingsRange)
+    (ds fs ps : List ℕ) (columns : List (List ℕ)) (starts : List ℕ) (infos : List BlockInfo) : Type 0 where
   pub few : count ≤ TERMINATED
   pub index : IsIndex count ranges ds fs
   pub lengths : AreColumns schema count columns

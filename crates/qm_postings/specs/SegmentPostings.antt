@@ -51,4 +51,5 @@ pub record IsPostings (s : SegmentPostings) : Type 0 where
   pub block_end : (s.block_end ≤ (s.block + 1) * s.arrays.block_len) × (s.block_end ≤ length s.arrays.documents.now)
   pub last_doc : s.cursor < s.block_end → s.block_end < length s.arrays.documents.now → s.last_doc ≤ slice_index s.arrays.documents.now (s.block_end - 1)
   pub look_from : s.look_from ≤ s.cursor
-  pub look : s.look_from ≡ s.cursor → s.cursor < length s.arrays.documents.now → (s.cursor / s.arrays.block_len ≤ s.look) × (s.look < length s.arrays.blocks.now)
+  pub look : s.look_from ≡ s.cursor → s.cursor < length s.arrays.documents.now →
+      (s.cursor / s.arrays.block_len ≤ s.look) × (s.look < length s.arrays.blocks.now)

@@ -39,14 +39,16 @@ offsets_fit terms few = λ k d h.
     let at : 0 + k ≤ 4294967295 = omega arith in
     subst (λ (x : ℕ × TermKey). x.0 ≤ 4294967295) (sym (get_or-enumerate_from 0 terms k d below)) at
 
-pub enumerate_from-push : (n : ℕ) (terms : List TermKey) (t : TermKey) → enumerate_from n (terms ++ t ∷ []) ≡ enumerate_from n terms ++ (n + length terms, t) ∷ []
+pub enumerate_from-push : (n : ℕ) (terms : List TermKey) (t : TermKey) →
+    enumerate_from n (terms ++ t ∷ []) ≡ enumerate_from n terms ++ (n + length terms, t) ∷ []
 enumerate_from-push n [] t = let same : n ≡ n + 0 = omega arith in ap (λ m. (m, t) ∷ []) same
 enumerate_from-push n (x ∷ terms) t =
     let moved : n + 1 + length terms ≡ n + length (x ∷ terms) = omega arith in
     ap (λ l. (n, x) ∷ l) (enumerate_from-push (n + 1) terms t ∙ ap (λ m. enumerate_from (n + 1) terms ++ (m, t) ∷ []) moved)
 
 -- one term more
-pub enumerate_step : (pairs : List (ℕ × TermKey)) (terms : List TermKey) (t : TermKey) (n : ℕ) → pairs ≡ enumerate_from 0 terms → n ≡ length pairs → pairs ++ (n, t) ∷ [] ≡ enumerate_from 0 (terms ++ t ∷ [])
+pub enumerate_step : (pairs : List (ℕ × TermKey)) (terms : List TermKey) (t : TermKey) (n : ℕ) →
+    pairs ≡ enumerate_from 0 terms → n ≡ length pairs → pairs ++ (n, t) ∷ [] ≡ enumerate_from 0 (terms ++ t ∷ [])
 enumerate_step pairs terms t n so_far count =
     let place : n ≡ 0 + length terms = omega (arith, ap length so_far, length-enumerate_from 0 terms) in
     (λ i. so_far i ++ (place i, t) ∷ []) ∙ sym (enumerate_from-push 0 terms t)
@@ -57,5 +59,6 @@ clauses_each occur [] = refl
 clauses_each occur (q ∷ queries) = ap (λ l. (occur, query_of q.value) ∷ l) (clauses_each occur queries)
 
 -- the least number of Should clauses, where what the clauses ask for is not looked at
-pub minimum_of_clauses : (clauses : List (Occur × Box AnyQuery Global)) → default_minimum (λ c. c.0) (map clause_of clauses) ≡ default_minimum (λ c. c.0) clauses
+pub minimum_of_clauses : (clauses : List (Occur × Box AnyQuery Global)) →
+    default_minimum (λ c. c.0) (map clause_of clauses) ≡ default_minimum (λ c. c.0) clauses
 minimum_of_clauses clauses = λ i. if list_all-map (λ c. is_should c.0) clause_of clauses i && nat_lt 0 (length-map clauses clause_of i) then 1 else 0

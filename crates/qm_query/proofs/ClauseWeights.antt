@@ -1,6 +1,7 @@
 -- The weights of clauses stand for the trees of the clauses, and a clause that is refused behind others that
 -- are served refuses them all.
-use Rattle.std.proofs.Common.{◌≡◌, ℕ, zero, suc, ◌+◌, ◌<◌, ◌≤◌, Bool, true, false, ◌&&◌, List, [], ◌∷◌, ◌++◌, length, map, take, get_or, arith, refl, sym, subst, ap, ◌∙◌, inl, inr, Box, Global}
+use Rattle.std.proofs.Common.{◌≡◌, ℕ, zero, suc, ◌+◌, ◌<◌, ◌≤◌, Bool, true, false, ◌&&◌, List, [], ◌∷◌, ◌++◌, length, map, take, get_or, arith, refl, sym}
+use Rattle.std.proofs.Common.{subst, ap, ◌∙◌, inl, inr, Box, Global}
 use Rattle.std.proofs.lemmas.List.{map-append, map_more, take_all}
 use Rattle.std.proofs.lemmas.List.Folds.{list_all_more}
 use Rattle.std.specs.List.{list_all}
@@ -39,11 +40,13 @@ is_clause_served fields c = is_served fields (query_of c.1.value)
 abbrev pub is_disjunct_served : List FieldFacts → Box AnyQuery Global → Bool
 is_disjunct_served fields q = is_served fields (query_of q.value)
 
-pub are_clauses_served-list : (fields : List FieldFacts) (cs : List (Occur × Box AnyQuery Global)) → are_clauses_served fields (subqueries_of cs) ≡ list_all (is_clause_served fields) cs
+pub are_clauses_served-list : (fields : List FieldFacts) (cs : List (Occur × Box AnyQuery Global)) →
+    are_clauses_served fields (subqueries_of cs) ≡ list_all (is_clause_served fields) cs
 are_clauses_served-list fields [] = refl
 are_clauses_served-list fields (c ∷ cs) = ap (λ b. is_clause_served fields c && b) (are_clauses_served-list fields cs)
 
-pub are_disjuncts_served-list : (fields : List FieldFacts) (qs : List (Box AnyQuery Global)) → are_disjuncts_served fields (disjuncts_of qs) ≡ list_all (is_disjunct_served fields) qs
+pub are_disjuncts_served-list : (fields : List FieldFacts) (qs : List (Box AnyQuery Global)) →
+    are_disjuncts_served fields (disjuncts_of qs) ≡ list_all (is_disjunct_served fields) qs
 are_disjuncts_served-list fields [] = refl
 are_disjuncts_served-list fields (q ∷ qs) = ap (λ b. is_disjunct_served fields q && b) (are_disjuncts_served-list fields qs)
 
@@ -64,23 +67,30 @@ step : {A B C : Type 0} (f : A → C) (g : B → C) (xs after : List A) (x : A) 
 step f g xs after x ys i y pushed is within so_far same =
     ap (map f) pushed ∙ map-append f xs (x ∷ []) ∙ (λ j. so_far j ++ (same ∙ ap g is) j ∷ []) ∙ sym (map_more g ys i y within)
 
-all_step : {B : Type 0} (p : B → Bool) (ys : List B) (i : ℕ) (y : B) → y ≡ get_or ys i y → i < length ys → list_all p (take i ys) ≡ true → p y ≡ true → list_all p (take (i + 1) ys) ≡ true
+all_step : {B : Type 0} (p : B → Bool) (ys : List B) (i : ℕ) (y : B) → y ≡ get_or ys i y →
+    i < length ys → list_all p (take i ys) ≡ true → p y ≡ true → list_all p (take (i + 1) ys) ≡ true
 all_step p ys i y is within so_far here =
     list_all_more p ys i y within ∙ (λ j. so_far j && (ap p (sym is) ∙ here) j)
 
 pub are_clauses_served-step : (fields : List FieldFacts) (cs : List (Occur × Box AnyQuery Global)) (i : ℕ) (c : Occur × Box AnyQuery Global)
-    → c ≡ get_or cs i c → i < length cs → list_all (is_clause_served fields) (take i cs) ≡ true → is_served fields (query_of c.1.value) ≡ true → list_all (is_clause_served fields) (take (i + 1) cs) ≡ true
+    → c ≡ get_or cs i c → i < length cs → list_all (is_clause_served fields) (take i cs) ≡ true →
+    is_served fields (query_of c.1.value) ≡ true → list_all (is_clause_served fields) (take (i + 1) cs) ≡ true
 are_clauses_served-step fields cs i c is within so_far here = all_step (is_clause_served fields) cs i c is within so_far here
 
 pub are_disjuncts_served-step : (fields : List FieldFacts) (qs : List (Box AnyQuery Global)) (i : ℕ) (q : Box AnyQuery Global)
-    → q ≡ get_or qs i q → i < length qs → list_all (is_disjunct_served fields) (take i qs) ≡ true → is_served fields (query_of q.value) ≡ true → list_all (is_disjunct_served fields) (take (i + 1) qs) ≡ true
+    → q ≡ get_or qs i q → i < length qs → list_all (is_disjunct_served fields) (take i qs) ≡ true →
+    is_served fields (query_of q.value) ≡ true → list_all (is_disjunct_served fields) (take (i + 1) qs) ≡ true
 are_disjuncts_served-step fields qs i q is within so_far here = all_step (is_disjunct_served fields) qs i q is within so_far here
 
-pub are_clauses_served-whole : (fields : List FieldFacts) (cs : List (Occur × Box AnyQuery Global)) (i : ℕ) → length cs ≤ i → list_all (is_clause_served fields) (take i cs) ≡ true → are_clauses_served fields (subqueries_of cs) ≡ true
-are_clauses_served-whole fields cs i whole served = are_clauses_served-list fields cs ∙ ap (list_all (is_clause_served fields)) (sym (take_all i cs whole)) ∙ served
+pub are_clauses_served-whole : (fields : List FieldFacts) (cs : List (Occur × Box AnyQuery Global)) (i : ℕ) → length cs ≤ i →
+    list_all (is_clause_served fields) (take i cs) ≡ true → are_clauses_served fields (subqueries_of cs) ≡ true
+are_clauses_served-whole fields cs i whole served = are_clauses_served-list fields cs
+    ∙ ap (list_all (is_clause_served fields)) (sym (take_all i cs whole)) ∙ served
 
-pub are_disjuncts_served-whole : (fields : List FieldFacts) (qs : List (Box AnyQuery Global)) (i : ℕ) → length qs ≤ i → list_all (is_disjunct_served fields) (take i qs) ≡ true → are_disjuncts_served fields (disjuncts_of qs) ≡ true
-are_disjuncts_served-whole fields qs i whole served = are_disjuncts_served-list fields qs ∙ ap (list_all (is_disjunct_served fields)) (sym (take_all i qs whole)) ∙ served
+pub are_disjuncts_served-whole : (fields : List FieldFacts) (qs : List (Box AnyQuery Global)) (i : ℕ) → length qs ≤ i →
+    list_all (is_disjunct_served fields) (take i qs) ≡ true → are_disjuncts_served fields (disjuncts_of qs) ≡ true
+are_disjuncts_served-whole fields qs i whole served = are_disjuncts_served-list fields qs
+    ∙ ap (list_all (is_disjunct_served fields)) (sym (take_all i qs whole)) ∙ served
 
 module _ {P : Type 0} (S : Ghosts P) (under : EnableScoring P) where
   abbrev pub query_clause : Occur × Box AnyQuery Global → Occur × Tree
@@ -119,25 +129,33 @@ module _ {P : Type 0} (S : Ghosts P) (under : EnableScoring P) where
       inr (both_left here others served, disjunct_refused qs i d error (omega (arith, within)) (both_right here others served) refused)
 
   pub clause_weight_refused : (cs : List (Occur × Box AnyQuery Global)) (i minimum : ℕ) (c : Occur × Box AnyQuery Global) (error : QueryError)
-      → c ≡ get_or cs i c → i < length cs → list_all (is_clause_served (schema_of under)) (take i cs) ≡ true → IsWeightRefusal S under (query_of c.1.value) error
+      → c ≡ get_or cs i c → i < length cs → list_all (is_clause_served (schema_of under)) (take i cs) ≡ true →
+      IsWeightRefusal S under (query_of c.1.value) error
       → IsWeightRefusal S under (boolean minimum (subqueries_of cs)) error
   clause_weight_refused cs i minimum c error is within served (inl memory) = inl memory
   clause_weight_refused cs i minimum c error is within served (inr refused) =
       inr (clause_refused cs i c error within served (subst (λ (x : Occur × Box AnyQuery Global). IsRefused S under (query_of x.1.value) error) is refused))
 
   pub disjunct_weight_refused : (qs : List (Box AnyQuery Global)) (i tie_breaker : ℕ) (q : Box AnyQuery Global) (error : QueryError)
-      → q ≡ get_or qs i q → i < length qs → list_all (is_disjunct_served (schema_of under)) (take i qs) ≡ true → IsWeightRefusal S under (query_of q.value) error
+      → q ≡ get_or qs i q → i < length qs → list_all (is_disjunct_served (schema_of under)) (take i qs) ≡ true →
+      IsWeightRefusal S under (query_of q.value) error
       → IsWeightRefusal S under (disjunction_max tie_breaker (disjuncts_of qs)) error
   disjunct_weight_refused qs i tie_breaker q error is within served (inl memory) = inl memory
   disjunct_weight_refused qs i tie_breaker q error is within served (inr refused) =
       inr (disjunct_refused qs i q error within served (subst (λ (x : Box AnyQuery Global). IsRefused S under (query_of x.value) error) is refused))
 
-  pub clause_trees-step : (ws after : List (Occur × Box AnyWeight Global)) (w : Occur × Box AnyWeight Global) (cs : List (Occur × Box AnyQuery Global)) (i : ℕ) (c : Occur × Box AnyQuery Global)
-      → after ≡ ws ++ w ∷ [] → c ≡ get_or cs i c → i < length cs → map weight_clause ws ≡ map query_clause (take i cs) → weight_clause w ≡ query_clause c → map weight_clause after ≡ map query_clause (take (i + 1) cs)
+  pub clause_trees-step : (ws after : List (Occur × Box AnyWeight Global)) (w : Occur × Box AnyWeight Global)
+      (cs : List (Occur × Box AnyQuery Global)) (i : ℕ) (c : Occur × Box AnyQuery Global)
+      → after ≡ ws ++ w ∷ [] → c ≡ get_or cs i c → i < length cs → map weight_clause ws ≡ map query_clause (take i cs) →
+      weight_clause w ≡ query_clause c → map weight_clause after ≡ map query_clause (take (i + 1) cs)
   clause_trees-step ws after w cs i c pushed is within so_far same = step weight_clause query_clause ws after w cs i c pushed is within so_far same
 
-  pub clause_trees-whole : (ws : List (Occur × Box AnyWeight Global)) (cs : List (Occur × Box AnyQuery Global)) (i : ℕ) → length cs ≤ i → map weight_clause ws ≡ map query_clause (take i cs) → clauses_from ws ≡ clause_trees S under (subqueries_of cs)
-  clause_trees-whole ws cs i whole same = clauses_from-trees ws ∙ ap tree_clauses (same ∙ ap (map query_clause) (take_all i cs whole)) ∙ sym (clause_trees-list cs)
+  pub clause_trees-whole : (ws : List (Occur × Box AnyWeight Global)) (cs : List (Occur × Box AnyQuery Global)) (i : ℕ) →
+      length cs ≤ i → map weight_clause ws ≡ map query_clause (take i cs) → clauses_from ws ≡ clause_trees S under (subqueries_of cs)
+  clause_trees-whole ws cs i whole same = clauses_from-trees ws
+      ∙ ap tree_clauses (same ∙ ap (map query_clause) (take_all i cs whole)) ∙ sym (clause_trees-list cs)
 
-  pub disjunct_trees-whole : (ws : List (Occur × Box AnyWeight Global)) (qs : List (Box AnyQuery Global)) (i : ℕ) → length qs ≤ i → map weight_clause ws ≡ map disjunct_clause (take i qs) → clauses_from ws ≡ disjunct_trees S under (disjuncts_of qs)
-  disjunct_trees-whole ws qs i whole same = clauses_from-trees ws ∙ ap tree_clauses (same ∙ ap (map disjunct_clause) (take_all i qs whole)) ∙ sym (disjunct_trees-list qs)
+  pub disjunct_trees-whole : (ws : List (Occur × Box AnyWeight Global)) (qs : List (Box AnyQuery Global)) (i : ℕ) → length qs ≤ i →
+      map weight_clause ws ≡ map disjunct_clause (take i qs) → clauses_from ws ≡ disjunct_trees S under (disjuncts_of qs)
+  disjunct_trees-whole ws qs i whole same = clauses_from-trees ws
+      ∙ ap tree_clauses (same ∙ ap (map disjunct_clause) (take_all i qs whole)) ∙ sym (disjunct_trees-list qs)

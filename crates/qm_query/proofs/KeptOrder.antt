@@ -73,10 +73,12 @@ map_if : (b : Bool) (us vs : List (DocAddress × ℤ)) → map kept_of (if b the
 map_if true us vs = refl
 map_if false us vs = refl
 
-put-placed : (p : DocAddress × ℤ) (xs : List (DocAddress × ℤ)) → All (λ x. address_cmp x.0 p.0 ≡ Less) xs → map kept_of (placed p xs) ≡ put worst_last (kept_of p) (map kept_of xs)
+put-placed : (p : DocAddress × ℤ) (xs : List (DocAddress × ℤ)) → All (λ x. address_cmp x.0 p.0 ≡ Less) xs →
+    map kept_of (placed p xs) ≡ put worst_last (kept_of p) (map kept_of xs)
 put-placed p [] before = refl
 put-placed p (x ∷ xs) before =
-    let test : is_lt (worst_last (kept_of p) (kept_of x)) ≡ lt_z x.1 p.1 = lt-behind (kept_of p) (kept_of x) (All-head (λ y. address_cmp y.0 p.0 ≡ Less) x xs before) in
+    let test : is_lt (worst_last (kept_of p) (kept_of x)) ≡ lt_z x.1 p.1 =
+    lt-behind (kept_of p) (kept_of x) (All-head (λ y. address_cmp y.0 p.0 ≡ Less) x xs before) in
     let others = put-placed p xs (All-tail (λ y. address_cmp y.0 p.0 ≡ Less) x xs before) in
     map_if (lt_z x.1 p.1) (p ∷ x ∷ xs) (x ∷ placed p xs)
     ∙ ap (λ l. if lt_z x.1 p.1 then kept_of p ∷ kept_of x ∷ map kept_of xs else kept_of x ∷ l) others
@@ -87,7 +89,8 @@ fold-placed : (ds xs : List (DocAddress × ℤ)) → All (λ x. All (λ y. addre
 fold-placed ds [] before up = refl
 fold-placed ds (x ∷ xs) before up =
     let behind : All (λ z. All (λ y. address_cmp y.0 z.0 ≡ Less) (placed x ds)) xs =
-    λ k d below. All-placed (λ y. address_cmp y.0 (get_or xs k d).0 ≡ Less) x ds (up.here k d below) (All-tail (λ z. All (λ y. address_cmp y.0 z.0 ≡ Less) ds) x xs before k d below) in
+    λ k d below. All-placed (λ y. address_cmp y.0 (get_or xs k d).0 ≡ Less) x ds (up.here k d below)
+    (All-tail (λ z. All (λ y. address_cmp y.0 z.0 ≡ Less) ds) x xs before k d below) in
     fold-placed (placed x ds) xs behind up.others
     ∙ ap (λ l. fold (λ l d. put worst_last d l) l (map kept_of xs)) (put-placed x ds (All-head (λ z. All (λ y. address_cmp y.0 z.0 ≡ Less) ds) x xs before))
 

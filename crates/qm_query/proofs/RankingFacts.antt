@@ -34,7 +34,8 @@ module _ {X : Type 0} (cmp : X → X → Ordering) where
   All-put P x [] here all = All-cons P x [] here all
   All-put P x (y ∷ ys) here all = elim (cases_Bool (is_lt (cmp x y))) [
     | inl less ↦ subst (All P) (sym (put-before x y ys less)) (All-cons P x (y ∷ ys) here all)
-    | inr behind ↦ subst (All P) (sym (put-behind x y ys behind)) (All-cons P y (put cmp x ys) (All-head P y ys all) (All-put P x ys here (All-tail P y ys all)))
+    | inr behind ↦
+        subst (All P) (sym (put-behind x y ys behind)) (All-cons P y (put cmp x ys) (All-head P y ys all) (All-put P x ys here (All-tail P y ys all)))
   ]
 
   -- behind all that are no greater
@@ -53,7 +54,8 @@ module _ {X : Type 0} (cmp : X → X → Ordering) where
   ranked_with-take (suc k) x [] = refl
   ranked_with-take (suc k) x (y ∷ ys) = elim (cases_Bool (is_lt (cmp x y))) [
     | inl less ↦ ap (take (suc k)) (put-before x y (take k ys) less) ∙ ap (λ l. x ∷ l) (take-front k y ys) ∙ sym (ap (take (suc k)) (put-before x y ys less))
-    | inr behind ↦ ap (take (suc k)) (put-behind x y (take k ys) behind) ∙ ap (λ l. y ∷ l) (ranked_with-take k x ys) ∙ sym (ap (take (suc k)) (put-behind x y ys behind))
+    | inr behind ↦ ap (take (suc k)) (put-behind x y (take k ys) behind)
+        ∙ ap (λ l. y ∷ l) (ranked_with-take k x ys) ∙ sym (ap (take (suc k)) (put-behind x y ys behind))
   ]
 
   -- one that is no less than k others is not among the least k
@@ -94,10 +96,13 @@ module _ {X : Type 0} (cmp : X → X → Ordering) (total : IsTotalOrder cmp) (s
   put-two x y less [] = put-before cmp x y [] (ap is_lt less) ∙ sym (put-behind cmp y x [] (back x y less))
   put-two x y less (z ∷ zs) = elim (cases_Bool (is_lt (cmp x z))) [
     | inl first ↦
-        let right : put cmp y (put cmp x (z ∷ zs)) ≡ x ∷ put cmp y (z ∷ zs) = ap (put cmp y) (put-before cmp x z zs first) ∙ put-behind cmp y x (z ∷ zs) (back x y less) in
+        let right : put cmp y (put cmp x (z ∷ zs)) ≡ x ∷ put cmp y (z ∷ zs) = ap (put cmp y) (put-before cmp x z zs first)
+        ∙ put-behind cmp y x (z ∷ zs) (back x y less) in
         let left : put cmp x (put cmp y (z ∷ zs)) ≡ x ∷ put cmp y (z ∷ zs) = elim (cases_Bool (is_lt (cmp y z))) [
-          | inl second ↦ ap (put cmp x) (put-before cmp y z zs second) ∙ put-before cmp x y (z ∷ zs) (ap is_lt less) ∙ sym (ap (λ l. x ∷ l) (put-before cmp y z zs second))
-          | inr third ↦ ap (put cmp x) (put-behind cmp y z zs third) ∙ put-before cmp x z (put cmp y zs) first ∙ sym (ap (λ l. x ∷ l) (put-behind cmp y z zs third))
+          | inl second ↦ ap (put cmp x) (put-before cmp y z zs second)
+              ∙ put-before cmp x y (z ∷ zs) (ap is_lt less) ∙ sym (ap (λ l. x ∷ l) (put-before cmp y z zs second))
+          | inr third ↦ ap (put cmp x) (put-behind cmp y z zs third)
+              ∙ put-before cmp x z (put cmp y zs) first ∙ sym (ap (λ l. x ∷ l) (put-behind cmp y z zs third))
         ] in
         left ∙ sym right
     | inr third ↦
@@ -143,7 +148,8 @@ module _ {X : Type 0} (cmp : X → X → Ordering) (total : IsTotalOrder cmp) (s
   ranking-sorted [] up = refl
   ranking-sorted (x ∷ xs) up =
       ranking-cons x xs
-      ∙ ap (put cmp x) (ranking-sorted xs (λ k d low high. let next : suc k + 1 ≡ suc (k + 1) = omega arith in subst (λ n. is_lt (cmp (get_or (x ∷ xs) n d) (get_or xs k d)) ≡ false) next (up (suc k) d (omega arith) (omega arith))))
+      ∙ ap (put cmp x) (ranking-sorted xs (λ k d low high. let next : suc k + 1 ≡ suc (k + 1) = omega arith in
+      subst (λ n. is_lt (cmp (get_or (x ∷ xs) n d) (get_or xs k d)) ≡ false) next (up (suc k) d (omega arith) (omega arith))))
       ∙ put-first x xs (λ k d below. sorted_far (λ y z. is_lt (cmp y z)) weak (x ∷ xs) up 0 (suc k) d (omega arith) (omega arith))
 
   -- ---- the least so many
@@ -158,20 +164,25 @@ module _ {X : Type 0} (cmp : X → X → Ordering) (total : IsTotalOrder cmp) (s
   pub ranking-replaced : (k : ℕ) (x greatest : X) (xs rest ys : List X) → k ≡ length xs → IsPermutation xs (greatest ∷ rest) → IsPermutation (x ∷ rest) ys
       → All (λ y. is_lt (cmp greatest y) ≡ false) xs → is_lt (cmp x greatest) ≡ true → ranking cmp ys ≡ ranked_with cmp k x (ranking cmp xs)
   ranking-replaced k x greatest xs rest ys full was is top less =
-      let others : All (λ y. is_lt (cmp greatest y) ≡ false) rest = All-tail (λ y. is_lt (cmp greatest y) ≡ false) greatest rest (All-permutation (λ y. is_lt (cmp greatest y) ≡ false) xs (greatest ∷ rest) was top) in
+      let others : All (λ y. is_lt (cmp greatest y) ≡ false) rest =
+      All-tail (λ y. is_lt (cmp greatest y) ≡ false) greatest rest (All-permutation (λ y. is_lt (cmp greatest y) ≡ false) xs (greatest ∷ rest) was top) in
       let left = put cmp x (ranking cmp rest) in
       let last : put cmp greatest left ≡ left ++ greatest ∷ [] =
-      put-last cmp greatest left (All-put cmp (λ y. is_lt (cmp greatest y) ≡ false) x (ranking cmp rest) (weak.one_way x greatest less) (All-ranking cmp (λ y. is_lt (cmp greatest y) ≡ false) rest others)) in
+      put-last cmp greatest left (All-put cmp (λ y. is_lt (cmp greatest y) ≡ false) x (ranking cmp rest)
+      (weak.one_way x greatest less) (All-ranking cmp (λ y. is_lt (cmp greatest y) ≡ false) rest others)) in
       let before : put cmp x (ranking cmp xs) ≡ left ++ greatest ∷ [] =
       ap (put cmp x) (ranking-permutation xs (greatest ∷ rest) was ∙ ranking-cons greatest rest) ∙ put-commutes x greatest (ranking cmp rest) ∙ last in
       let after : ranking cmp ys ≡ left = sym (ranking-permutation (x ∷ rest) ys is) ∙ ranking-cons x rest in
-      let long : length left ≡ k = omega (arith, length-put cmp x (ranking cmp rest), length-ranking cmp rest, length_permutation xs (greatest ∷ rest) was, full) in
+      let long : length left ≡ k =
+      omega (arith, length-put cmp x (ranking cmp rest), length-ranking cmp rest, length_permutation xs (greatest ∷ rest) was, full) in
       after ∙ sym (ap (take k) before ∙ take-append-le k left (greatest ∷ []) (omega (arith, long)) ∙ take_all k left (omega (arith, long)))
 
   -- and else it is let go
   pub ranking-full : (k : ℕ) (x greatest : X) (xs ys : List X) → k ≡ length xs → IsPermutation xs ys
       → All (λ y. is_lt (cmp greatest y) ≡ false) xs → is_lt (cmp x greatest) ≡ false → ranking cmp ys ≡ ranked_with cmp k x (ranking cmp xs)
   ranking-full k x greatest xs ys full moved top no_less =
-      let all : All (λ y. is_lt (cmp x y) ≡ false) xs = All-weaker (λ y. is_lt (cmp greatest y) ≡ false) (λ y. is_lt (cmp x y) ≡ false) (λ y. weak.chain x greatest y no_less) xs top in
+      let all : All (λ y. is_lt (cmp x y) ≡ false) xs =
+      All-weaker (λ y. is_lt (cmp greatest y) ≡ false) (λ y. is_lt (cmp x y) ≡ false) (λ y. weak.chain x greatest y no_less) xs top in
       sym (ranking-permutation xs ys moved)
-      ∙ sym (ranked_with-last cmp k x (ranking cmp xs) (omega (arith, length-ranking cmp xs, full)) (All-ranking cmp (λ y. is_lt (cmp x y) ≡ false) xs all) ∙ take_all k (ranking cmp xs) (omega (arith, length-ranking cmp xs, full)))
+      ∙ sym (ranked_with-last cmp k x (ranking cmp xs) (omega (arith, length-ranking cmp xs, full)) (All-ranking cmp (λ y. is_lt (cmp x y) ≡ false) xs all)
+      ∙ take_all k (ranking cmp xs) (omega (arith, length-ranking cmp xs, full)))

@@ -1,5 +1,6 @@
 -- What is kept of the documents that a search has gone through: step by step the best of them.
-use Rattle.std.specs.Prelude.{◌≡◌, ℕ, ℤ, pos, ◌≤ℤ◌, Bool, true, false, if◌then◌else◌, List, [], ◌∷◌, ◌++◌, All, Result, Ok, Err, IfOk, IsTrue, filter, length, map, take}
+use Rattle.std.specs.Prelude.{◌≡◌, ℕ, ℤ, pos, ◌≤ℤ◌, Bool, true, false, if◌then◌else◌, List, [], ◌∷◌, ◌++◌, All, Result, Ok, Err, IfOk, IsTrue, filter, length}
+use Rattle.std.specs.Prelude.{map, take}
 use Rattle.std.specs.BinaryHeap.{heap_items}
 use Rattle.std.specs.List.{fold}
 use Rattle.std.specs.Ordering.{is_lt}
@@ -37,7 +38,8 @@ All-back P [] y all = All-head P y [] all
 All-back P (x ∷ xs) y all = All-back P xs y (All-tail P x (xs ++ y ∷ []) all)
 
 -- a document that scores no more than the worst, and comes behind another by address, is no better than that
-no_better : (p : DocAddress × ℤ) (worst y : KeptDocument) → is_lt (worst_last worst y) ≡ false → address_cmp y.address p.0 ≡ Less → p.1 ≤ℤ worst.score → is_lt (worst_last (kept_of p) y) ≡ false
+no_better : (p : DocAddress × ℤ) (worst y : KeptDocument) → is_lt (worst_last worst y) ≡ false →
+    address_cmp y.address p.0 ≡ Less → p.1 ≤ℤ worst.score → is_lt (worst_last (kept_of p) y) ≡ false
 no_better p worst y top before low =
     let order : worst.score ≤ℤ y.score = no_lesser y.score worst.score (address_cmp worst.address y.address) top in
     lt-behind (kept_of p) y before ∙ not_under y.score p.1 (omega (arith, ints, order, low))
@@ -51,7 +53,8 @@ AreByAddress-front (d ∷ ds) es up = record { here = All-front (λ e. address_c
 -- those before the last
 AreByAddress-last : (ds : List (DocAddress × ℤ)) (p : DocAddress × ℤ) → AreByAddress (ds ++ p ∷ []) → All (λ d. address_cmp d.0 p.0 ≡ Less) ds
 AreByAddress-last [] p up = All-nil (λ d. address_cmp d.0 p.0 ≡ Less)
-AreByAddress-last (d ∷ ds) p up = All-cons (λ e. address_cmp e.0 p.0 ≡ Less) d ds (All-back (λ e. address_cmp d.0 e.0 ≡ Less) ds p up.here) (AreByAddress-last ds p up.others)
+AreByAddress-last (d ∷ ds) p up =
+    All-cons (λ e. address_cmp e.0 p.0 ≡ Less) d ds (All-back (λ e. address_cmp d.0 e.0 ≡ Less) ds p up.here) (AreByAddress-last ds p up.others)
 
 -- ---- a document more
 
@@ -59,7 +62,8 @@ ranked-more : (ds : List (DocAddress × ℤ)) (p : DocAddress × ℤ) → ranked
 ranked-more ds p = ap ranked (map-append kept_of ds (p ∷ [])) ∙ fold-append (λ l d. put worst_last d l) [] (map kept_of ds) (kept_of p ∷ [])
 
 -- the best so many of the documents before it and of one more
-kept-more : (k : ℕ) (ds : List (DocAddress × ℤ)) (p : DocAddress × ℤ) → take k (ranked (map kept_of (ds ++ p ∷ []))) ≡ ranked_with worst_last k (kept_of p) (take k (ranked (map kept_of ds)))
+kept-more : (k : ℕ) (ds : List (DocAddress × ℤ)) (p : DocAddress × ℤ) →
+    take k (ranked (map kept_of (ds ++ p ∷ []))) ≡ ranked_with worst_last k (kept_of p) (take k (ranked (map kept_of ds)))
 kept-more k ds p = ap (take k) (ranked-more ds p) ∙ sym (ranked_with-take worst_last k (kept_of p) (ranked (map kept_of ds)))
 
 -- an entry of a segment, with its address
@@ -76,7 +80,8 @@ KeepsBest kept ds = AreByAddress ds → AreBest kept ds
 
 module _ (ord : ℕ) (segment : Segment) (ds : List (DocAddress × ℤ)) (e : Entry) where
   collected_by : (alive : Bool) (old new : KeptDocuments) → KeepsBest old ds → (new.refused ≡ false → old.refused ≡ false) → new.limit ≡ old.limit
-      → (new.refused ≡ false → ranked_kept new ≡ (if alive then ranked_with worst_last old.limit (kept_of (pair_of ord e)) (ranked_kept old) else ranked_kept old))
+      → (new.refused ≡ false →
+      ranked_kept new ≡ (if alive then ranked_with worst_last old.limit (kept_of (pair_of ord e)) (ranked_kept old) else ranked_kept old))
       → KeepsBest new (if alive then ds ++ pair_of ord e ∷ [] else ds)
   collected_by true old new now before limit is up ok =
       let was = now (AreByAddress-front ds (pair_of ord e ∷ []) up) (before ok) in
@@ -90,7 +95,8 @@ module _ (ord : ℕ) (segment : Segment) (ds : List (DocAddress × ℤ)) (e : En
       → (new.refused ≡ false → Collects ord segment e.document (pos e.score) old new) → KeepsBest new (entered ord segment ds e)
   KeepsBest-collected old new now before limit is = collected_by (is_alive segment e.document) old new now before limit is
 
-  passed_by : (alive : Bool) (kept : KeptDocuments) (threshold : ℤ) → KeepsBest kept ds → IsThreshold kept.limit (heap_items kept.documents) threshold → pos e.score ≤ℤ threshold
+  passed_by : (alive : Bool) (kept : KeptDocuments) (threshold : ℤ) → KeepsBest kept ds →
+      IsThreshold kept.limit (heap_items kept.documents) threshold → pos e.score ≤ℤ threshold
       → KeepsBest kept (if alive then ds ++ pair_of ord e ∷ [] else ds)
   passed_by false kept threshold now is low up ok = now up ok
   passed_by true kept threshold now (inl none) low up ok = absurd (omega (arith, ints, none.0, low))
@@ -98,31 +104,40 @@ module _ (ord : ℕ) (segment : Segment) (ds : List (DocAddress × ℤ)) (e : En
       let was = now (AreByAddress-front ds (pair_of ord e ∷ []) up) ok in
       let before : All (λ (y : KeptDocument). address_cmp y.address (pair_of ord e).0 ≡ Less) (ranked_kept kept) =
       subst (All (λ (y : KeptDocument). address_cmp y.address (pair_of ord e).0 ≡ Less)) (sym was)
-      (All-take (λ (y : KeptDocument). address_cmp y.address (pair_of ord e).0 ≡ Less) kept.limit (ranked (map kept_of ds)) (All-ranking worst_last (λ (y : KeptDocument). address_cmp y.address (pair_of ord e).0 ≡ Less) (map kept_of ds) (All-map (λ (y : KeptDocument). address_cmp y.address (pair_of ord e).0 ≡ Less) kept_of ds (AreByAddress-last ds (pair_of ord e) up)))) in
-      let top : All (λ y. is_lt (worst_last worst.0 y) ≡ false) (ranked_kept kept) = All-ranking worst_last (λ y. is_lt (worst_last worst.0 y) ≡ false) (heap_items kept.documents) (All-from_recursion (λ y. is_lt (worst_last worst.0 y) ≡ false) (heap_items kept.documents) worst.2) in
+      (All-take (λ (y : KeptDocument). address_cmp y.address (pair_of ord e).0 ≡ Less) kept.limit (ranked (map kept_of ds))
+      (All-ranking worst_last (λ (y : KeptDocument). address_cmp y.address (pair_of ord e).0 ≡ Less) (map kept_of ds)
+      (All-map (λ (y : KeptDocument). address_cmp y.address (pair_of ord e).0 ≡ Less) kept_of ds (AreByAddress-last ds (pair_of ord e) up)))) in
+      let top : All (λ y. is_lt (worst_last worst.0 y) ≡ false) (ranked_kept kept) = All-ranking worst_last (λ y. is_lt (worst_last worst.0 y) ≡ false)
+      (heap_items kept.documents) (All-from_recursion (λ y. is_lt (worst_last worst.0 y) ≡ false) (heap_items kept.documents) worst.2) in
       let none : All (λ y. is_lt (worst_last (kept_of (pair_of ord e)) y) ≡ false) (ranked_kept kept) =
-      λ k d below. no_better (pair_of ord e) worst.0 (get_or (ranked_kept kept) k d) (top k d below) (before k d below) (subst (λ t. pos e.score ≤ℤ t) worst.3 low) in
+      λ k d below. no_better (pair_of ord e) worst.0 (get_or (ranked_kept kept) k d)
+      (top k d below) (before k d below) (subst (λ t. pos e.score ≤ℤ t) worst.3 low) in
       let long : length (ranked_kept kept) ≡ kept.limit = length-ranking worst_last (heap_items kept.documents) ∙ worst.1 in
       sym (kept-more kept.limit ds (pair_of ord e) ∙ ap (ranked_with worst_last kept.limit (kept_of (pair_of ord e))) (sym was)
-      ∙ ranked_with-last worst_last kept.limit (kept_of (pair_of ord e)) (ranked_kept kept) (omega (arith, long)) none ∙ take_all kept.limit (ranked_kept kept) (omega (arith, long)))
+      ∙ ranked_with-last worst_last kept.limit (kept_of (pair_of ord e)) (ranked_kept kept) (omega (arith, long)) none
+      ∙ take_all kept.limit (ranked_kept kept) (omega (arith, long)))
 
   -- and where the run passes over it
-  pub KeepsBest-passed : (kept : KeptDocuments) (threshold : ℤ) → KeepsBest kept ds → IsThreshold kept.limit (heap_items kept.documents) threshold → pos e.score ≤ℤ threshold → KeepsBest kept (entered ord segment ds e)
+  pub KeepsBest-passed : (kept : KeptDocuments) (threshold : ℤ) → KeepsBest kept ds →
+      IsThreshold kept.limit (heap_items kept.documents) threshold → pos e.score ≤ℤ threshold → KeepsBest kept (entered ord segment ds e)
   KeepsBest-passed kept threshold now is low = passed_by (is_alive segment e.document) kept threshold now is low
 
 -- ---- all entries of a segment
 
-entered_by : (ord : ℕ) (ds : List (DocAddress × ℤ)) (e : Entry) (es : List Entry) (alive : Bool) → (if alive then ds ++ pair_of ord e ∷ [] else ds) ++ map (pair_of ord) es ≡ ds ++ map (pair_of ord) (if alive then e ∷ es else es)
+entered_by : (ord : ℕ) (ds : List (DocAddress × ℤ)) (e : Entry) (es : List Entry) (alive : Bool) →
+    (if alive then ds ++ pair_of ord e ∷ [] else ds) ++ map (pair_of ord) es ≡ ds ++ map (pair_of ord) (if alive then e ∷ es else es)
 entered_by ord ds e es true = append_assoc ds (pair_of ord e ∷ []) (map (pair_of ord) es)
 entered_by ord ds e es false = refl
 
-entered-all : (ord : ℕ) (segment : Segment) (ds : List (DocAddress × ℤ)) (es : List Entry) → fold (entered ord segment) ds es ≡ ds ++ map (pair_of ord) (filter (λ e. is_alive segment e.document) es)
+entered-all : (ord : ℕ) (segment : Segment) (ds : List (DocAddress × ℤ)) (es : List Entry) →
+    fold (entered ord segment) ds es ≡ ds ++ map (pair_of ord) (filter (λ e. is_alive segment e.document) es)
 entered-all ord segment ds [] = sym (append-nil ds)
 entered-all ord segment ds (e ∷ es) =
     entered-all ord segment (entered ord segment ds e) es ∙ entered_by ord ds e (filter (λ f. is_alive segment f.document) es) (is_alive segment e.document)
 
 -- those of a tree's list are the documents that it finds in the segment
-pub entered-list : (ord : ℕ) (tree : Tree) (segment : Segment) (ds : List (DocAddress × ℤ)) → fold (entered ord segment) ds (list tree 1 segment) ≡ ds ++ alive_matches ord tree segment
+pub entered-list : (ord : ℕ) (tree : Tree) (segment : Segment) (ds : List (DocAddress × ℤ)) →
+    fold (entered ord segment) ds (list tree 1 segment) ≡ ds ++ alive_matches ord tree segment
 entered-list ord tree segment ds =
     entered-all ord segment ds (list tree 1 segment)
     ∙ ap (λ l. ds ++ map (pair_of ord) l) (filter-map (λ e. is_alive segment e.document) (λ d. scored d (score tree 1 segment d)) (matching tree segment))
@@ -132,12 +147,14 @@ entered-list ord tree segment ds =
 
 pub best-answered : (k : ℕ) (ds : List (DocAddress × ℤ)) → AreByAddress ds → map answer_of (take k (ranked (map kept_of ds))) ≡ map score_first (best k ds)
 best-answered k ds up =
-    ap (λ l. map answer_of (take k l)) (ranked-by_score ds up) ∙ ap (map answer_of) (take-map kept_of k (by_score ds)) ∙ map-map answer_of kept_of (take k (by_score ds))
+    ap (λ l. map answer_of (take k l)) (ranked-by_score ds up)
+    ∙ ap (map answer_of) (take-map kept_of k (by_score ds)) ∙ map-map answer_of kept_of (take k (by_score ds))
 
 module _ {V E : Type 0} (items : V → List (ℤ × DocAddress)) (kept : KeptDocuments) (k : ℕ) (tree : Tree) (segments : List Reader) (limit : kept.limit ≡ k)
     (best_kept : IsTrue (is_scoring tree) → AreBest kept (alive_matches_from 0 tree segments)) where
   -- what is kept of all segments is answered
-  pub AreBestOf-kept : (r : Result V E) → IfOk r (λ v. items v ≡ map answer_of (ranked_kept kept)) → IfOk r (λ v. kept.refused ≡ false) → IfOk r (λ v. IsTrue (is_scoring tree) → AreBestOf k tree segments (items v))
+  pub AreBestOf-kept : (r : Result V E) → IfOk r (λ v. items v ≡ map answer_of (ranked_kept kept)) →
+      IfOk r (λ v. kept.refused ≡ false) → IfOk r (λ v. IsTrue (is_scoring tree) → AreBestOf k tree segments (items v))
   AreBestOf-kept (Ok v) same ok = λ on.
       same ∙ ap (map answer_of) (best_kept on ok) ∙ ap (λ n. map answer_of (take n (ranked (map kept_of (alive_matches_from 0 tree segments))))) limit
       ∙ best-answered k (alive_matches_from 0 tree segments) (AreByAddress-from 0 tree segments)

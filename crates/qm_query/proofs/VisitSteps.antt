@@ -8,7 +8,8 @@ use Rattle.qm_schema.specs.declared.occur.Occur.{Occur}
 use Rattle.qm_term.specs.Runs.{CallsEach, MayCallEach}
 use Rattle.qm_term.specs.RunsFacts.{CallsEach-append}
 use Rattle.qm_query.specs.Query.{disjuncts_of, query_of, subqueries_of}
-use Rattle.qm_query.specs.QueryTerms.{MayVisitTerm, MayVisitTerms, VisitsTerm, VisitsTerms, terms_of_clauses, terms_of_disjuncts, terms_of_phrase, terms_of_query}
+use Rattle.qm_query.specs.QueryTerms.{MayVisitTerm, MayVisitTerms, VisitsTerm, VisitsTerms, terms_of_clauses, terms_of_disjuncts, terms_of_phrase}
+use Rattle.qm_query.specs.QueryTerms.{terms_of_query}
 use Rattle.qm_query.specs.declared.any_query.AnyQuery.{AnyQuery}
 
 -- ---- the terms that are left

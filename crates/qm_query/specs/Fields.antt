@@ -7,7 +7,8 @@ use Rattle.qm_schema.specs.declared.error.QueryError.{QueryError}
 use Rattle.qm_schema.specs.declared.error.QueryError.TheVariants.{UnknownField, NotIndexed, NoPositions}
 use Rattle.qm_schema.specs.declared.schema.option.IndexRecordOption.{IndexRecordOption}
 use Rattle.qm_query.specs.Offsets.{first_field}
-use Rattle.qm_query.specs.Query.{Query, Subqueries, Disjuncts, all, none, term, phrase, phrase_prefix, boolean, boost, constant, disjunction_max, no_subquery, subquery, no_disjunct, disjunct}
+use Rattle.qm_query.specs.Query.{Query, Subqueries, Disjuncts, all, none, term, phrase, phrase_prefix, boolean, boost, constant, disjunction_max, no_subquery}
+use Rattle.qm_query.specs.Query.{subquery, no_disjunct, disjunct}
 
 -- ---- one field
 

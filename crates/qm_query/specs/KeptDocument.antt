@@ -35,4 +35,5 @@ answer_of d = (d.score, d.address)
 -- The threshold while these are kept: -1 while there are fewer than there may be, and then the score of the worst.
 abbrev pub IsThreshold : ℕ → List KeptDocument → ℤ → Type 0
 IsThreshold limit kept threshold =
-    ((threshold ≡ negsuc 0) × (0 < limit → length kept < limit)) ⊎ ((worst : KeptDocument) × (length kept ≡ limit) × IsUpperBound worst_last worst kept × (threshold ≡ worst.score))
+    ((threshold ≡ negsuc 0) × (0 < limit → length kept < limit))
+    ⊎ ((worst : KeptDocument) × (length kept ≡ limit) × IsUpperBound worst_last worst kept × (threshold ≡ worst.score))

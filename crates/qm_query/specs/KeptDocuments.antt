@@ -17,7 +17,8 @@ ranked_kept kept = ranked (heap_items kept.documents)
 -- a document of the segment of that number is taken in, unless it was deleted
 abbrev pub Collects : ℕ → Segment → ℕ → ℤ → KeptDocuments → KeptDocuments → Type 0
 Collects ord segment d s old new =
-    ranked_kept new ≡ (if is_alive segment d then ranked_with worst_last old.limit (record { score = s; address = record { segment_ord = ord; doc_id = d } }) (ranked_kept old) else ranked_kept old)
+    ranked_kept new ≡ (if is_alive segment d then ranked_with worst_last old.limit
+    (record { score = s; address = record { segment_ord = ord; doc_id = d } }) (ranked_kept old) else ranked_kept old)
 
 -- the best of some documents are kept, unless memory was refused
 abbrev pub AreBest : KeptDocuments → List (DocAddress × ℤ) → Type 0
@@ -26,4 +27,5 @@ AreBest kept documents = kept.refused ≡ false → ranked_kept kept ≡ take ke
 -- Where the best of documents before those of the segment of that number were kept, the segment's are taken in.
 pub record AreKeptToo (ord : ℕ) (tree : Tree) (segment : Segment) (old new : KeptDocuments) : Type 0 where
   pub limit : new.limit ≡ old.limit
-  pub best : IsTrue (is_scoring tree) → (before : List (DocAddress × ℤ)) → AreByAddress (before ++ alive_matches ord tree segment) → AreBest old before → AreBest new (before ++ alive_matches ord tree segment)
+  pub best : IsTrue (is_scoring tree) → (before : List (DocAddress × ℤ)) → AreByAddress (before ++ alive_matches ord tree segment) →
+      AreBest old before → AreBest new (before ++ alive_matches ord tree segment)

@@ -39,7 +39,8 @@ terms_refusal terms = if are_of_one_field (λ t. t.1) terms then option_map Offs
 
 -- the same of terms that stand one behind the other, from offset 0 on
 abbrev pub row_refusal : List TermKey → Option QueryError
-row_refusal terms = if are_of_one_field (λ t. t) terms then (if nat_lt 4294967296 (length terms) then Some (OffsetTooLarge 4294967296) else None) else Some MixedFields
+row_refusal terms =
+    if are_of_one_field (λ t. t) terms then (if nat_lt 4294967296 (length terms) then Some (OffsetTooLarge 4294967296) else None) else Some MixedFields
 
 -- a phrase wants two terms, a phrase prefix one
 abbrev pub with_two : {X : Type 0} → List X → Option QueryError → Option QueryError

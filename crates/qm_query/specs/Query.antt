@@ -7,7 +7,10 @@ use Rattle.qm_schema.specs.Term.{TermKey}
 use Rattle.qm_schema.specs.declared.occur.Occur.{Occur}
 use Rattle.qm_schema.specs.declared.occur.Occur.TheVariants.{Should}
 use Rattle.qm_schema.specs.declared.schema.option.IndexRecordOption.TheVariants.{WithFreqs}
-use Rattle.qm_query.specs.declared.any_query.AnyQuery.{AnyQuery, All, Empty, Term, Phrase, PhrasePrefix, Boolean', Boost', ConstScore', DisjunctionMax', Row_of-BooleanQuery-subqueries-3, end_of-BooleanQuery-subqueries-3, more_of-BooleanQuery-subqueries-3, Row_of-DisjunctionMaxQuery-disjuncts-1, end_of-DisjunctionMaxQuery-disjuncts-1, more_of-DisjunctionMaxQuery-disjuncts-1}
+use Rattle.qm_query.specs.declared.any_query.AnyQuery.{AnyQuery, All, Empty, Term, Phrase, PhrasePrefix, Boolean', Boost', ConstScore', DisjunctionMax'}
+use Rattle.qm_query.specs.declared.any_query.AnyQuery.{Row_of-BooleanQuery-subqueries-3, end_of-BooleanQuery-subqueries-3, more_of-BooleanQuery-subqueries-3}
+use Rattle.qm_query.specs.declared.any_query.AnyQuery.{Row_of-DisjunctionMaxQuery-disjuncts-1, end_of-DisjunctionMaxQuery-disjuncts-1}
+use Rattle.qm_query.specs.declared.any_query.AnyQuery.{more_of-DisjunctionMaxQuery-disjuncts-1}
 use Rattle.qm_query.specs.declared.boolean_query.BooleanQuery.{BooleanQuery}
 use Rattle.qm_query.specs.declared.boost_query.BoostQuery.{BoostQuery}
 use Rattle.qm_query.specs.declared.const_score_query.ConstScoreQuery.{ConstScoreQuery}

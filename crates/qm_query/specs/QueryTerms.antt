@@ -4,7 +4,8 @@ use Rattle.std.specs.Fn.{Called, Mut, Takes}
 use denote.Ref.{Bor}
 use Rattle.qm_schema.specs.Term.{TermKey}
 use Rattle.qm_term.specs.Runs.{CallsEach, MayCallEach}
-use Rattle.qm_query.specs.Query.{Query, Subqueries, Disjuncts, all, none, term, phrase, phrase_prefix, boolean, boost, constant, disjunction_max, no_subquery, subquery, no_disjunct, disjunct}
+use Rattle.qm_query.specs.Query.{Query, Subqueries, Disjuncts, all, none, term, phrase, phrase_prefix, boolean, boost, constant, disjunction_max, no_subquery}
+use Rattle.qm_query.specs.Query.{subquery, no_disjunct, disjunct}
 
 -- ---- the terms, each with whether its positions are wanted
 

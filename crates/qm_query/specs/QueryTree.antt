@@ -14,7 +14,8 @@ use Rattle.qm_weight.specs.Weights.{placed_at, prefix_alone}
 use Rattle.qm_query.specs.EnableScoring.{is_enabled}
 use Rattle.qm_query.specs.Offsets.{terms_of}
 use Rattle.qm_query.specs.Parts.{PrefixParts}
-use Rattle.qm_query.specs.Query.{Query, Subqueries, Disjuncts, all, none, term, phrase, phrase_prefix, boolean, boost, constant, disjunction_max, no_subquery, subquery, no_disjunct, disjunct}
+use Rattle.qm_query.specs.Query.{Query, Subqueries, Disjuncts, all, none, term, phrase, phrase_prefix, boolean, boost, constant, disjunction_max, no_subquery}
+use Rattle.qm_query.specs.Query.{subquery, no_disjunct, disjunct}
 use Rattle.qm_query.specs.declared.enable_scoring.EnableScoring.{EnableScoring}
 use Rattle.qm_query.specs.declared.enable_scoring.EnableScoring.TheVariants.{Enabled, Disabled}
 

@@ -2,7 +2,8 @@
 use Rattle.std.proofs.Common.{◌≡◌, ℕ, Box, Global, Bool, true, false, List, [], ◌∷◌, IfOk, Result, Ok, Err, length, refl, ap, subst, sym, ◌∙◌}
 use Rattle.std.specs.Prelude.{◌&&◌, ◌==◌, if◌then◌else◌}
 use Rattle.qm_postings.specs.declared.statistics.Bm25StatisticsProvider.{Ghosts}
-use Rattle.qm_query.specs.Query.{Query, Subqueries, Disjuncts, all, none, term, phrase, phrase_prefix, boolean, boost, constant, disjunction_max, no_subquery, subquery, no_disjunct, disjunct}
+use Rattle.qm_query.specs.Query.{Query, Subqueries, Disjuncts, all, none, term, phrase, phrase_prefix, boolean, boost, constant, disjunction_max, no_subquery}
+use Rattle.qm_query.specs.Query.{subquery, no_disjunct, disjunct}
 use Rattle.qm_query.specs.QueryScorers.{IsScoringIfEnabled, ScoresIfEnabled}
 use Rattle.qm_query.specs.QueryTree.{clause_trees, disjunct_trees, full_prefix_tree, query_tree}
 use Rattle.qm_query.specs.declared.enable_scoring.EnableScoring.{EnableScoring}
@@ -36,7 +37,8 @@ module _ {P : Type 0} (S : Ghosts P) where
     query_scores searcher provider (term q) = refl
     query_scores searcher provider (phrase q) = refl
     query_scores searcher provider (phrase_prefix q) =
-        either (length q.terms == 0) (prefix_alone q.prefix.1 q.max_expansions) (full_prefix_tree S (Enabled searcher provider) q) refl (full_scores searcher provider q.terms q.prefix q.max_expansions)
+        either (length q.terms == 0) (prefix_alone q.prefix.1 q.max_expansions)
+        (full_prefix_tree S (Enabled searcher provider) q) refl (full_scores searcher provider q.terms q.prefix q.max_expansions)
     query_scores searcher provider (boolean minimum clauses) = clauses_score searcher provider clauses
     query_scores searcher provider (boost factor inside) = query_scores searcher provider inside
     query_scores searcher provider (constant score inside) = query_scores searcher provider inside

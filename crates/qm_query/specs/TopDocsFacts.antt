@@ -1,6 +1,7 @@
 -- What a user learns of the best documents of a search: they are in order, as many as are wanted or as there are,
 -- and each document that is found and not among them stands behind all of them.
-use Rattle.std.specs.Prelude.{◌≡◌, ◌⊎◌, ℕ, zero, suc, ◌+◌, ◌≤◌, min, ℤ, ◌<ℤ◌, ◌≤ℤ◌, true, false, if◌then◌else◌, List, [], ◌∷◌, ◌++◌, All, Contains, drop, length, map, take}
+use Rattle.std.specs.Prelude.{◌≡◌, ◌⊎◌, ℕ, zero, suc, ◌+◌, ◌≤◌, min, ℤ, ◌<ℤ◌, ◌≤ℤ◌, true, false, if◌then◌else◌, List, [], ◌∷◌, ◌++◌, All, Contains, drop}
+use Rattle.std.specs.Prelude.{length, map, take}
 use Rattle.std.specs.Int.Signed.{lt_z}
 use Rattle.std.specs.List.{fold}
 use Rattle.std.specs.List.Sorted.{IsPermutation}
@@ -9,8 +10,10 @@ use Rattle.std.proofs.Common.{arith, refl, sym, ap, subst, ◌∙◌, get_or, in
 use Rattle.std.proofs.lemmas.Bool.{cases_Bool}
 use Rattle.std.proofs.lemmas.Int.{ints, by_lt_z}
 use Rattle.std.proofs.lemmas.List.{append_assoc, append-nil, length-append, length-map, length-take, map-append, take-append-drop, take-map, take-take}
-use Rattle.std.proofs.lemmas.List.Elements.{All-cons, All-contains, All-head, All-map, All-nil, All-tail, All-take, All-weaker, Contains-append_cases, Contains-append_left, Contains-append_right}
-use Rattle.std.proofs.lemmas.List.Sorted.{Contains-permutation, IsPermutation-cons, IsPermutation-map, IsPermutation-middle, IsPermutation-push_more, IsPermutation-refl, IsPermutation-sym, IsPermutation-trans, length_permutation}
+use Rattle.std.proofs.lemmas.List.Elements.{All-cons, All-contains, All-head, All-map, All-nil, All-tail, All-take, All-weaker, Contains-append_cases}
+use Rattle.std.proofs.lemmas.List.Elements.{Contains-append_left, Contains-append_right}
+use Rattle.std.proofs.lemmas.List.Sorted.{Contains-permutation, IsPermutation-cons, IsPermutation-map, IsPermutation-middle, IsPermutation-push_more}
+use Rattle.std.proofs.lemmas.List.Sorted.{IsPermutation-refl, IsPermutation-sym, IsPermutation-trans, length_permutation}
 use Rattle.std.proofs.lemmas.List.Sums.{sum_by-cons}
 use Rattle.qm_docset.specs.Entry.{FirstAndOthers}
 use Rattle.qm_postings.specs.Address.{address_cmp}
@@ -39,7 +42,8 @@ pub All-placed : (P : DocAddress × ℤ → Type 0) (p : DocAddress × ℤ) (xs 
 All-placed P p [] here all = All-cons P p [] here all
 All-placed P p (x ∷ xs) here all = elim (cases_Bool (lt_z x.1 p.1)) [
   | inl less ↦ subst (All P) (sym (placed-before p x xs less)) (All-cons P p (x ∷ xs) here all)
-  | inr no_less ↦ subst (All P) (sym (placed-behind p x xs no_less)) (All-cons P x (placed p xs) (All-head P x xs all) (All-placed P p xs here (All-tail P x xs all)))
+  | inr no_less ↦
+      subst (All P) (sym (placed-behind p x xs no_less)) (All-cons P x (placed p xs) (All-head P x xs all) (All-placed P p xs here (All-tail P x xs all)))
 ]
 
 IsPermutation-placed : (p : DocAddress × ℤ) (xs : List (DocAddress × ℤ)) → IsPermutation (p ∷ xs) (placed p xs)
@@ -48,7 +52,8 @@ IsPermutation-placed p (x ∷ xs) = elim (cases_Bool (lt_z x.1 p.1)) [
   | inl less ↦ subst (IsPermutation (p ∷ x ∷ xs)) (sym (placed-before p x xs less)) (IsPermutation-refl (p ∷ x ∷ xs))
   | inr no_less ↦
       subst (IsPermutation (p ∷ x ∷ xs)) (sym (placed-behind p x xs no_less))
-      (IsPermutation-trans (p ∷ x ∷ xs) (x ∷ p ∷ xs) (x ∷ placed p xs) (IsPermutation-sym (x ∷ p ∷ xs) (p ∷ x ∷ xs) (IsPermutation-middle (x ∷ []) p xs)) (IsPermutation-cons x (p ∷ xs) (placed p xs) (IsPermutation-placed p xs)))
+      (IsPermutation-trans (p ∷ x ∷ xs) (x ∷ p ∷ xs) (x ∷ placed p xs) (IsPermutation-sym (x ∷ p ∷ xs) (p ∷ x ∷ xs) (IsPermutation-middle (x ∷ []) p xs))
+      (IsPermutation-cons x (p ∷ xs) (placed p xs) (IsPermutation-placed p xs)))
 ]
 
 -- each stands before all behind it
@@ -61,7 +66,8 @@ no_less_score : (d e : ℤ × DocAddress) → StandsBefore d e → e.0 ≤ℤ d.
 no_less_score d e (inl less) = omega (arith, ints, less)
 no_less_score d e (inr same) = omega (arith, ints, same.0)
 
-before_all : (p x : DocAddress × ℤ) (xs : List (DocAddress × ℤ)) → x.1 <ℤ p.1 → All (λ e. StandsBefore (score_first x) (score_first e)) xs → All (λ e. StandsBefore (score_first p) (score_first e)) xs
+before_all : (p x : DocAddress × ℤ) (xs : List (DocAddress × ℤ)) → x.1 <ℤ p.1 →
+    All (λ e. StandsBefore (score_first x) (score_first e)) xs → All (λ e. StandsBefore (score_first p) (score_first e)) xs
 before_all p x xs less all =
     All-weaker (λ e. StandsBefore (score_first x) (score_first e)) (λ e. StandsBefore (score_first p) (score_first e))
     (λ e before. let order = no_less_score (score_first x) (score_first e) before in inl (omega (arith, ints, order, less))) xs all
@@ -75,22 +81,26 @@ Ordered-placed p (x ∷ xs) first up =
     by_lt_z x.1 p.1
     (λ less.
     let test : lt_z x.1 p.1 ≡ true = grind (arith, ints) in
-    subst Ordered (sym (placed-before p x xs test)) (record { here = All-cons (λ e. StandsBefore (score_first p) (score_first e)) x xs (inl less) (before_all p x xs less up.here); others = up }))
+    subst Ordered (sym (placed-before p x xs test))
+    (record { here = All-cons (λ e. StandsBefore (score_first p) (score_first e)) x xs (inl less) (before_all p x xs less up.here); others = up }))
     (λ order.
     let test : lt_z x.1 p.1 ≡ false = grind (arith, ints) in
     subst Ordered (sym (placed-behind p x xs test)) (record {
-      here = All-placed (λ e. StandsBefore (score_first x) (score_first e)) p xs (behind_one p x order (All-head (λ y. address_cmp y.0 p.0 ≡ Less) x xs first)) up.here;
+      here = All-placed (λ e. StandsBefore (score_first x) (score_first e)) p xs
+          (behind_one p x order (All-head (λ y. address_cmp y.0 p.0 ≡ Less) x xs first)) up.here;
       others = Ordered-placed p xs (All-tail (λ y. address_cmp y.0 p.0 ≡ Less) x xs first) up.others;
     }))
 
 -- ---- all documents by their scores
 
-Ordered-fold : (ds xs : List (DocAddress × ℤ)) → All (λ x. All (λ y. address_cmp y.0 x.0 ≡ Less) ds) xs → AreByAddress xs → Ordered ds → Ordered (fold (λ l p. placed p l) ds xs)
+Ordered-fold : (ds xs : List (DocAddress × ℤ)) → All (λ x. All (λ y. address_cmp y.0 x.0 ≡ Less) ds) xs →
+    AreByAddress xs → Ordered ds → Ordered (fold (λ l p. placed p l) ds xs)
 Ordered-fold ds [] before by up = up
 Ordered-fold ds (x ∷ xs) before by up =
     let here : All (λ y. address_cmp y.0 x.0 ≡ Less) ds = All-head (λ z. All (λ y. address_cmp y.0 z.0 ≡ Less) ds) x xs before in
     let behind : All (λ z. All (λ y. address_cmp y.0 z.0 ≡ Less) (placed x ds)) xs =
-    λ k d below. All-placed (λ y. address_cmp y.0 (get_or xs k d).0 ≡ Less) x ds (by.here k d below) (All-tail (λ z. All (λ y. address_cmp y.0 z.0 ≡ Less) ds) x xs before k d below) in
+    λ k d below. All-placed (λ y. address_cmp y.0 (get_or xs k d).0 ≡ Less) x ds (by.here k d below)
+    (All-tail (λ z. All (λ y. address_cmp y.0 z.0 ≡ Less) ds) x xs before k d below) in
     Ordered-fold (placed x ds) xs behind by.others (Ordered-placed x ds here up)
 
 Ordered-by_score : (ds : List (DocAddress × ℤ)) → AreByAddress ds → Ordered (by_score ds)
@@ -110,17 +120,20 @@ IsPermutation-by_score ds = IsPermutation-fold [] [] ds (IsPermutation-refl [])
 Ordered-take : (k : ℕ) (ds : List (DocAddress × ℤ)) → Ordered ds → Ordered (take k ds)
 Ordered-take zero ds up = tt
 Ordered-take (suc k) [] up = tt
-Ordered-take (suc k) (d ∷ ds) up = record { here = All-take (λ e. StandsBefore (score_first d) (score_first e)) k ds up.here; others = Ordered-take k ds up.others }
+Ordered-take (suc k) (d ∷ ds) up =
+    record { here = All-take (λ e. StandsBefore (score_first d) (score_first e)) k ds up.here; others = Ordered-take k ds up.others }
 
 AreInOrder-map : (ds : List (DocAddress × ℤ)) → Ordered ds → AreInOrder (map score_first ds)
 AreInOrder-map [] up = tt
 AreInOrder-map (d ∷ ds) up = record { here = All-map (StandsBefore (score_first d)) score_first ds up.here; others = AreInOrder-map ds up.others }
 
 -- the first ones stand before each of the others
-first_before : (ds es : List (DocAddress × ℤ)) → Ordered (ds ++ es) → (e : DocAddress × ℤ) → Contains es e → All (λ d. StandsBefore (score_first d) (score_first e)) ds
+first_before : (ds es : List (DocAddress × ℤ)) → Ordered (ds ++ es) → (e : DocAddress × ℤ) →
+    Contains es e → All (λ d. StandsBefore (score_first d) (score_first e)) ds
 first_before [] es up e is = All-nil (λ d. StandsBefore (score_first d) (score_first e))
 first_before (d ∷ ds) es up e is =
-    All-cons (λ x. StandsBefore (score_first x) (score_first e)) d ds (All-contains (λ x. StandsBefore (score_first d) (score_first x)) (ds ++ es) e up.here (Contains-append_right ds es e is)) (first_before ds es up.others e is)
+    All-cons (λ x. StandsBefore (score_first x) (score_first e)) d ds (All-contains (λ x. StandsBefore (score_first d) (score_first x))
+    (ds ++ es) e up.here (Contains-append_right ds es e is)) (first_before ds es up.others e is)
 
 Contains-map : (ds : List (DocAddress × ℤ)) (d : DocAddress × ℤ) → Contains ds d → Contains (map score_first ds) (score_first d)
 Contains-map [] d is = absurd (omega (arith, is.1))
@@ -168,15 +181,22 @@ module _ (S : Ghosts Searched) (searcher : Searched) (query : Query) (k : ℕ) (
       (subst (λ l. Contains l d) (sym (map-append score_first (take k (by_score all)) (drop k (by_score all))))
       (Contains-append_left (map score_first (take k (by_score all))) (map score_first (drop k (by_score all))) d (subst (λ l. Contains l d) top.are is))))
 
-  others_by : (d : DocAddress × ℤ) → Contains (take k (by_score all)) d ⊎ Contains (drop k (by_score all)) d → Contains found (score_first d) ⊎ ((length found ≡ k) × All (λ e. StandsBefore e (score_first d)) found)
+  others_by : (d : DocAddress × ℤ) → Contains (take k (by_score all)) d ⊎ Contains (drop k (by_score all)) d →
+      Contains found (score_first d) ⊎ ((length found ≡ k) × All (λ e. StandsBefore e (score_first d)) found)
   others_by d (inl is) = inl (subst (λ l. Contains l (score_first d)) (sym top.are) (Contains-map (take k (by_score all)) d is))
   others_by d (inr is) =
       let behind = first_before (take k (by_score all)) (drop k (by_score all)) (subst Ordered (sym (take-append-drop k (by_score all))) up) d is in
-      let full : length found ≡ k = ap length top.are ∙ length-map (take k (by_score all)) score_first ∙ omega (arith, length-take k (by_score all), length-drop k (by_score all), is.1) in
-      inr (full, subst (All (λ e. StandsBefore e (score_first d))) (sym top.are) (All-map (λ e. StandsBefore e (score_first d)) score_first (take k (by_score all)) behind))
+      let full : length found ≡ k = ap length top.are ∙ length-map (take k (by_score all)) score_first
+      ∙ omega (arith, length-take k (by_score all), length-drop k (by_score all), is.1) in
+      inr (
+        full,
+        subst (All (λ e. StandsBefore e (score_first d))) (sym top.are)
+            (All-map (λ e. StandsBefore e (score_first d)) score_first (take k (by_score all)) behind),
+      )
 
   -- each document that the query finds is in it, or else it is full and all in it stand before that document
-  pub top_docs-others : (d : DocAddress × ℤ) → Contains all d → Contains found (score_first d) ⊎ ((length found ≡ k) × All (λ e. StandsBefore e (score_first d)) found)
+  pub top_docs-others : (d : DocAddress × ℤ) → Contains all d →
+      Contains found (score_first d) ⊎ ((length found ≡ k) × All (λ e. StandsBefore e (score_first d)) found)
   top_docs-others d is =
       others_by d
       (Contains-append_cases (take k (by_score all)) (drop k (by_score all)) d

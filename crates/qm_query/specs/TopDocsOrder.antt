@@ -42,7 +42,8 @@ IsRising-range a (suc n) = record { here = All-range a (a + 1) n (omega arith); 
 
 rising : (tree : Tree) (segment : Segment) → IsRising (alive_matching tree segment)
 rising tree segment =
-    IsRising-filter (is_alive segment) (matching tree segment) (IsRising-filter (matches tree segment) (range_with_len 0 (length segment.documents)) (IsRising-range 0 (length segment.documents)))
+    IsRising-filter (is_alive segment) (matching tree segment)
+    (IsRising-filter (matches tree segment) (range_with_len 0 (length segment.documents)) (IsRising-range 0 (length segment.documents)))
 
 -- ---- the documents of one segment
 
@@ -52,7 +53,8 @@ in_segment ord c d less = ap (λ o. ordering_then o (nat_cmp c d)) (sym (nat_cmp
 AreByAddress-addressed : (ord : ℕ) (tree : Tree) (segment : Segment) (ds : List ℕ) → IsRising ds → AreByAddress (map (addressed ord tree segment) ds)
 AreByAddress-addressed ord tree segment [] up = tt
 AreByAddress-addressed ord tree segment (d ∷ ds) up = record {
-  here = All-map (λ e. address_cmp (record { segment_ord = ord; doc_id = d }) e.0 ≡ Less) (addressed ord tree segment) ds (λ k x below. in_segment ord d _ (up.here k x below));
+  here = All-map (λ e. address_cmp (record { segment_ord = ord; doc_id = d }) e.0 ≡ Less)
+      (addressed ord tree segment) ds (λ k x below. in_segment ord d _ (up.here k x below));
   others = AreByAddress-addressed ord tree segment ds up.others;
 }
 
@@ -61,7 +63,8 @@ AreByAddress-segment ord tree segment = AreByAddress-addressed ord tree segment 
 
 -- ---- the documents of one segment, and then others
 
-AreByAddress-append : (ds es : List (DocAddress × ℤ)) → AreByAddress ds → AreByAddress es → All (λ d. All (λ e. address_cmp d.0 e.0 ≡ Less) es) ds → AreByAddress (ds ++ es)
+AreByAddress-append : (ds es : List (DocAddress × ℤ)) → AreByAddress ds → AreByAddress es →
+    All (λ d. All (λ e. address_cmp d.0 e.0 ≡ Less) es) ds → AreByAddress (ds ++ es)
 AreByAddress-append [] es first then before = then
 AreByAddress-append (d ∷ ds) es first then before = record {
   here = All-append (λ e. address_cmp d.0 e.0 ≡ Less) ds es first.here (All-head (λ x. All (λ e. address_cmp x.0 e.0 ≡ Less) es) d ds before);
@@ -75,8 +78,10 @@ All-from : (ord : ℕ) (tree : Tree) (readers : List Reader) → All (λ d. ord 
 All-from ord tree [] = All-nil (λ d. ord ≤ d.0.segment_ord)
 All-from ord tree (reader ∷ readers) =
     All-append (λ d. ord ≤ d.0.segment_ord) (alive_matches ord tree reader.segment) (alive_matches_from (suc ord) tree readers)
-    (All-map (λ (d : DocAddress × ℤ). ord ≤ d.0.segment_ord) (addressed ord tree reader.segment) (alive_matching tree reader.segment) (λ k x below. omega arith))
-    (All-weaker (λ d. suc ord ≤ d.0.segment_ord) (λ d. ord ≤ d.0.segment_ord) (λ d past. omega (arith, past)) (alive_matches_from (suc ord) tree readers) (All-from (suc ord) tree readers))
+    (All-map (λ (d : DocAddress × ℤ). ord ≤ d.0.segment_ord) (addressed ord tree reader.segment)
+    (alive_matching tree reader.segment) (λ k x below. omega arith))
+    (All-weaker (λ d. suc ord ≤ d.0.segment_ord) (λ d. ord ≤ d.0.segment_ord) (λ d past. omega (arith, past))
+    (alive_matches_from (suc ord) tree readers) (All-from (suc ord) tree readers))
 
 pub AreByAddress-from : (ord : ℕ) (tree : Tree) (readers : List Reader) → AreByAddress (alive_matches_from ord tree readers)
 AreByAddress-from ord tree [] = tt
@@ -84,8 +89,10 @@ AreByAddress-from ord tree (reader ∷ readers) =
     let others = alive_matches_from (suc ord) tree readers in
     AreByAddress-append (alive_matches ord tree reader.segment) others (AreByAddress-segment ord tree reader.segment) (AreByAddress-from (suc ord) tree readers)
     (All-map (λ (d : DocAddress × ℤ). All (λ e. address_cmp d.0 e.0 ≡ Less) others) (addressed ord tree reader.segment) (alive_matching tree reader.segment)
-    (λ k x below. All-weaker (λ e. suc ord ≤ e.0.segment_ord) (λ e. address_cmp (addressed ord tree reader.segment (get_or (alive_matching tree reader.segment) k x)).0 e.0 ≡ Less)
-    (λ e past. segment_before (addressed ord tree reader.segment (get_or (alive_matching tree reader.segment) k x)).0 e.0 past) others (All-from (suc ord) tree readers)))
+    (λ k x below. All-weaker (λ e. suc ord ≤ e.0.segment_ord)
+    (λ e. address_cmp (addressed ord tree reader.segment (get_or (alive_matching tree reader.segment) k x)).0 e.0 ≡ Less)
+    (λ e past. segment_before (addressed ord tree reader.segment (get_or (alive_matching tree reader.segment) k x)).0 e.0 past) others
+    (All-from (suc ord) tree readers)))
 
 -- ---- one segment more
 
@@ -94,5 +101,7 @@ pub alive_matches_from-push : (ord : ℕ) (tree : Tree) (readers : List Reader) 
 alive_matches_from-push ord tree [] reader =
     append-nil (alive_matches ord tree reader.segment) ∙ ap (λ n. alive_matches n tree reader.segment) (omega arith)
 alive_matches_from-push ord tree (first ∷ readers) reader =
-    ap (λ l. alive_matches ord tree first.segment ++ l) (alive_matches_from-push (suc ord) tree readers reader ∙ ap (λ n. alive_matches_from (suc ord) tree readers ++ alive_matches n tree reader.segment) (omega arith))
-    ∙ sym (append_assoc (alive_matches ord tree first.segment) (alive_matches_from (suc ord) tree readers) (alive_matches (ord + length (first ∷ readers)) tree reader.segment))
+    ap (λ l. alive_matches ord tree first.segment ++ l) (alive_matches_from-push (suc ord) tree readers reader
+    ∙ ap (λ n. alive_matches_from (suc ord) tree readers ++ alive_matches n tree reader.segment) (omega arith))
+    ∙ sym (append_assoc (alive_matches ord tree first.segment) (alive_matches_from (suc ord) tree readers)
+    (alive_matches (ord + length (first ∷ readers)) tree reader.segment))

@@ -8,7 +8,8 @@ use Rattle.qm_schema.specs.declared.error.QueryError.TheVariants.{Memory}
 use Rattle.qm_query.specs.EnableScoring.{schema_of}
 use Rattle.qm_query.specs.Fields.{is_served, phrase_field_refusal, prefix_field_refusal, term_field_refusal}
 use Rattle.qm_query.specs.Offsets.{first_field, terms_of}
-use Rattle.qm_query.specs.Query.{Query, Subqueries, Disjuncts, all, none, term, phrase, phrase_prefix, boolean, boost, constant, disjunction_max, no_subquery, subquery, no_disjunct, disjunct}
+use Rattle.qm_query.specs.Query.{Query, Subqueries, Disjuncts, all, none, term, phrase, phrase_prefix, boolean, boost, constant, disjunction_max, no_subquery}
+use Rattle.qm_query.specs.Query.{subquery, no_disjunct, disjunct}
 use Rattle.qm_query.specs.declared.enable_scoring.EnableScoring.{EnableScoring}
 use Rattle.qm_query.specs.declared.enable_scoring.EnableScoring.TheVariants.{Enabled, Disabled}
 

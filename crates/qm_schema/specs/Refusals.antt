@@ -1,7 +1,9 @@
 -- The numbers of refusals: their places in the list of all, from 1.
 use Rattle.std.specs.Prelude.{ℕ}
 use Rattle.qm_schema.specs.declared.error.QueryError.{QueryError}
-use Rattle.qm_schema.specs.declared.error.QueryError.TheVariants.{TooFewTerms, EmptyPrefix, MixedFields, OffsetTooLarge, UnknownField, NotIndexed, NoPositions, TieBreaker, ScoreBound, DoesNotMatch, NoSuchSegment, Provider, Memory, TooManyDocuments, BadDocument, BadBlockLength, BadNorms, TooManySegments}
+use Rattle.qm_schema.specs.declared.error.QueryError.TheVariants.{TooFewTerms, EmptyPrefix, MixedFields, OffsetTooLarge, UnknownField, NotIndexed, NoPositions}
+use Rattle.qm_schema.specs.declared.error.QueryError.TheVariants.{TieBreaker, ScoreBound, DoesNotMatch, NoSuchSegment, Provider, Memory, TooManyDocuments}
+use Rattle.qm_schema.specs.declared.error.QueryError.TheVariants.{BadDocument, BadBlockLength, BadNorms, TooManySegments}
 
 abbrev pub refusal_number : QueryError → ℕ
 refusal_number TooFewTerms = 1

@@ -11,7 +11,8 @@ use Rattle.std.specs.Coded.{Coded, code_by, coded×, coded_list, coded_ℕ}
 use Rattle.std.specs.declared.cmp.Ordering.{Ordering}
 use Rattle.std.specs.declared.cmp.Ordering.TheVariants.{Less, Equal, Greater}
 use Rattle.std.specs.Ordering.{nat_cmp, on, then_cmp, ordering_then, eq_by_cmp, MatchOrdering}
-use Rattle.std.specs.Cmp.{IsTotalOrder, IsEquivalence, then_total, on_total, nat_cmp_total, nat_cmp_is, ranks, Equal-is, tied_itself, eq_by_cmp_equiv, both_tied, unsigned_ties}
+use Rattle.std.specs.Cmp.{IsTotalOrder, IsEquivalence, then_total, on_total, nat_cmp_total, nat_cmp_is, ranks, Equal-is, tied_itself, eq_by_cmp_equiv}
+use Rattle.std.specs.Cmp.{both_tied, unsigned_ties}
 use Rattle.std.specs.Cmp.Lexicographic.{slice_cmp, pointwise, on_texts, texts_ties}
 use Rattle.std.specs.FinMap.{IsAntisymmetric, nat_cmp-IsAntisymmetric, slice_cmp-IsAntisymmetric}
 
@@ -77,7 +78,8 @@ term_cmp-bytes s t e = term_cmp-parts s t ∙ ap (λ r. ordering_then r (slice_c
 pub fields_ascend : (s t : TermKey) → term_cmp s t ≡ Less → s.field ≤ t.field
 fields_ascend s t e = from_first (nat_cmp s.field t.field) (ranks s.field t.field) (sym (term_cmp-parts s t) ∙ e)
   where
-    from_first : (r : Ordering) → MatchOrdering r (s.field < t.field) (s.field ≡ t.field) (t.field < s.field) → ordering_then r (slice_cmp nat_cmp s.bytes t.bytes) ≡ Less → s.field ≤ t.field
+    from_first : (r : Ordering) → MatchOrdering r (s.field < t.field) (s.field ≡ t.field) (t.field < s.field) →
+        ordering_then r (slice_cmp nat_cmp s.bytes t.bytes) ≡ Less → s.field ≤ t.field
     from_first Less h k = omega arith
     from_first Equal h k = omega arith
     from_first Greater h k = cc

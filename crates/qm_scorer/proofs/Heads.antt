@@ -16,7 +16,9 @@ use Rattle.qm_scorer.specs.BareFacts.{head_document-bare}
 use Rattle.qm_scorer.specs.MoveFacts.{product-fits}
 use Rattle.qm_scorer.specs.Tree.{IsRow, IsRowPlaced, IsTree, IsTreePlaced, StandAt, row_limits, row_lists, tree_entries, tree_head, tree_limits}
 use Rattle.qm_scorer.specs.TreeFacts.{tree-ascends}
-use Rattle.qm_scorer.specs.declared.any_scorer.AnyScorer.{AnyScorer, Row_of-AnyScorer, end_of-AnyScorer, more_of-AnyScorer, items-the_row-AnyScorer, All as Every, BitSet, Boost', Const', Disjunction', Empty, Exclude', Intersection', Own, Phrase, PhrasePrefix, RequiredOptional', Term, Union'}
+use Rattle.qm_scorer.specs.declared.any_scorer.AnyScorer.{AnyScorer, Row_of-AnyScorer, end_of-AnyScorer, more_of-AnyScorer, items-the_row-AnyScorer}
+use Rattle.qm_scorer.specs.declared.any_scorer.AnyScorer.{All as Every, BitSet, Boost', Const', Disjunction', Empty, Exclude', Intersection', Own, Phrase}
+use Rattle.qm_scorer.specs.declared.any_scorer.AnyScorer.{PhrasePrefix, RequiredOptional', Term, Union'}
 
 -- what holds of what is read of each holds of each
 pub All-unmap : {X Y : Type 0} (P : Y → Type 0) (f : X → Y) (xs : List X) → All P (map f xs) → All (λ x. P (f x)) xs
@@ -54,19 +56,26 @@ module _ {S : Type 0} (D : Ghosts S) where
 
 module _ {S : Type 0} (D : Ghosts S) where
   -- a leader that stands on a document with all others stands on the first that all have
-  head_document-led : ((s : S) → D.valid s → AreEntries 0 (D.limits s) (D.entries s)) → (leader : AnyScorer S) (n : _) (row : Row_of-AnyScorer S n) → IsTree D leader → IsRow D row → (head_document (tree_entries D leader) < TERMINATED → StandAt D (head_document (tree_entries D leader)) (row_lists D row)) → head_document (tree_entries D leader) ≡ head_document (common_entries held_sum (tree_entries D leader ∷ row_lists D row))
+  head_document-led : ((s : S) → D.valid s → AreEntries 0 (D.limits s) (D.entries s)) → (leader : AnyScorer S) (n : _) (row : Row_of-AnyScorer S n) → IsTree
+      D leader → IsRow D row → (head_document (tree_entries D leader) < TERMINATED → StandAt D (head_document (tree_entries D leader)) (row_lists D row)) →
+      head_document (tree_entries D leader) ≡ head_document (common_entries held_sum (tree_entries D leader ∷ row_lists D row))
   head_document-led own leader n row h others together =
       let items = items-the_row-AnyScorer S n row in
       let same = row_lists-items D n row in
       let Stands : AnyScorer S → Type 0 = λ x. IsTree D x × (head_document (tree_entries D x) ≡ head_document (tree_entries D leader)) in
       let all = IsRow-items D n row others in
-      let here : head_document (tree_entries D leader) < TERMINATED → All Stands items = λ below k d less.
-      (all k d less, All-unmap (λ es. head_document es ≡ head_document (tree_entries D leader)) (tree_entries D) items (subst (All (λ es. head_document es ≡ head_document (tree_entries D leader))) same (together below)) k d less) in
-      head_document-together (IsTree D) (tree_limits D) (tree_entries D) (tree-ascends D own) held_sum (IsTree D) _ (tree_entries D leader) items (tree-ascends D own leader h) all here
+      let here : head_document (tree_entries D leader) < TERMINATED → All Stands items = λ below k d less. (
+        all k d less,
+        All-unmap (λ es. head_document es ≡ head_document (tree_entries D leader)) (tree_entries D) items
+            (subst (All (λ es. head_document es ≡ head_document (tree_entries D leader))) same (together below)) k d less,
+      ) in
+      head_document-together (IsTree D) (tree_limits D) (tree_entries D) (tree-ascends D own) held_sum
+      (IsTree D) _ (tree_entries D leader) items (tree-ascends D own leader h) all here
       ∙ ap (λ ess. head_document (common_entries held_sum (tree_entries D leader ∷ ess))) (sym same)
 
   -- where it is placed it stands on the first of its documents
-  pub tree-head : ((s : S) → D.valid s → AreEntries 0 (D.limits s) (D.entries s)) → (x : AnyScorer S) → IsTree D x → IsTreePlaced D x → tree_head D x ≡ head_document (tree_entries D x)
+  pub tree-head : ((s : S) → D.valid s → AreEntries 0 (D.limits s) (D.entries s)) → (x : AnyScorer S) →
+      IsTree D x → IsTreePlaced D x → tree_head D x ≡ head_document (tree_entries D x)
   tree-head own (Empty s) h here = refl
   tree-head own (Every s) h here = sym (head_document-bare _)
   tree-head own (Own s) h here = sym (head_document-bare _)
@@ -80,11 +89,14 @@ module _ {S : Type 0} (D : Ghosts S) where
   tree-head own (Exclude' p inner out top) h here = tree-head own inner h.0 here.0 ∙ sym (head_document-without _ 0 _ _ (tree-ascends D own inner h.0) here.1)
   tree-head own (Union' p room row window ahead doc span top) h here = h.2.standing.first
   tree-head own (Disjunction' p room row shape current) h here = h.2.first
-  tree-head own (Intersection' p leader room row num_docs top) h here = tree-head own leader h.0 here.0 ∙ head_document-led own leader _ row h.0 h.1 (λ below. (here.1 below).1)
+  tree-head own (Intersection' p leader room row num_docs top) h here = tree-head own leader h.0 here.0
+      ∙ head_document-led own leader _ row h.0 h.1 (λ below. (here.1 below).1)
 
-  pub tree-here : ((s : S) → D.valid s → AreEntries 0 (D.limits s) (D.entries s)) → (x : AnyScorer S) → IsTree D x → IsTreePlaced D x → tree_head D x < TERMINATED → head_document (tree_entries D x) < TERMINATED
+  pub tree-here : ((s : S) → D.valid s → AreEntries 0 (D.limits s) (D.entries s)) → (x : AnyScorer S) →
+      IsTree D x → IsTreePlaced D x → tree_head D x < TERMINATED → head_document (tree_entries D x) < TERMINATED
   tree-here own x h placed here = omega (arith, tree-head own x h placed)
 
   -- a product that is bounded is a score
-  pub boost-fits : ((s : S) → D.valid s → AreEntries 0 (D.limits s) (D.entries s)) → (x : AnyScorer S) (boost top : ℕ) → IsTree D x → IsTreePlaced D x → tree_head D x < TERMINATED → IsBounded top (rescored (λ e. e.score * boost) (tree_entries D x)) → head_score (tree_entries D x) * boost ≤ greatest_score
+  pub boost-fits : ((s : S) → D.valid s → AreEntries 0 (D.limits s) (D.entries s)) → (x : AnyScorer S) (boost top : ℕ) → IsTree D x → IsTreePlaced D x →
+      tree_head D x < TERMINATED → IsBounded top (rescored (λ e. e.score * boost) (tree_entries D x)) → head_score (tree_entries D x) * boost ≤ greatest_score
   boost-fits own x boost top h placed here bounded = product-fits boost top (tree_entries D x) (tree-here own x h placed here) bounded

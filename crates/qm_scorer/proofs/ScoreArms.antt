@@ -56,8 +56,11 @@ module _ {S : Type 0} (D : Ghosts S) where
 
   -- ---- leaves, of which a tree knows the documents and the scores alone
 
-  module _ {L : Type 0} (made : L → AnyScorer S) (listed : L → List Entry) (lists : (s : L) → tree_entries D (made s) ≡ bare (listed s)) (heads : (s : L) → tree_head D (made s) ≡ head_document (listed s)) (deep : (new old : L) → size-AnyScorer S (made new) ≤ size-AnyScorer S (made old)) where
-    pub scored-leaf : {tree after : AnyScorer S} {lent : L} {n : ℕ} (leaf new : L) → lent ≡ leaf → tree ≡ made leaf → tree_head D tree < TERMINATED → n ≡ head_score (listed lent) → head_score (listed lent) ≤ greatest_score → listed new ≡ listed lent → tree_top D (made new) ≡ tree_top D (made lent) → IsTree D (made new) → IsTreePlaced D (made new) → after ≡ made new → Scored tree after n
+  module _ {L : Type 0} (made : L → AnyScorer S) (listed : L → List Entry) (lists : (s : L) → tree_entries D (made s) ≡ bare (listed s)) (heads : (s : L) →
+      tree_head D (made s) ≡ head_document (listed s)) (deep : (new old : L) → size-AnyScorer S (made new) ≤ size-AnyScorer S (made old)) where
+    pub scored-leaf : {tree after : AnyScorer S} {lent : L} {n : ℕ} (leaf new : L) → lent ≡ leaf → tree ≡ made leaf →
+        tree_head D tree < TERMINATED → n ≡ head_score (listed lent) → head_score (listed lent) ≤ greatest_score → listed new ≡ listed lent →
+        tree_top D (made new) ≡ tree_top D (made lent) → IsTree D (made new) → IsTreePlaced D (made new) → after ≡ made new → Scored tree after n
     scored-leaf {tree} {after} {lent} {n} leaf new same is here score fits kept top valid placed left =
         let below : head_document (listed leaf) < TERMINATED = subst (λ d. d < TERMINATED) (ap (tree_head D) is ∙ heads leaf) here in
         let list : listed new ≡ listed leaf = kept ∙ ap listed same in
@@ -74,12 +77,19 @@ module _ {S : Type 0} (D : Ghosts S) where
 
   -- ---- nodes over trees
 
-  pub asked-Boost : {tree : AnyScorer S} {lent : BoostNode S} (node : Box (BoostNode S) _) → tree ≡ Boost node → lent ≡ node.value → IsTree D tree → IsTreePlaced D tree → tree_head D tree < TERMINATED → IsTree D lent.inner × (IsTreePlaced D lent.inner × ((tree_head D lent.inner < TERMINATED) × IsBounded lent.top (rescored (λ e. e.score * lent.boost) (tree_entries D lent.inner))))
+  pub asked-Boost : {tree : AnyScorer S} {lent : BoostNode S} (node : Box (BoostNode S) _) → tree ≡ Boost node → lent ≡ node.value →
+      IsTree D tree → IsTreePlaced D tree → tree_head D tree < TERMINATED → IsTree D lent.inner × (IsTreePlaced D lent.inner ×
+      ((tree_head D lent.inner < TERMINATED) × IsBounded lent.top (rescored (λ e. e.score * lent.boost) (tree_entries D lent.inner))))
   asked-Boost node is same valid placed here =
       let h = subst (IsTree D) is valid in
-      subst (λ (m : BoostNode S). IsTree D m.inner × (IsTreePlaced D m.inner × ((tree_head D m.inner < TERMINATED) × IsBounded m.top (rescored (λ e. e.score * m.boost) (tree_entries D m.inner))))) (sym same) (h.0, (subst (IsTreePlaced D) is placed, (subst (λ t. tree_head D t < TERMINATED) is here, h.1)))
+      subst (λ (m : BoostNode S). IsTree D m.inner ×
+      (IsTreePlaced D m.inner × ((tree_head D m.inner < TERMINATED) × IsBounded m.top (rescored (λ e. e.score * m.boost) (tree_entries D m.inner)))))
+      (sym same) (h.0, (subst (IsTreePlaced D) is placed, (subst (λ t. tree_head D t < TERMINATED) is here, h.1)))
 
-  pub scored-Boost : {lent : BoostNode S} {n : ℕ} (node : Box (BoostNode S) _) (after : BoostNode S) → lent ≡ node.value → IsTree D (Boost node) → n ≡ head_score (rescored (λ e. e.score * lent.boost) (tree_entries D lent.inner)) → n ≤ greatest_score → tree_entries D after.inner ≡ tree_entries D lent.inner → IsTree D after.inner → IsTreePlaced D after.inner → tree_head D after.inner ≡ tree_head D lent.inner → after.boost ≡ lent.boost → after.top ≡ lent.top → size-BoostNode S after ≤ size-BoostNode S lent → Scored (Boost node) (Boost (record node { value = after })) n
+  pub scored-Boost : {lent : BoostNode S} {n : ℕ} (node : Box (BoostNode S) _) (after : BoostNode S) → lent ≡ node.value → IsTree D (Boost node) →
+      n ≡ head_score (rescored (λ e. e.score * lent.boost) (tree_entries D lent.inner)) → n ≤ greatest_score → tree_entries D after.inner
+      ≡ tree_entries D lent.inner → IsTree D after.inner → IsTreePlaced D after.inner → tree_head D after.inner ≡ tree_head D lent.inner → after.boost
+      ≡ lent.boost → after.top ≡ lent.top → size-BoostNode S after ≤ size-BoostNode S lent → Scored (Boost node) (Boost (record node { value = after })) n
   scored-Boost node after same valid score fits entries inner placed head boost top depth =
       let boosts : after.boost ≡ node.value.boost = boost ∙ ap (λ (m : BoostNode S). m.boost) same in
       let tops : after.top ≡ node.value.top = top ∙ ap (λ (m : BoostNode S). m.top) same in
@@ -90,18 +100,29 @@ module _ {S : Type 0} (D : Ghosts S) where
         fits = fits;
         entries = whole;
         top = tops;
-        valid = (inner, subst (λ b. IsBounded b (tree_entries D (Boost (record node { value = after })))) (sym tops) (IsBounded-same node.value.top (tree_entries D (Boost node)) _ whole valid.1));
+        valid = (
+          inner,
+          subst (λ b. IsBounded b (tree_entries D (Boost (record node { value = after }))))
+              (sym tops) (IsBounded-same node.value.top (tree_entries D (Boost node)) _ whole valid.1),
+        );
         placed = placed;
         head = head ∙ ap (λ (m : BoostNode S). tree_head D m.inner) same;
         depth = size-Boost node after (subst (λ m. size-BoostNode S after ≤ size-BoostNode S m) same depth);
       }
 
-  pub asked-Const : {tree : AnyScorer S} {lent : ConstNode S} (node : Box (ConstNode S) _) → tree ≡ Const node → lent ≡ node.value → IsTree D tree → IsTreePlaced D tree → tree_head D tree < TERMINATED → IsTree D lent.inner × (IsTreePlaced D lent.inner × ((tree_head D lent.inner < TERMINATED) × IsBounded lent.score (rescored (λ _. lent.score) (tree_entries D lent.inner))))
+  pub asked-Const : {tree : AnyScorer S} {lent : ConstNode S} (node : Box (ConstNode S) _) → tree ≡ Const node →
+      lent ≡ node.value → IsTree D tree → IsTreePlaced D tree → tree_head D tree < TERMINATED → IsTree D lent.inner ×
+      (IsTreePlaced D lent.inner × ((tree_head D lent.inner < TERMINATED) × IsBounded lent.score (rescored (λ _. lent.score) (tree_entries D lent.inner))))
   asked-Const node is same valid placed here =
       let h = subst (IsTree D) is valid in
-      subst (λ (m : ConstNode S). IsTree D m.inner × (IsTreePlaced D m.inner × ((tree_head D m.inner < TERMINATED) × IsBounded m.score (rescored (λ _. m.score) (tree_entries D m.inner))))) (sym same) (h.0, (subst (IsTreePlaced D) is placed, (subst (λ t. tree_head D t < TERMINATED) is here, h.1)))
+      subst (λ (m : ConstNode S). IsTree D m.inner ×
+      (IsTreePlaced D m.inner × ((tree_head D m.inner < TERMINATED) × IsBounded m.score (rescored (λ _. m.score) (tree_entries D m.inner)))))
+      (sym same) (h.0, (subst (IsTreePlaced D) is placed, (subst (λ t. tree_head D t < TERMINATED) is here, h.1)))
 
-  pub scored-Const : {lent : ConstNode S} {n : ℕ} (node : Box (ConstNode S) _) (after : ConstNode S) → lent ≡ node.value → IsTree D (Const node) → n ≡ head_score (rescored (λ _. lent.score) (tree_entries D lent.inner)) → n ≤ greatest_score → tree_entries D after.inner ≡ tree_entries D lent.inner → IsTree D after.inner → IsTreePlaced D after.inner → tree_head D after.inner ≡ tree_head D lent.inner → after.score ≡ lent.score → size-ConstNode S after ≤ size-ConstNode S lent → Scored (Const node) (Const (record node { value = after })) n
+  pub scored-Const : {lent : ConstNode S} {n : ℕ} (node : Box (ConstNode S) _) (after : ConstNode S) → lent ≡ node.value → IsTree D (Const node) →
+      n ≡ head_score (rescored (λ _. lent.score) (tree_entries D lent.inner)) → n ≤ greatest_score → tree_entries D after.inner ≡ tree_entries D lent.inner →
+      IsTree D after.inner → IsTreePlaced D after.inner → tree_head D after.inner ≡ tree_head D lent.inner → after.score ≡ lent.score →
+      size-ConstNode S after ≤ size-ConstNode S lent → Scored (Const node) (Const (record node { value = after })) n
   scored-Const node after same valid score fits entries inner placed head one depth =
       let scores : after.score ≡ node.value.score = one ∙ ap (λ (m : ConstNode S). m.score) same in
       let list : tree_entries D after.inner ≡ tree_entries D node.value.inner = entries ∙ ap (λ (m : ConstNode S). tree_entries D m.inner) same in
@@ -111,51 +132,83 @@ module _ {S : Type 0} (D : Ghosts S) where
         fits = fits;
         entries = whole;
         top = scores;
-        valid = (inner, subst (λ b. IsBounded b (tree_entries D (Const (record node { value = after })))) (sym scores) (IsBounded-same node.value.score (tree_entries D (Const node)) _ whole valid.1));
+        valid = (
+          inner,
+          subst (λ b. IsBounded b (tree_entries D (Const (record node { value = after }))))
+              (sym scores) (IsBounded-same node.value.score (tree_entries D (Const node)) _ whole valid.1),
+        );
         placed = placed;
         head = head ∙ ap (λ (m : ConstNode S). tree_head D m.inner) same;
         depth = size-Const node after (subst (λ m. size-ConstNode S after ≤ size-ConstNode S m) same depth);
       }
 
-  pub asked-RequiredOptional : {tree : AnyScorer S} {lent : OptionalNode S} (node : Box (OptionalNode S) _) → tree ≡ RequiredOptional node → lent ≡ node.value → IsTree D tree → IsTreePlaced D tree → tree_head D tree < TERMINATED → IsTree D lent.required × (IsTreePlaced D lent.required × ((tree_head D lent.required < TERMINATED) × (IsTree D lent.optional × (IsTreePlaced D lent.optional × IsBounded lent.top (joined_entries D lent.required lent.optional)))))
+  pub asked-RequiredOptional : {tree : AnyScorer S} {lent : OptionalNode S} (node : Box (OptionalNode S) _) → tree ≡ RequiredOptional node → lent ≡ node.value →
+      IsTree D tree → IsTreePlaced D tree → tree_head D tree < TERMINATED → IsTree D lent.required × (IsTreePlaced D lent.required × ((tree_head D lent.required
+      < TERMINATED) × (IsTree D lent.optional × (IsTreePlaced D lent.optional × IsBounded lent.top (joined_entries D lent.required lent.optional)))))
   asked-RequiredOptional node is same valid placed here =
       let h = subst (IsTree D) is valid in
-      subst (λ (m : OptionalNode S). IsTree D m.required × (IsTreePlaced D m.required × ((tree_head D m.required < TERMINATED) × (IsTree D m.optional × (IsTreePlaced D m.optional × IsBounded m.top (joined_entries D m.required m.optional)))))) (sym same) (h.0, (subst (IsTreePlaced D) is placed, (subst (λ t. tree_head D t < TERMINATED) is here, (h.1, (h.2, h.3)))))
+      subst (λ (m : OptionalNode S). IsTree D m.required × (IsTreePlaced D m.required × ((tree_head D m.required < TERMINATED) ×
+      (IsTree D m.optional × (IsTreePlaced D m.optional × IsBounded m.top (joined_entries D m.required m.optional))))))
+      (sym same) (h.0, (subst (IsTreePlaced D) is placed, (subst (λ t. tree_head D t < TERMINATED) is here, (h.1, (h.2, h.3)))))
 
-  pub scored-RequiredOptional : {lent : OptionalNode S} {n : ℕ} (node : Box (OptionalNode S) _) (after : OptionalNode S) → lent ≡ node.value → IsTree D (RequiredOptional node) → n ≡ head_score (joined_entries D lent.required lent.optional) → n ≤ greatest_score → joined_entries D after.required after.optional ≡ joined_entries D lent.required lent.optional → IsTree D after.required → IsTreePlaced D after.required → IsTree D after.optional → IsTreePlaced D after.optional → tree_head D after.required ≡ tree_head D lent.required → after.top ≡ lent.top → size-OptionalNode S after ≤ size-OptionalNode S lent → Scored (RequiredOptional node) (RequiredOptional (record node { value = after })) n
+  pub scored-RequiredOptional : {lent : OptionalNode S} {n : ℕ} (node : Box (OptionalNode S) _) (after : OptionalNode S) → lent ≡ node.value →
+      IsTree D (RequiredOptional node) → n ≡ head_score (joined_entries D lent.required lent.optional) → n ≤ greatest_score →
+      joined_entries D after.required after.optional ≡ joined_entries D lent.required lent.optional → IsTree D after.required → IsTreePlaced D after.required →
+      IsTree D after.optional → IsTreePlaced D after.optional → tree_head D after.required ≡ tree_head D lent.required → after.top ≡ lent.top →
+      size-OptionalNode S after ≤ size-OptionalNode S lent → Scored (RequiredOptional node) (RequiredOptional (record node { value = after })) n
   scored-RequiredOptional node after same valid score fits entries required placed optional stands head top depth =
       let tops : after.top ≡ node.value.top = top ∙ ap (λ (m : OptionalNode S). m.top) same in
-      let whole : tree_entries D (RequiredOptional (record node { value = after })) ≡ tree_entries D (RequiredOptional node) = entries ∙ ap (λ (m : OptionalNode S). joined_entries D m.required m.optional) same in
+      let whole : tree_entries D (RequiredOptional (record node { value = after })) ≡ tree_entries D (RequiredOptional node) = entries
+      ∙ ap (λ (m : OptionalNode S). joined_entries D m.required m.optional) same in
       record {
         score = score ∙ ap (λ (m : OptionalNode S). head_score (joined_entries D m.required m.optional)) same;
         fits = fits;
         entries = whole;
         top = tops;
-        valid = (required, optional, stands, subst (λ b. IsBounded b (tree_entries D (RequiredOptional (record node { value = after })))) (sym tops) (IsBounded-same node.value.top (tree_entries D (RequiredOptional node)) _ whole valid.3));
+        valid = (
+          required,
+          optional,
+          stands,
+          subst (λ b. IsBounded b (tree_entries D (RequiredOptional (record node { value = after }))))
+              (sym tops) (IsBounded-same node.value.top (tree_entries D (RequiredOptional node)) _ whole valid.3),
+        );
         placed = placed;
         head = head ∙ ap (λ (m : OptionalNode S). tree_head D m.required) same;
         depth = size-RequiredOptional node after (subst (λ m. size-OptionalNode S after ≤ size-OptionalNode S m) same depth);
       }
 
-  pub asked-Exclude : {tree : AnyScorer S} {lent : ExcludeNode S} (node : Box (ExcludeNode S) _) → tree ≡ Exclude node → lent ≡ node.value → IsTree D tree → IsTreePlaced D tree → tree_head D tree < TERMINATED → IsTree D lent.inner × (IsTreePlaced D lent.inner × (IsOnKept D lent.inner lent.out × (tree_head D lent.inner < TERMINATED)))
+  pub asked-Exclude : {tree : AnyScorer S} {lent : ExcludeNode S} (node : Box (ExcludeNode S) _) → tree ≡ Exclude node →
+      lent ≡ node.value → IsTree D tree → IsTreePlaced D tree → tree_head D tree < TERMINATED → IsTree D lent.inner ×
+      (IsTreePlaced D lent.inner × (IsOnKept D lent.inner lent.out × (tree_head D lent.inner < TERMINATED)))
   asked-Exclude node is same valid placed here =
       let h = subst (IsTree D) is valid in
       let p = subst (IsTreePlaced D) is placed in
-      subst (λ (m : ExcludeNode S). IsTree D m.inner × (IsTreePlaced D m.inner × (IsOnKept D m.inner m.out × (tree_head D m.inner < TERMINATED)))) (sym same) (h.0, (p.0, (p.1, subst (λ t. tree_head D t < TERMINATED) is here)))
+      subst (λ (m : ExcludeNode S). IsTree D m.inner × (IsTreePlaced D m.inner × (IsOnKept D m.inner m.out × (tree_head D m.inner < TERMINATED))))
+      (sym same) (h.0, (p.0, (p.1, subst (λ t. tree_head D t < TERMINATED) is here)))
 
-  pub scored-Exclude : {lent : ExcludeNode S} {n : ℕ} (node : Box (ExcludeNode S) _) (after : ExcludeNode S) → lent ≡ node.value → IsTree D (Exclude node) → IsTreePlaced D (Exclude node) → n ≡ head_score (kept_entries D lent.inner lent.out) → n ≤ greatest_score → tree_entries D after.inner ≡ tree_entries D lent.inner → IsTree D after.inner → IsTreePlaced D after.inner → tree_head D after.inner ≡ tree_head D lent.inner → after.out ≡ lent.out → after.top ≡ lent.top → size-ExcludeNode S after ≤ size-ExcludeNode S lent → Scored (Exclude node) (Exclude (record node { value = after })) n
+  pub scored-Exclude : {lent : ExcludeNode S} {n : ℕ} (node : Box (ExcludeNode S) _) (after : ExcludeNode S) → lent ≡ node.value → IsTree D (Exclude node) →
+      IsTreePlaced D (Exclude node) → n ≡ head_score (kept_entries D lent.inner lent.out) → n ≤ greatest_score → tree_entries D after.inner
+      ≡ tree_entries D lent.inner → IsTree D after.inner → IsTreePlaced D after.inner → tree_head D after.inner ≡ tree_head D lent.inner → after.out
+      ≡ lent.out → after.top ≡ lent.top → size-ExcludeNode S after ≤ size-ExcludeNode S lent → Scored (Exclude node) (Exclude (record node { value = after })) n
   scored-Exclude node after same valid stands score fits entries inner placed head out top depth =
       let outs : after.out ≡ node.value.out = out ∙ ap (λ (m : ExcludeNode S). m.out) same in
       let tops : after.top ≡ node.value.top = top ∙ ap (λ (m : ExcludeNode S). m.top) same in
       let list : tree_entries D after.inner ≡ tree_entries D node.value.inner = entries ∙ ap (λ (m : ExcludeNode S). tree_entries D m.inner) same in
-      let whole : tree_entries D (Exclude (record node { value = after })) ≡ tree_entries D (Exclude node) = (λ i. without (has_document (tree_entries D (outs i))) (list i)) in
-      let kept : IsOnKept D after.inner after.out = subst (IsKept (has_document (tree_entries D after.out))) (sym list) (subst (λ o. IsKept (has_document (tree_entries D o)) (tree_entries D node.value.inner)) (sym outs) stands.1) in
+      let whole : tree_entries D (Exclude (record node { value = after })) ≡ tree_entries D (Exclude node) =
+      (λ i. without (has_document (tree_entries D (outs i))) (list i)) in
+      let kept : IsOnKept D after.inner after.out = subst (IsKept (has_document (tree_entries D after.out))) (sym list)
+      (subst (λ o. IsKept (has_document (tree_entries D o)) (tree_entries D node.value.inner)) (sym outs) stands.1) in
       record {
         score = score ∙ ap (λ (m : ExcludeNode S). head_score (kept_entries D m.inner m.out)) same;
         fits = fits;
         entries = whole;
         top = tops;
-        valid = (inner, subst (IsTree D) (sym outs) valid.1, subst (λ b. IsBounded b (tree_entries D (Exclude (record node { value = after })))) (sym tops) (IsBounded-same node.value.top (tree_entries D (Exclude node)) _ whole valid.2));
+        valid = (
+          inner,
+          subst (IsTree D) (sym outs) valid.1,
+          subst (λ b. IsBounded b (tree_entries D (Exclude (record node { value = after }))))
+              (sym tops) (IsBounded-same node.value.top (tree_entries D (Exclude node)) _ whole valid.2),
+        );
         placed = (placed, kept);
         head = head ∙ ap (λ (m : ExcludeNode S). tree_head D m.inner) same;
         depth = size-Exclude node after (subst (λ m. size-ExcludeNode S after ≤ size-ExcludeNode S m) same depth);
@@ -179,7 +232,9 @@ module _ {S : Type 0} (D : Ghosts S) where
       } in
       subst (λ (m : UnionNode S). Scored (Union node) (Union (record node { value = m })) n) (sym is) made
 
-  pub scored-Disjunction : {lent : GroupNode S} {n : ℕ} (node : Box (GroupNode S) _) (after : GroupNode S) → lent ≡ node.value → n ≡ head_score (group_entries D lent) → n ≤ greatest_score → group_lists D after ≡ group_lists D lent → IsGroupNode D after → after.shape ≡ lent.shape → after.current ≡ lent.current → size-GroupNode S after ≤ size-GroupNode S lent → Scored (Disjunction node) (Disjunction (record node { value = after })) n
+  pub scored-Disjunction : {lent : GroupNode S} {n : ℕ} (node : Box (GroupNode S) _) (after : GroupNode S) → lent ≡ node.value →
+      n ≡ head_score (group_entries D lent) → n ≤ greatest_score → group_lists D after ≡ group_lists D lent → IsGroupNode D after → after.shape ≡ lent.shape →
+      after.current ≡ lent.current → size-GroupNode S after ≤ size-GroupNode S lent → Scored (Disjunction node) (Disjunction (record node { value = after })) n
   scored-Disjunction {lent} node after same score fits lists valid shape current depth =
       let before : tree_entries D (Disjunction node) ≡ group_entries D lent = entries-Disjunction D node ∙ ap (group_entries D) (sym same) in
       let new = record node { value = after } in
@@ -194,7 +249,10 @@ module _ {S : Type 0} (D : Ghosts S) where
         depth = size-Disjunction node new (subst (λ m. size-GroupNode S after ≤ size-GroupNode S m) same depth);
       }
 
-  pub scored-Intersection : {tree : AnyScorer S} {lent : IntersectionNode S} {n : ℕ} (node : Box (IntersectionNode S) _) (after : IntersectionNode S) → tree ≡ Intersection node → lent ≡ node.value → IsTree D tree → n ≡ head_score (common_list D lent) → n ≤ greatest_score → common_list D after ≡ common_list D lent → AreTrees D after → AreTogether D after → tree_head D after.leader ≡ tree_head D lent.leader → after.top ≡ lent.top → size-IntersectionNode S after ≤ size-IntersectionNode S lent → Scored (Intersection node) (Intersection (record node { value = after })) n
+  pub scored-Intersection : {tree : AnyScorer S} {lent : IntersectionNode S} {n : ℕ} (node : Box (IntersectionNode S) _) (after : IntersectionNode S) →
+      tree ≡ Intersection node → lent ≡ node.value → IsTree D tree → n ≡ head_score (common_list D lent) → n ≤ greatest_score → common_list D after
+      ≡ common_list D lent → AreTrees D after → AreTogether D after → tree_head D after.leader ≡ tree_head D lent.leader → after.top ≡ lent.top →
+      size-IntersectionNode S after ≤ size-IntersectionNode S lent → Scored (Intersection node) (Intersection (record node { value = after })) n
   scored-Intersection node after is same valid score fits entries trees placed head top depth = record {
     score = score ∙ ap head_score (lent-entries D node is same) ∙ ap (λ t. head_score (tree_entries D t)) is;
     fits = fits;

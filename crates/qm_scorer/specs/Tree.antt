@@ -28,7 +28,9 @@ use Rattle.qm_term.specs.TermScorer.{IsTermScorer, scored_left, scored_limits}
 use Rattle.qm_scorer.specs.AnyCombiner.{AreTakenBy, any_cleared, any_combined, any_value}
 use Rattle.qm_scorer.specs.Bare.{IsBounded, bare, scores_to}
 use Rattle.qm_scorer.specs.declared.any_combiner.AnyCombiner.{AnyCombiner}
-use Rattle.qm_scorer.specs.declared.any_scorer.AnyScorer.{AnyScorer, Row_of-AnyScorer, end_of-AnyScorer, more_of-AnyScorer, All, BitSet, Boost', Const', Disjunction', Empty, Exclude', Intersection', Own, Phrase, PhrasePrefix, RequiredOptional', Term, Union'}
+use Rattle.qm_scorer.specs.declared.any_scorer.AnyScorer.{AnyScorer, Row_of-AnyScorer, end_of-AnyScorer, more_of-AnyScorer, All, BitSet, Boost', Const'}
+use Rattle.qm_scorer.specs.declared.any_scorer.AnyScorer.{Disjunction', Empty, Exclude', Intersection', Own, Phrase, PhrasePrefix, RequiredOptional', Term}
+use Rattle.qm_scorer.specs.declared.any_scorer.AnyScorer.{Union'}
 use Rattle.qm_scorer.specs.declared.group_node.Shape.{Shape}
 
 -- ---- the ghost members of the cursors below the leaves
@@ -180,7 +182,8 @@ module _ {S : Type 0} (D : Ghosts S) where
     IsTreePlaced (Exclude' p inner out top) = IsTreePlaced inner × IsKept (has_document (tree_entries out)) (tree_entries inner)
     IsTreePlaced (Union' p room row window ahead doc span top) = Unit {0}
     IsTreePlaced (Disjunction' p room row shape current) = Unit {0}
-    IsTreePlaced (Intersection' p leader room row num_docs top) = IsTreePlaced leader × (head_document (tree_entries leader) < TERMINATED → IsRowPlaced row × StandAt (head_document (tree_entries leader)) (row_lists row))
+    IsTreePlaced (Intersection' p leader room row num_docs top) = IsTreePlaced leader ×
+        (head_document (tree_entries leader) < TERMINATED → IsRowPlaced row × StandAt (head_document (tree_entries leader)) (row_lists row))
 
     -- the same of each of a row of trees
     pub IsRowPlaced : {n : _} → Row_of-AnyScorer S n → Type 0
@@ -199,11 +202,13 @@ module _ {S : Type 0} (D : Ghosts S) where
     IsTree (PhrasePrefix s) = IsPhrasePrefix postings_cursors s.value
     IsTree (Boost' p inner boost top) = IsTree inner × IsBounded top (rescored (λ e. e.score * boost) (tree_entries inner))
     IsTree (Const' p inner score) = IsTree inner × IsBounded score (rescored (λ _. score) (tree_entries inner))
-    IsTree (RequiredOptional' p required optional top) = IsTree required × IsTree optional × IsTreePlaced optional × IsBounded top (with_optional sum (tree_entries required) (tree_entries optional))
+    IsTree (RequiredOptional' p required optional top) = IsTree required × IsTree optional ×
+        IsTreePlaced optional × IsBounded top (with_optional sum (tree_entries required) (tree_entries optional))
     IsTree (Exclude' p inner out top) = IsTree inner × IsTree out × IsBounded top (without (has_document (tree_entries out)) (tree_entries inner))
     IsTree (Union' p room row window ahead doc span top) = IsRow row × IsRowPlaced row × IsUnited window doc ahead top (row_limits row) (row_lists row)
     IsTree (Disjunction' p room row shape current) = IsRow row × IsRowPlaced row × IsGroup shape current (row_lists row)
-    IsTree (Intersection' p leader room row num_docs top) = IsTree leader × IsRow row × IsBounded top (common_entries held_sum (tree_entries leader ∷ row_lists row))
+    IsTree (Intersection' p leader room row num_docs top) = IsTree leader × IsRow row ×
+        IsBounded top (common_entries held_sum (tree_entries leader ∷ row_lists row))
 
     -- the same of each of a row of trees
     pub IsRow : {n : _} → Row_of-AnyScorer S n → Type 0

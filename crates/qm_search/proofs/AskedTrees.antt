@@ -1,10 +1,12 @@
 -- The trees of the queries that lines ask have no prefix where none is spelled.
-use Rattle.std.proofs.Common.{◌≡◌, ℕ, Bool, true, false, ◌&&◌, ◌||◌, ◌==◌, if◌then◌else◌, nat_lt, List, [], ◌∷◌, Option, None, Some, Result, Ok, Err, IfOk, refl, sym, length}
+use Rattle.std.proofs.Common.{◌≡◌, ℕ, Bool, true, false, ◌&&◌, ◌||◌, ◌==◌, if◌then◌else◌, nat_lt, List, [], ◌∷◌, Option, None, Some, Result, Ok, Err, IfOk}
+use Rattle.std.proofs.Common.{refl, sym, length}
 use Rattle.std.proofs.lemmas.Bool.{false≢true}
 use Rattle.qm_postings.specs.Statistics.{Searched}
 use Rattle.qm_query.specs.EnableScoring.{is_enabled}
 use Rattle.qm_query.specs.Query as query
-use Rattle.qm_query.specs.Query.{Query, Subqueries, Disjuncts, all, none, term, phrase, phrase_prefix, boolean, boost, constant, disjunction_max, no_subquery, subquery, no_disjunct, disjunct}
+use Rattle.qm_query.specs.Query.{Query, Subqueries, Disjuncts, all, none, term, phrase, phrase_prefix, boolean, boost, constant, disjunction_max, no_subquery}
+use Rattle.qm_query.specs.Query.{subquery, no_disjunct, disjunct}
 use Rattle.qm_query.specs.Parts.{PrefixParts}
 use Rattle.qm_query.specs.QueryTree.{clause_trees, disjunct_trees, full_prefix_tree, if_scoring}
 use Rattle.qm_weight.specs.Weights.{prefix_alone}
@@ -26,7 +28,8 @@ use Rattle.qm_weight.specs.Tree.{Tree, clauses_scoring, is_scoring}
 
 -- ---- prefixes
 
-pub bind-ok : {A B : Type 0} (P : A → Type 0) (Q : B → Type 0) (r : Result A QueryError) (f : A → Result B QueryError) → IfOk r P → ((x : A) → P x → IfOk (f x) Q) → IfOk (r >>= f) Q
+pub bind-ok : {A B : Type 0} (P : A → Type 0) (Q : B → Type 0) (r : Result A QueryError) (f : A → Result B QueryError) →
+    IfOk r P → ((x : A) → P x → IfOk (f x) Q) → IfOk (r >>= f) Q
 bind-ok P Q (Ok x) f holds next = next x holds
 bind-ok P Q (Err e) f holds next = tt
 
@@ -46,7 +49,8 @@ neither-right : (a b : Bool) → (a || b) ≡ false → b ≡ false
 neither-right true b fails = absurd (false≢true (sym fails))
 neither-right false b fails = fails
 
-if_scoring-free : (on : Bool) (node : Tree → Tree) (inside : Tree) → (has_no_prefix inside ≡ true → has_no_prefix (node inside) ≡ true) → has_no_prefix inside ≡ true → has_no_prefix (if_scoring on node inside) ≡ true
+if_scoring-free : (on : Bool) (node : Tree → Tree) (inside : Tree) → (has_no_prefix inside ≡ true → has_no_prefix (node inside) ≡ true) →
+    has_no_prefix inside ≡ true → has_no_prefix (if_scoring on node inside) ≡ true
 if_scoring-free true node inside keeps free = keeps free
 if_scoring-free false node inside keeps free = free
 
@@ -68,19 +72,27 @@ module _ (enable : EnableScoring Searched) where
     asked-free (language.term word) free = refl
     asked-free (language.phrase slop words) free = unless-ok IsFree _ _ refl
     asked-free (language.phrase_prefix most words) free = absurd (false≢true (sym free))
-    asked-free (language.boolean minimum clauses) free = bind-ok (λ cs. AreFree (query.subqueries cs)) IsFree (clauses_asked clauses) _ (clauses-free clauses free) (λ cs h. h)
-    asked-free (language.boost factor inner) free = bind-ok IsFree IsFree (asked inner) _ (asked-free inner free) (λ q h. if_scoring-free (is_enabled enable) (tree.boost _) (tree_of enable q) (λ k. k) h)
-    asked-free (language.constant score inner) free = bind-ok IsFree IsFree (asked inner) _ (asked-free inner free) (λ q h. if_scoring-free (is_enabled enable) (tree.constant _) (tree_of enable q) (λ k. k) h)
-    asked-free (language.disjunction_max tie_breaker queries) free = bind-ok (λ qs. AreDisjunctsFree (query.disjuncts qs)) IsFree (disjuncts_asked queries) _ (queries-free queries free) (λ qs h. test-ok IsFree (nat_lt 1000 tie_breaker) TieBreaker _ h)
+    asked-free (language.boolean minimum clauses) free =
+        bind-ok (λ cs. AreFree (query.subqueries cs)) IsFree (clauses_asked clauses) _ (clauses-free clauses free) (λ cs h. h)
+    asked-free (language.boost factor inner) free =
+        bind-ok IsFree IsFree (asked inner) _ (asked-free inner free) (λ q h. if_scoring-free (is_enabled enable) (tree.boost _) (tree_of enable q) (λ k. k) h)
+    asked-free (language.constant score inner) free = bind-ok IsFree IsFree (asked inner) _ (asked-free inner free)
+        (λ q h. if_scoring-free (is_enabled enable) (tree.constant _) (tree_of enable q) (λ k. k) h)
+    asked-free (language.disjunction_max tie_breaker queries) free = bind-ok (λ qs. AreDisjunctsFree (query.disjuncts qs)) IsFree
+        (disjuncts_asked queries) _ (queries-free queries free) (λ qs h. test-ok IsFree (nat_lt 1000 tie_breaker) TieBreaker _ h)
 
     clauses-free : (cs : language.Clauses) → have_clauses_prefix cs ≡ false → IfOk (clauses_asked cs) (λ qs. AreFree (query.subqueries qs))
     clauses-free no_clause free = refl
     clauses-free (clause occur inner cs) free =
-        bind-ok IsFree (λ qs. AreFree (query.subqueries qs)) (asked inner) _ (asked-free inner (neither-left (has_prefix inner) (have_clauses_prefix cs) free)) (λ q here.
-        bind-ok (λ qs. AreFree (query.subqueries qs)) (λ qs. AreFree (query.subqueries qs)) (clauses_asked cs) _ (clauses-free cs (neither-right (has_prefix inner) (have_clauses_prefix cs) free)) (λ qs others. λ i. here i && others i))
+        bind-ok IsFree (λ qs. AreFree (query.subqueries qs)) (asked inner) _
+        (asked-free inner (neither-left (has_prefix inner) (have_clauses_prefix cs) free)) (λ q here.
+        bind-ok (λ qs. AreFree (query.subqueries qs)) (λ qs. AreFree (query.subqueries qs)) (clauses_asked cs) _
+        (clauses-free cs (neither-right (has_prefix inner) (have_clauses_prefix cs) free)) (λ qs others. λ i. here i && others i))
 
     queries-free : (ds : language.Queries) → have_queries_prefix ds ≡ false → IfOk (disjuncts_asked ds) (λ qs. AreDisjunctsFree (query.disjuncts qs))
     queries-free no_query free = refl
     queries-free (language.query inner ds) free =
-        bind-ok IsFree (λ qs. AreDisjunctsFree (query.disjuncts qs)) (asked inner) _ (asked-free inner (neither-left (has_prefix inner) (have_queries_prefix ds) free)) (λ q here.
-        bind-ok (λ qs. AreDisjunctsFree (query.disjuncts qs)) (λ qs. AreDisjunctsFree (query.disjuncts qs)) (disjuncts_asked ds) _ (queries-free ds (neither-right (has_prefix inner) (have_queries_prefix ds) free)) (λ qs others. λ i. here i && others i))
+        bind-ok IsFree (λ qs. AreDisjunctsFree (query.disjuncts qs)) (asked inner) _
+        (asked-free inner (neither-left (has_prefix inner) (have_queries_prefix ds) free)) (λ q here.
+        bind-ok (λ qs. AreDisjunctsFree (query.disjuncts qs)) (λ qs. AreDisjunctsFree (query.disjuncts qs)) (disjuncts_asked ds) _
+        (queries-free ds (neither-right (has_prefix inner) (have_queries_prefix ds) free)) (λ qs others. λ i. here i && others i))

@@ -1,5 +1,6 @@
 -- Counting the listed documents that weren't deleted.
-use Rattle.std.proofs.Common.{◌≡◌, ℕ, ℤ, ◌+◌, ◌<◌, ◌≤◌, ◌==◌, ◌||◌, ◌&&◌, Bool, true, false, not, cond, List, [], ◌∷◌, ◌++◌, All, Option, None, Some, is_some, length, map, filter, drop, get_or, refl, ap, sym, ◌∙◌, arith, length-append, inl, inr}
+use Rattle.std.proofs.Common.{◌≡◌, ℕ, ℤ, ◌+◌, ◌<◌, ◌≤◌, ◌==◌, ◌||◌, ◌&&◌, Bool, true, false, not, cond, List, [], ◌∷◌, ◌++◌, All, Option, None, Some, is_some}
+use Rattle.std.proofs.Common.{length, map, filter, drop, get_or, refl, ap, sym, ◌∙◌, arith, length-append, inl, inr}
 use Rattle.std.specs.List.{list_any, range_with_len}
 use Rattle.std.specs.Ordering.{is_eq, is_gt, nat_cmp}
 use Rattle.std.specs.declared.cmp.Ordering.TheVariants.{Less, Equal, Greater}
@@ -35,7 +36,8 @@ pub at_or_past : (a b : ℕ) → a ≤ b → is_gt (nat_cmp a b) ≡ false
 at_or_past a b order =
     elim (cases_lt a b) [
       | inl less ↦ ap (λ t. is_gt (cond t Less (cond (a == b) Equal Greater))) (lt-ltb a b less)
-      | inr past ↦ ap (λ t. is_gt (cond t Less (cond (a == b) Equal Greater))) (le-ltb a b past) ∙ ap (λ t. is_gt (cond t Equal Greater)) (eq-eqb a b (omega (arith, order, past)))
+      | inr past ↦ ap (λ t. is_gt (cond t Less (cond (a == b) Equal Greater))) (le-ltb a b past)
+          ∙ ap (λ t. is_gt (cond t Equal Greater)) (eq-eqb a b (omega (arith, order, past)))
     ]
 
 pub before : (a b : ℕ) → a < b → nat_cmp a b ≡ Less
@@ -54,13 +56,15 @@ where_none Q (Some x) none holds = absurd (false≢true (sym none))
 
 fewer : {X : Type 0} (p : X → Bool) (xs : List X) → length (filter p xs) ≤ length xs
 fewer p [] = omega arith
-fewer p (x ∷ xs) = let rest = fewer p xs in elim (cases_Bool (p x)) [ inl passes ↦ rw passes (omega (rest, arith)) | inr fails ↦ rw fails (omega (rest, arith)) ]
+fewer p (x ∷ xs) = let rest = fewer p xs in
+    elim (cases_Bool (p x)) [ inl passes ↦ rw passes (omega (rest, arith)) | inr fails ↦ rw fails (omega (rest, arith)) ]
 
 pub alive-most : (deleted : List ℕ) (items : List (ℕ × Option ℤ)) → alive_count deleted items ≤ length items
 alive-most deleted items = fewer (λ i. not (is_in i.0 deleted)) items
 
 -- no more than the segment's documents
-pub alive-few : (deleted : List ℕ) (tree : Tree) (first : ℕ) (segment : Segment) → alive_count deleted (listed false tree first segment) ≤ length segment.documents
+pub alive-few : (deleted : List ℕ) (tree : Tree) (first : ℕ) (segment : Segment) →
+    alive_count deleted (listed false tree first segment) ≤ length segment.documents
 alive-few deleted tree first segment =
     let alive = alive-most deleted (listed false tree first segment) in
     let all = length-map (matching tree segment) (λ d. let i : ℕ × Option ℤ = (first + d, None) in i) in
@@ -72,7 +76,8 @@ alive-few deleted tree first segment =
 
 pub alive-append : (deleted : List ℕ) (xs ys : List (ℕ × Option ℤ)) → alive_count deleted (xs ++ ys) ≡ alive_count deleted xs + alive_count deleted ys
 alive-append deleted xs ys =
-    ap length (filter-append (λ i. not (is_in i.0 deleted)) xs ys) ∙ length-append (filter (λ i. not (is_in i.0 deleted)) xs) (filter (λ i. not (is_in i.0 deleted)) ys)
+    ap length (filter-append (λ i. not (is_in i.0 deleted)) xs ys)
+    ∙ length-append (filter (λ i. not (is_in i.0 deleted)) xs) (filter (λ i. not (is_in i.0 deleted)) ys)
 
 -- ---- a cursor over a segment
 
@@ -102,11 +107,14 @@ alive_undeleted : (segment : Segment) (d : ℕ) → segment.deleted ≡ [] → d
 alive_undeleted segment d undeleted within = (λ i. lt-ltb d (length segment.documents) within i && not (list_any (λ x. x == d) (undeleted i)))
 
 pub none-deleted : (deleted : List ℕ) (tree : Tree) (first : ℕ) (segment : Segment) → segment.deleted ≡ []
-    → ((n : ℕ) → first ≤ n → n < first + length segment.documents → is_in n deleted ≡ false) → segment_count tree segment ≡ alive_count deleted (listed false tree first segment)
+    → ((n : ℕ) → first ≤ n → n < first + length segment.documents → is_in n deleted ≡ false) →
+    segment_count tree segment ≡ alive_count deleted (listed false tree first segment)
 none-deleted deleted tree first segment whole none =
     let ds = matching tree segment in
-    let below : All (λ d. d < length segment.documents) ds = All-filter (matches tree segment) (λ d. d < length segment.documents) (range_with_len 0 (length segment.documents)) (range-below (length segment.documents)) in
-    let alive : All (λ d. not (is_in (first + d) deleted) ≡ true) ds = λ i d within. ap not (none (first + get_or ds i d) (omega arith) (omega (arith, below i d within))) in
+    let below : All (λ d. d < length segment.documents) ds = All-filter (matches tree segment) (λ d. d < length segment.documents)
+    (range_with_len 0 (length segment.documents)) (range-below (length segment.documents)) in
+    let alive : All (λ d. not (is_in (first + d) deleted) ≡ true) ds =
+    λ i d within. ap not (none (first + get_or ds i d) (omega arith) (omega (arith, below i d within))) in
     ap length (filter-all (is_alive segment) ds (λ i d within. alive_undeleted segment (get_or ds i d) whole (below i d within)))
     ∙ ap length (sym (filter-all (λ d. not (is_in (first + d) deleted)) ds alive))
     ∙ sym (ap length (filter-map (λ (i : ℕ × Option ℤ). not (is_in i.0 deleted)) (λ d. (first + d, None)) ds)

@@ -14,15 +14,18 @@ use Rattle.qm_search.specs.declared.word_weights.WordWeights.{WordWeights}
 abbrev pub whole_score : NonNegativeScore → ℕ
 whole_score s = nat_abs s.score
 
-pub map-either : (b : Bool) (x : NonNegativeScore) (o : Option NonNegativeScore) → option_map whole_score (cond b (Some x) o) ≡ cond b (Some (whole_score x)) (option_map whole_score o)
+pub map-either : (b : Bool) (x : NonNegativeScore) (o : Option NonNegativeScore) →
+    option_map whole_score (cond b (Some x) o) ≡ cond b (Some (whole_score x)) (option_map whole_score o)
 map-either true x o = refl
 map-either false x o = refl
 
-find-weights : (q : TermKey) (es : List (TermKey × NonNegativeScore)) → find term_cmp q (map weight_pair es) ≡ option_map whole_score (lookup (is_at (term_cmp q)) es)
+find-weights : (q : TermKey) (es : List (TermKey × NonNegativeScore)) →
+    find term_cmp q (map weight_pair es) ≡ option_map whole_score (lookup (is_at (term_cmp q)) es)
 find-weights q [] = refl
 find-weights q (e ∷ es) =
     ap (cond (eq_by_cmp term_cmp q e.0) (Some (whole_score e.1))) (find-weights q es)
-    ∙ (elim (eq_by_cmp term_cmp q e.0) as (λ b. cond b (Some (whole_score e.1)) (option_map whole_score (lookup (is_at (term_cmp q)) es)) ≡ option_map whole_score (cond b (Some e.1) (lookup (is_at (term_cmp q)) es))) [ true ↦ refl | false ↦ refl ])
+    ∙ (elim (eq_by_cmp term_cmp q e.0) as (λ b. cond b (Some (whole_score e.1)) (option_map whole_score (lookup (is_at (term_cmp q)) es))
+    ≡ option_map whole_score (cond b (Some e.1) (lookup (is_at (term_cmp q)) es))) [ true ↦ refl | false ↦ refl ])
 
 pub get-given : (w : WordWeights) (q : TermKey) → get (given w) q ≡ option_map whole_score (tree.get term_cmp w.weights q)
 get-given w q = get-from_entries term_cmp_total (map weight_pair w.weights.entries) q ∙ find-weights q w.weights.entries

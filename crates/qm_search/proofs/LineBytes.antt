@@ -1,5 +1,7 @@
 -- The first line of some bytes, and what stands after it.
-use Rattle.std.proofs.Common.{◌≡◌, ℕ, ◌+◌, ◌-◌, ◌<◌, ◌≤◌, Bool, true, false, cond, List, [], ◌∷◌, ◌++◌, length, get_or, take, drop, Some, None, Option, IfSome, refl, ap, sym, ◌∙◌, subst, append_assoc, append-nil, arith, rules, tests, ◌||◌, ◌&&◌, ◌==◌, suc, position, length-append, nat_lt, add-one, slice_range, if◌then◌else◌}
+use Rattle.std.proofs.Common.{◌≡◌, ℕ, ◌+◌, ◌-◌, ◌<◌, ◌≤◌, Bool, true, false, cond, List, [], ◌∷◌, ◌++◌, length, get_or, take, drop, Some, None, Option, IfSome}
+use Rattle.std.proofs.Common.{refl, ap, sym, ◌∙◌, subst, append_assoc, append-nil, arith, rules, tests, ◌||◌, ◌&&◌, ◌==◌, suc, position, length-append, nat_lt}
+use Rattle.std.proofs.Common.{add-one, slice_range, if◌then◌else◌}
 use Rattle.std.specs.List.{position_or_len}
 use Rattle.std.specs.Io.KnownBytes.{prepend_known}
 use Rattle.std.specs.Io.BufRead.{take_through, drop_through, ends_with_byte, strip_last, first_line}
@@ -72,7 +74,8 @@ ends_with_byte-none (x ∷ xs) none = go (get_or (x ∷ xs) (length (x ∷ xs) -
 strip_last-break : (xs : List ℕ) → strip_last 10 (xs ++ 10 ∷ []) ≡ xs
 strip_last-break xs =
     let at_end : length (xs ++ 10 ∷ []) - 1 ≡ length xs = omega (arith, length-append xs (10 ∷ [])) in
-    ap (λ b. cond b (take (length (xs ++ 10 ∷ []) - 1) (xs ++ 10 ∷ [])) (xs ++ 10 ∷ [])) (ends_with_byte-break xs) ∙ ap (λ n. take n (xs ++ 10 ∷ [])) at_end ∙ take-append_seam xs (10 ∷ [])
+    ap (λ b. cond b (take (length (xs ++ 10 ∷ []) - 1) (xs ++ 10 ∷ [])) (xs ++ 10 ∷ [])) (ends_with_byte-break xs)
+    ∙ ap (λ n. take n (xs ++ 10 ∷ [])) at_end ∙ take-append_seam xs (10 ∷ [])
 
 -- the first line, by the bytes through the first break
 abbrev line_of : List ℕ → List ℕ
@@ -80,19 +83,23 @@ line_of through = cond (ends_with_byte 10 through) (strip_last 13 (strip_last 10
 
 pub first_line-break : (xs ys : List ℕ) → has_break xs ≡ false → first_line (xs ++ (10 ∷ ys)) ≡ strip_last 13 xs
 first_line-break xs ys none =
-    ap line_of (take_through-break xs ys none) ∙ ap (λ b. cond b (strip_last 13 (strip_last 10 (xs ++ 10 ∷ []))) (strip_last 10 (xs ++ 10 ∷ []))) (ends_with_byte-break xs) ∙ ap (strip_last 13) (strip_last-break xs)
+    ap line_of (take_through-break xs ys none) ∙ ap (λ b. cond b (strip_last 13 (strip_last 10 (xs ++ 10 ∷ []))) (strip_last 10 (xs ++ 10 ∷ [])))
+    (ends_with_byte-break xs) ∙ ap (strip_last 13) (strip_last-break xs)
 
 pub first_line-none : (xs : List ℕ) → has_break xs ≡ false → first_line xs ≡ xs
 first_line-none xs none =
-    ap line_of (take_through-none xs none) ∙ ap (λ b. cond b (strip_last 13 (strip_last 10 xs)) (strip_last 10 xs)) (ends_with_byte-none xs none) ∙ ap (λ b. cond b (take (length xs - 1) xs) xs) (ends_with_byte-none xs none)
+    ap line_of (take_through-none xs none) ∙ ap (λ b. cond b (strip_last 13 (strip_last 10 xs)) (strip_last 10 xs)) (ends_with_byte-none xs none)
+    ∙ ap (λ b. cond b (take (length xs - 1) xs) xs) (ends_with_byte-none xs none)
 
 -- where the first break stands
-pub position-break : (xs : List ℕ) (i : ℕ) → position (λ b. b == 10) xs ≡ Some i → (i < length xs) × (xs ≡ take i xs ++ (10 ∷ drop (i + 1) xs)) × (has_break (take i xs) ≡ false)
+pub position-break : (xs : List ℕ) (i : ℕ) → position (λ b. b == 10) xs ≡ Some i →
+    (i < length xs) × (xs ≡ take i xs ++ (10 ∷ drop (i + 1) xs)) × (has_break (take i xs) ≡ false)
 position-break xs i is =
     let found = position-Some (λ b. b == 10) xs i 0 is in
     let here : get_or xs i 0 ≡ 10 = eqb-true (get_or xs i 0) 10 found.1 in (
       found.0,
-      sym (take-append-drop i xs) ∙ ap (λ r. take i xs ++ r) (drop-cons xs i 0 found.0 ∙ ap (λ x. x ∷ drop (suc i) xs) here ∙ ap (λ n. 10 ∷ drop n xs) (sym (add-one i))),
+      sym (take-append-drop i xs)
+          ∙ ap (λ r. take i xs ++ r) (drop-cons xs i 0 found.0 ∙ ap (λ x. x ∷ drop (suc i) xs) here ∙ ap (λ n. 10 ∷ drop n xs) (sym (add-one i))),
       list_any_none (λ b. b == 10) (take i xs) (λ k d within.
           let before : k < i = omega (arith, length-take i xs) in
           ap (λ x. x == 10) (get_or-take i xs k d before) ∙ (position-Some (λ b. b == 10) xs i d is).2 k before),
@@ -123,7 +130,8 @@ pending_of ended unread known = if ended then Some [] else prepend_known unread 
 abbrev pub IsCarried : List ℕ → Option (List ℕ) → List ℕ → Type 0
 IsCarried line now bytes = (rest : List ℕ) × (now ≡ Some rest) × (bytes ≡ line ++ rest)
 
-pub carried-on : (first now next : Option (List ℕ)) (line : List ℕ) → IfSome first (IsCarried line now) → IfSome now (λ bytes. next ≡ Some bytes) → IfSome first (IsCarried line next)
+pub carried-on : (first now next : Option (List ℕ)) (line : List ℕ) → IfSome first (IsCarried line now) →
+    IfSome now (λ bytes. next ≡ Some bytes) → IfSome first (IsCarried line next)
 carried-on first now next line carried same =
     IfSome_then first carried (λ bytes c. (c.0, let P : Option (List ℕ) → Type 0 = λ o. IfSome o (λ b. next ≡ Some b) in subst P c.1 same, c.2))
 
@@ -137,14 +145,17 @@ carried-end first line unbroken carried =
     let whole : bytes ≡ line = c.2 ∙ ap (λ r. line ++ r) none ∙ append-nil line in
     (sym (ap first_line whole ∙ first_line-none line unbroken), ap (λ b. Some b) (sym (ap (drop_through 10) whole ∙ drop_through-none line unbroken))))
 
-known_rest : (unread rest : List ℕ) (known : Option (List ℕ)) → prepend_known unread known ≡ Some rest → (more : List ℕ) × (known ≡ Some more) × (rest ≡ unread ++ more)
+known_rest : (unread rest : List ℕ) (known : Option (List ℕ)) → prepend_known unread known ≡ Some rest →
+    (more : List ℕ) × (known ≡ Some more) × (rest ≡ unread ++ more)
 known_rest unread rest None is = absurd cc
 known_rest unread rest (Some more) is = (more, refl, cc)
 
 abbrev pub IsLine : List ℕ → Option (List ℕ) → List ℕ → Type 0
 IsLine line next bytes = (0 < length bytes) × (strip_last 13 line ≡ first_line bytes) × (next ≡ Some (drop_through 10 bytes))
 
-pub carried-break : (first : Option (List ℕ)) (ended : Bool) (known : Option (List ℕ)) (line before piece after : List ℕ) → (ended ≡ true → before ≡ []) → has_break line ≡ false → before ≡ piece ++ (10 ∷ after) → has_break piece ≡ false → IfSome first (IsCarried line (pending_of ended before known)) → IfSome first (IsLine (line ++ piece) (pending_of ended after known))
+pub carried-break : (first : Option (List ℕ)) (ended : Bool) (known : Option (List ℕ)) (line before piece after : List ℕ) →
+    (ended ≡ true → before ≡ []) → has_break line ≡ false → before ≡ piece ++ (10 ∷ after) → has_break piece ≡ false →
+    IfSome first (IsCarried line (pending_of ended before known)) → IfSome first (IsLine (line ++ piece) (pending_of ended after known))
 carried-break first true known line before piece after empty unbroken is_piece whole carried =
     let none : piece ++ (10 ∷ after) ≡ [] = sym is_piece ∙ empty refl in
     absurd (omega (arith, ap length none, length-append piece (10 ∷ after)))
@@ -152,10 +163,16 @@ carried-break first false known line before piece after empty unbroken is_piece 
     IfSome_then first carried (λ bytes c.
     let more = known_rest before c.0 known c.1 in
     let none = has_break-append line piece unbroken whole in
-    let all : bytes ≡ (line ++ piece) ++ (10 ∷ (after ++ more.0)) = c.2 ∙ ap (λ r. line ++ r) (more.2 ∙ ap (λ u. u ++ more.0) is_piece ∙ append_assoc piece (10 ∷ after) more.0) ∙ sym (append_assoc line piece (10 ∷ (after ++ more.0))) in
-    (omega (arith, ap length all, length-append (line ++ piece) (10 ∷ (after ++ more.0))), sym (ap first_line all ∙ first_line-break (line ++ piece) (after ++ more.0) none), ap (prepend_known after) more.1 ∙ ap (λ b. Some b) (sym (ap (drop_through 10) all ∙ drop_through-break (line ++ piece) (after ++ more.0) none))))
+    let all : bytes ≡ (line ++ piece) ++ (10 ∷ (after ++ more.0)) = c.2 ∙ ap (λ r. line ++ r)
+    (more.2 ∙ ap (λ u. u ++ more.0) is_piece ∙ append_assoc piece (10 ∷ after) more.0) ∙ sym (append_assoc line piece (10 ∷ (after ++ more.0))) in (
+      omega (arith, ap length all, length-append (line ++ piece) (10 ∷ (after ++ more.0))),
+      sym (ap first_line all ∙ first_line-break (line ++ piece) (after ++ more.0) none),
+      ap (prepend_known after) more.1
+          ∙ ap (λ b. Some b) (sym (ap (drop_through 10) all ∙ drop_through-break (line ++ piece) (after ++ more.0) none)),
+    ))
 
-pub carried-none : (first : Option (List ℕ)) (ended : Bool) (known : Option (List ℕ)) (line before : List ℕ) → (ended ≡ true → before ≡ []) → IfSome first (IsCarried line (pending_of ended before known)) → IfSome first (IsCarried (line ++ before) (pending_of ended [] known))
+pub carried-none : (first : Option (List ℕ)) (ended : Bool) (known : Option (List ℕ)) (line before : List ℕ) → (ended ≡ true → before ≡ []) →
+    IfSome first (IsCarried line (pending_of ended before known)) → IfSome first (IsCarried (line ++ before) (pending_of ended [] known))
 carried-none first true known line before empty carried =
     IfSome_then first carried (λ bytes c. (c.0, c.1, c.2 ∙ ap (λ l. l ++ c.0) (sym (ap (λ b. line ++ b) (empty refl) ∙ append-nil line))))
 carried-none first false known line before empty carried =

@@ -1,5 +1,6 @@
 -- What a line spells is read back from it.
-use Rattle.std.proofs.Common.{◌≡◌, ◌<◌, ◌≤◌, ◌^◌, ◌==◌, ◌||◌, Bool, true, false, cond, ℕ, zero, suc, ℤ, pos, negsuc, List, [], ◌∷◌, ◌++◌, Some, length, refl, ap, sym, subst, ◌∙◌, append-nil, arith, option_map}
+use Rattle.std.proofs.Common.{◌≡◌, ◌<◌, ◌≤◌, ◌^◌, ◌==◌, ◌||◌, Bool, true, false, cond, ℕ, zero, suc, ℤ, pos, negsuc, List, [], ◌∷◌, ◌++◌, Some, length, refl}
+use Rattle.std.proofs.Common.{ap, sym, subst, ◌∙◌, append-nil, arith, option_map}
 use Rattle.std.proofs.lemmas.Bool.{ne_eqb}
 use Rattle.std.proofs.lemmas.Fmt.{decimal_is_IsNumeral}
 use Rattle.std.proofs.lemmas.List.Splits.{slice_split_at, slice_split_none}
@@ -9,8 +10,13 @@ use Rattle.std.specs.List.{All, AllByRecursion, flat_map, join_with_byte, slice_
 use Rattle.std.specs.Str.Parse.{AllDigits}
 use Rattle.qm_schema.specs.declared.occur.Occur.{Occur}
 use Rattle.qm_schema.specs.declared.occur.Occur.TheVariants.{Should, Must, MustNot}
-use Rattle.qm_search.specs.Script.{Clauses, Queries, Query, Request, add_document, all, behind_line_form, boolean, boost, clause, constant, count_matches, cut_at_tabs, delete_at, delete_document, disjunction_max, document_at, end_segment, line_form_named, line_request, line_words, list_above, list_documents, list_scores, no_clause, no_query, non_empty, none, nothing, phrase, phrase_prefix, prune_at, query, query_at, score_at, set_weight, term, threshold_at, weight_at, whole_query, words_request}
-use Rattle.qm_search.specs.Spelling.{AreLineWords, CanBeAsked, CanBeSpelled, ClausesCanBeSpelled, IsAskable, IsCount, IsDocumentNumber, IsLineWord, IsScore, IsThreshold, QueriesCanBeSpelled, clause_count, line_text, query_count, request_words, sign, spelled, spelled_clauses, spelled_queries}
+use Rattle.qm_search.specs.Script.{Clauses, Queries, Query, Request, add_document, all, behind_line_form, boolean, boost, clause, constant, count_matches}
+use Rattle.qm_search.specs.Script.{cut_at_tabs, delete_at, delete_document, disjunction_max, document_at, end_segment, line_form_named, line_request}
+use Rattle.qm_search.specs.Script.{line_words, list_above, list_documents, list_scores, no_clause, no_query, non_empty, none, nothing, phrase, phrase_prefix}
+use Rattle.qm_search.specs.Script.{prune_at, query, query_at, score_at, set_weight, term, threshold_at, weight_at, whole_query, words_request}
+use Rattle.qm_search.specs.Spelling.{AreLineWords, CanBeAsked, CanBeSpelled, ClausesCanBeSpelled, IsAskable, IsCount, IsDocumentNumber, IsLineWord, IsScore}
+use Rattle.qm_search.specs.Spelling.{IsThreshold, QueriesCanBeSpelled, clause_count, line_text, query_count, request_words, sign, spelled, spelled_clauses}
+use Rattle.qm_search.specs.Spelling.{spelled_queries}
 use Rattle.qm_search.specs.ProgramNumbers.{most_depth}
 use Rattle.qm_search.proofs.ReadBack.{document-read, query-read, read-then, score-read, threshold-read}
 use Rattle.qm_search.proofs.WordLemmas.{non_empty-cons}
@@ -34,7 +40,8 @@ no-tab [] h k d within = absurd (omega arith)
 no-tab (b ∷ word) h zero d within = (either-false (b == 32) (b == 9) h.0).1
 no-tab (b ∷ word) h (suc k) d within = no-tab word h.1 k d (omega arith)
 
-cut-joined : (word : List ℕ) (words : List (List ℕ)) → AreLineWords (word ∷ words) → slice_split (λ b. b == 32) (join_with_byte 32 (word ∷ words)) ≡ word ∷ words
+cut-joined : (word : List ℕ) (words : List (List ℕ)) → AreLineWords (word ∷ words) →
+    slice_split (λ b. b == 32) (join_with_byte 32 (word ∷ words)) ≡ word ∷ words
 cut-joined word [] h = slice_split_none (λ b. b == 32) word (no-space word h.0.no_blank)
 cut-joined word (next ∷ words) h =
     slice_split_at (λ b. b == 32) word 32 (join_with_byte 32 (next ∷ words)) (no-space word h.0.no_blank) refl
@@ -92,20 +99,31 @@ mutual
   query-words all h = (record { some = omega arith; no_blank = (refl, (refl, (refl, tt))) }, tt)
   query-words none h = (record { some = omega arith; no_blank = (refl, (refl, (refl, (refl, tt)))) }, tt)
   query-words (term word) h = (record { some = omega arith; no_blank = (refl, (refl, (refl, (refl, tt)))) }, (h, tt))
-  query-words (phrase slop words) h =
-      (record { some = omega arith; no_blank = (refl, (refl, (refl, (refl, (refl, (refl, tt)))))) }, (count-word slop h.0, (count-word (length words) h.1, h.2)))
-  query-words (phrase_prefix most words) h =
-      (record { some = omega arith; no_blank = (refl, (refl, (refl, (refl, (refl, (refl, tt)))))) }, (count-word most h.0, (count-word (length words) h.1, h.2)))
-  query-words (boolean minimum clauses) h =
-      (record { some = omega arith; no_blank = (refl, (refl, (refl, (refl, tt)))) }, (count-word minimum h.0, (count-word (clause_count clauses) h.1, clauses-words clauses h.2)))
-  query-words (boost factor q) h = (record { some = omega arith; no_blank = (refl, (refl, (refl, (refl, (refl, tt))))) }, (score-word factor h.0, query-words q h.1))
-  query-words (constant score q) h = (record { some = omega arith; no_blank = (refl, (refl, (refl, (refl, (refl, tt))))) }, (score-word score h.0, query-words q h.1))
-  query-words (disjunction_max tie_breaker queries) h =
-      (record { some = omega arith; no_blank = (refl, (refl, (refl, tt))) }, (count-word tie_breaker h.0, (count-word (query_count queries) h.1, queries-words queries h.2)))
+  query-words (phrase slop words) h = (
+    record { some = omega arith; no_blank = (refl, (refl, (refl, (refl, (refl, (refl, tt)))))) },
+    (count-word slop h.0, (count-word (length words) h.1, h.2)),
+  )
+  query-words (phrase_prefix most words) h = (
+    record { some = omega arith; no_blank = (refl, (refl, (refl, (refl, (refl, (refl, tt)))))) },
+    (count-word most h.0, (count-word (length words) h.1, h.2)),
+  )
+  query-words (boolean minimum clauses) h = (
+    record { some = omega arith; no_blank = (refl, (refl, (refl, (refl, tt)))) },
+    (count-word minimum h.0, (count-word (clause_count clauses) h.1, clauses-words clauses h.2)),
+  )
+  query-words (boost factor q) h =
+      (record { some = omega arith; no_blank = (refl, (refl, (refl, (refl, (refl, tt))))) }, (score-word factor h.0, query-words q h.1))
+  query-words (constant score q) h =
+      (record { some = omega arith; no_blank = (refl, (refl, (refl, (refl, (refl, tt))))) }, (score-word score h.0, query-words q h.1))
+  query-words (disjunction_max tie_breaker queries) h = (
+    record { some = omega arith; no_blank = (refl, (refl, (refl, tt))) },
+    (count-word tie_breaker h.0, (count-word (query_count queries) h.1, queries-words queries h.2)),
+  )
 
   clauses-words : (clauses : Clauses) → ClausesCanBeSpelled clauses → AreLineWords (spelled_clauses clauses)
   clauses-words no_clause h = tt
-  clauses-words (clause occur q clauses) h = (sign-word occur, words-append (spelled q) (spelled_clauses clauses) (query-words q h.0) (clauses-words clauses h.1))
+  clauses-words (clause occur q clauses) h =
+      (sign-word occur, words-append (spelled q) (spelled_clauses clauses) (query-words q h.0) (clauses-words clauses h.1))
 
   queries-words : (queries : Queries) → QueriesCanBeSpelled queries → AreLineWords (spelled_queries queries)
   queries-words no_query h = tt
@@ -117,17 +135,20 @@ askable-words (add_document words) h = (record { some = omega arith; no_blank = 
 askable-words (set_weight word weight) h =
     (record { some = omega arith; no_blank = (refl, (refl, (refl, (refl, (refl, (refl, tt)))))) }, (h.0, (score-word weight h.1, tt)))
 askable-words end_segment h = (record { some = omega arith; no_blank = (refl, (refl, (refl, (refl, (refl, (refl, (refl, tt))))))) }, tt)
-askable-words (delete_document number) h = (record { some = omega arith; no_blank = (refl, (refl, (refl, (refl, (refl, (refl, tt)))))) }, (number-word number h, tt))
+askable-words (delete_document number) h =
+    (record { some = omega arith; no_blank = (refl, (refl, (refl, (refl, (refl, (refl, tt)))))) }, (number-word number h, tt))
 askable-words (list_documents q) h = (record { some = omega arith; no_blank = (refl, (refl, (refl, (refl, tt)))) }, query-words q h.1)
 askable-words (list_scores q) h = (record { some = omega arith; no_blank = (refl, (refl, (refl, (refl, (refl, (refl, tt)))))) }, query-words q h.1)
 askable-words (count_matches q) h = (record { some = omega arith; no_blank = (refl, (refl, (refl, (refl, (refl, tt))))) }, query-words q h.1)
-askable-words (list_above threshold q) h = (record { some = omega arith; no_blank = (refl, (refl, (refl, (refl, (refl, tt))))) }, (threshold-word threshold h.0, query-words q h.1.1))
+askable-words (list_above threshold q) h =
+    (record { some = omega arith; no_blank = (refl, (refl, (refl, (refl, (refl, tt))))) }, (threshold-word threshold h.0, query-words q h.1.1))
 
 -- ---- what the words ask for
 
 whole-read : (q : Query) → CanBeAsked q → whole_query (spelled q) ≡ Some q
 unfolding whole_query
-whole-read q h = read-then (query_at most_depth (spelled q)) (q, []) _ _ (ap (query_at most_depth) (sym (append-nil (spelled q))) ∙ query-read q most_depth [] h.0 h.1) refl
+whole-read q h =
+    read-then (query_at most_depth (spelled q)) (q, []) _ _ (ap (query_at most_depth) (sym (append-nil (spelled q))) ∙ query-read q most_depth [] h.0 h.1) refl
 
 weight-read : (word : List ℕ) (weight : ℤ) → IsScore weight → weight_at (word ∷ signed_decimal weight ∷ []) ≡ Some (set_weight word weight)
 unfolding weight_at
@@ -137,7 +158,8 @@ delete-read : (number : ℕ) → IsDocumentNumber number → delete_at (decimal 
 unfolding delete_at
 delete-read number h = read-then (document_at (decimal number ∷ [])) (number, []) _ _ (document-read number [] h) refl
 
-prune-read : (threshold : ℤ) (q : Query) → IsThreshold threshold → CanBeAsked q → prune_at (signed_decimal threshold ∷ spelled q) ≡ Some (list_above threshold q)
+prune-read : (threshold : ℤ) (q : Query) → IsThreshold threshold → CanBeAsked q →
+    prune_at (signed_decimal threshold ∷ spelled q) ≡ Some (list_above threshold q)
 unfolding prune_at
 prune-read threshold q in_range h =
     read-then (threshold_at (signed_decimal threshold ∷ spelled q)) (threshold, spelled q) _ _ (threshold-read threshold (spelled q) in_range)

@@ -17,10 +17,13 @@ pair_item p = (p.0, Some p.1)
 abbrev entry_pair : Entry → ℕ × ℤ
 entry_pair e = (e.document, pos e.score)
 
-pub documents-listed : (tree : Tree) (first : ℕ) (s : Segment) (found : List ℕ) → found ≡ matching tree s → numbered first (map plain_item found) ≡ listed false tree first s
-documents-listed tree first s found is = ap (λ ds. numbered first (map plain_item ds)) is ∙ map-map (λ (i : ℕ × Option ℤ). (first + i.0, i.1)) plain_item (matching tree s)
+pub documents-listed : (tree : Tree) (first : ℕ) (s : Segment) (found : List ℕ) →
+    found ≡ matching tree s → numbered first (map plain_item found) ≡ listed false tree first s
+documents-listed tree first s found is = ap (λ ds. numbered first (map plain_item ds)) is
+    ∙ map-map (λ (i : ℕ × Option ℤ). (first + i.0, i.1)) plain_item (matching tree s)
 
-pub scores-listed : (tree : Tree) (first : ℕ) (s : Segment) (found : List (ℕ × ℤ)) (es : List Entry) → found ≡ map (λ e. (e.document, pos e.score)) es → es ≡ list tree 1 s → numbered first (map pair_item found) ≡ listed true tree first s
+pub scores-listed : (tree : Tree) (first : ℕ) (s : Segment) (found : List (ℕ × ℤ)) (es : List Entry) →
+    found ≡ map (λ e. (e.document, pos e.score)) es → es ≡ list tree 1 s → numbered first (map pair_item found) ≡ listed true tree first s
 scores-listed tree first s found es is lists =
     ap (λ ps. numbered first (map pair_item ps)) (is ∙ ap (map entry_pair) lists ∙ map-map entry_pair (λ d. scored d (score tree 1 s d)) (matching tree s))
     ∙ ap (numbered first) (map-map pair_item (λ d. let p : ℕ × ℤ = (d, pos (score tree 1 s d)) in p) (matching tree s))

@@ -11,20 +11,24 @@ map-kept f true d ds = refl
 map-kept f false d ds = refl
 
 -- the same of two tests and two functions that agree within the range
-pub map-filter-range : {Y : Type 0} (p q : ℕ → Bool) (f g : ℕ → Y) (a n : ℕ) → ((d : ℕ) → a ≤ d → d < a + n → p d ≡ q d) → ((d : ℕ) → a ≤ d → d < a + n → p d ≡ true → f d ≡ g d) → map f (filter p (range_with_len a n)) ≡ map g (filter q (range_with_len a n))
+pub map-filter-range : {Y : Type 0} (p q : ℕ → Bool) (f g : ℕ → Y) (a n : ℕ) → ((d : ℕ) → a ≤ d → d < a + n → p d ≡ q d) →
+    ((d : ℕ) → a ≤ d → d < a + n → p d ≡ true → f d ≡ g d) → map f (filter p (range_with_len a n)) ≡ map g (filter q (range_with_len a n))
 map-filter-range p q f g a zero same agree = refl
 map-filter-range p q f g a (suc n) same agree =
-    let rest = map-filter-range p q f g (a + 1) n (λ d low high. same d (omega arith) (omega arith)) (λ d low high passes. agree d (omega arith) (omega arith) passes) in
+    let rest = map-filter-range p q f g (a + 1) n (λ d low high. same d (omega arith) (omega arith))
+    (λ d low high passes. agree d (omega arith) (omega arith) passes) in
     let here : p a ≡ q a = same a (omega arith) (omega arith) in
     map-kept f (p a) a (filter p (range_with_len (a + 1) n))
-    ∙ kept-same (p a) (q a) (f a) (g a) (map f (filter p (range_with_len (a + 1) n))) (map g (filter q (range_with_len (a + 1) n))) here (agree a (omega arith) (omega arith)) rest
+    ∙ kept-same (p a) (q a) (f a) (g a) (map f (filter p (range_with_len (a + 1) n)))
+    (map g (filter q (range_with_len (a + 1) n))) here (agree a (omega arith) (omega arith)) rest
     ∙ sym (map-kept g (q a) a (filter q (range_with_len (a + 1) n)))
 
 next : (a d : ℕ) → a + 1 + d ≡ a + (d + 1)
 next a d = omega arith
 
 -- the same of two ranges, on which tests and functions agree place by place
-pub map-filter-shifted : {Y : Type 0} (p q : ℕ → Bool) (f g : ℕ → Y) (a b n : ℕ) → ((d : ℕ) → d < n → p (a + d) ≡ q (b + d)) → ((d : ℕ) → d < n → f (a + d) ≡ g (b + d)) → map f (filter p (range_with_len a n)) ≡ map g (filter q (range_with_len b n))
+pub map-filter-shifted : {Y : Type 0} (p q : ℕ → Bool) (f g : ℕ → Y) (a b n : ℕ) → ((d : ℕ) → d < n → p (a + d) ≡ q (b + d)) →
+    ((d : ℕ) → d < n → f (a + d) ≡ g (b + d)) → map f (filter p (range_with_len a n)) ≡ map g (filter q (range_with_len b n))
 map-filter-shifted p q f g a b zero same agree = refl
 map-filter-shifted p q f g a b (suc n) same agree =
     let rest = map-filter-shifted p q f g (a + 1) (b + 1) n

@@ -1,5 +1,6 @@
 -- A run of a script that is under way.
-use Rattle.std.proofs.Common.{◌≡◌, ◌↔◌, ℕ, ◌<◌, suc, max, true, false, List, [], ◌∷◌, ◌++◌, length, Option, None, Some, IfSome, refl, ap, sym, subst, ◌∙◌, append_assoc, append-nil, arith}
+use Rattle.std.proofs.Common.{◌≡◌, ◌↔◌, ℕ, ◌<◌, suc, max, true, false, List, [], ◌∷◌, ◌++◌, length, Option, None, Some, IfSome, refl, ap, sym, subst, ◌∙◌}
+use Rattle.std.proofs.Common.{append_assoc, append-nil, arith}
 use Rattle.std.proofs.lemmas.Bool.{false≢true}
 use Rattle.std.specs.Io.BufRead.{drop_through, first_line}
 use Rattle.std.specs.Io.KnownBytes.{Appends, Keeps}
@@ -49,7 +50,8 @@ both-first x y z = λ i. output (sym (append_assoc x.text y.text z.text) i) (max
 
 -- A run of these bytes that has come to a line of this number: what is written so far, what is still to
 -- come, and that the answers to what is to come make all of it answered.
-pub record IsUnderWay (start : State) (bytes : List ℕ) (now : State) (number : ℕ) (known : Option (List ℕ)) (status : ℕ) (old new : Option (List ℕ)) : Type 0 where
+pub record IsUnderWay (start : State) (bytes : List ℕ) (now : State) (number : ℕ)
+    (known : Option (List ℕ)) (status : ℕ) (old new : Option (List ℕ)) : Type 0 where
   pub left : List ℕ
   pub text : List ℕ
   pub to_come : known ≡ Some left
@@ -66,11 +68,13 @@ begun-known start bytes known old is =
       answered = λ rest h. subst (AnswersLines start 1 (script_lines bytes)) (sym (none-both rest)) h;
     }
 
-pub run-begun : (start : State) (lines : Lines) (bytes : Option (List ℕ)) (old : Option (List ℕ)) → ((b : List ℕ) → pending lines (Some b) ≡ Some b) → IfSome bytes (λ b. IsUnderWay start b start 1 (pending lines bytes) 0 old old)
+pub run-begun : (start : State) (lines : Lines) (bytes : Option (List ℕ)) (old : Option (List ℕ)) →
+    ((b : List ℕ) → pending lines (Some b) ≡ Some b) → IfSome bytes (λ b. IsUnderWay start b start 1 (pending lines bytes) 0 old old)
 run-begun start lines None old all = tt
 run-begun start lines (Some b) old all = begun-known start b (pending lines (Some b)) old (all b)
 
-pub run-kept : {start now : State} {bytes : List ℕ} {number status : ℕ} {known old : Option (List ℕ)} (new newer : Option (List ℕ)) → Keeps new newer → IsUnderWay start bytes now number known status old new → IsUnderWay start bytes now number known status old newer
+pub run-kept : {start now : State} {bytes : List ℕ} {number status : ℕ} {known old : Option (List ℕ)} (new newer : Option (List ℕ)) →
+    Keeps new newer → IsUnderWay start bytes now number known status old new → IsUnderWay start bytes now number known status old newer
 run-kept {old = old} new newer kept w =
     record {
       left = w.left;
@@ -88,14 +92,19 @@ none_left : (left : List ℕ) → false ≡ true ↔ (0 < length left) → left 
 none_left [] h = refl
 none_left (b ∷ left) h = absurd (false≢true (h.1 (omega arith)))
 
-pub run-ended : {now : State} {bytes : List ℕ} {number status : ℕ} {known old new : Option (List ℕ)} → IfSome known (λ b. (false ≡ true) ↔ (0 < length b)) → IsUnderWay start_state bytes now number known status old new → IsRun bytes status old new
+pub run-ended : {now : State} {bytes : List ℕ} {number status : ℕ} {known old new : Option (List ℕ)} →
+    IfSome known (λ b. (false ≡ true) ↔ (0 < length b)) → IsUnderWay start_state bytes now number known status old new → IsRun bytes status old new
 run-ended {now = now} {bytes = bytes} {number = number} {status = status} {known = known} ended w =
     let none : w.left ≡ [] = none_left w.left (of_known (λ b. (false ≡ true) ↔ (0 < length b)) known w.left w.to_come ended) in
     let all = w.answered (output [] 0) (subst (λ l. AnswersLines now number (script_lines l) (output [] 0)) (sym none) refl) in
     (w.text, subst (AnswersLines start_state 1 (script_lines bytes)) (both-none (output w.text status)) all, w.written)
 
-pub run-more : {start now then : State} {bytes line text : List ℕ} {number next status made worse : ℕ} {known behind old new newer : Option (List ℕ)} → next ≡ suc number → worse ≡ max status made → IfSome known (λ b. (true ≡ true) ↔ (0 < length b)) → IfSome known (λ b. line ≡ first_line b) → IfSome known (λ b. behind ≡ Some (drop_through 10 b)) → AnswersLine now number line (output text made) then → Appends new newer text → IsUnderWay start bytes now number known status old new → IsUnderWay start bytes then next behind worse old newer
-run-more {start = start} {now = now} {then = then} {bytes = bytes} {line = line} {text = text} {number = number} {next = next} {status = status} {made = made} {worse = worse} {known = known} {behind = behind} {old = old} {new = new} {newer = newer} follows worst some first rest answered appended w =
+pub run-more : {start now then : State} {bytes line text : List ℕ} {number next status made worse : ℕ} {known behind old new newer : Option (List ℕ)} →
+    next ≡ suc number → worse ≡ max status made → IfSome known (λ b. (true ≡ true) ↔ (0 < length b)) → IfSome known (λ b. line ≡ first_line b) →
+    IfSome known (λ b. behind ≡ Some (drop_through 10 b)) → AnswersLine now number line (output text made) then → Appends new newer text →
+    IsUnderWay start bytes now number known status old new → IsUnderWay start bytes then next behind worse old newer
+run-more {start = start} {now = now} {then = then} {bytes = bytes} {line = line} {text = text} {number = number} {next = next} {status = status} {made = made}
+    {worse = worse} {known = known} {behind = behind} {old = old} {new = new} {newer = newer} follows worst some first rest answered appended w =
     let left = w.left in
     let out = output text made in
     let lines_left : List (List ℕ) = script_lines (drop_through 10 left) in
@@ -111,5 +120,6 @@ run-more {start = start} {now = now} {then = then} {bytes = bytes} {line = line}
           let later = subst (λ n. AnswersLines then n lines_left more) follows h in
           let from_here : AnswersLines now number (line ∷ lines_left) (both out more) = (out, then, more, answered, later, refl) in
           let all = w.answered (both out more) (subst (λ l. AnswersLines now number l (both out more)) lines from_here) in
-          subst (AnswersLines start 1 (script_lines bytes)) (both-first (output w.text status) out more ∙ ap (λ n. both (output (w.text ++ text) n) more) (sym worst)) all;
+          subst (AnswersLines start 1 (script_lines bytes))
+          (both-first (output w.text status) out more ∙ ap (λ n. both (output (w.text ++ text) n) more) (sym worst)) all;
     }

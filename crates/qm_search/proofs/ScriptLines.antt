@@ -1,5 +1,6 @@
 -- The lines of a script are the first line of its bytes, and those of the bytes behind it.
-use Rattle.std.proofs.Common.{◌≡◌, ℕ, zero, suc, ◌<◌, ◌==◌, Bool, true, false, ◌||◌, if◌then◌else◌, List, [], ◌∷◌, ◌++◌, length, refl, ap, sym, ◌∙◌, inl, inr, ◌⊎◌, arith}
+use Rattle.std.proofs.Common.{◌≡◌, ℕ, zero, suc, ◌<◌, ◌==◌, Bool, true, false, ◌||◌, if◌then◌else◌, List, [], ◌∷◌, ◌++◌, length, refl, ap, sym, ◌∙◌, inl, inr}
+use Rattle.std.proofs.Common.{◌⊎◌, arith}
 use Rattle.std.proofs.lemmas.Bool.{eqb-true, ne_eqb}
 use Rattle.std.proofs.lemmas.List.Splits.{length-slice_split, slice_split_at, slice_split_none}
 use Rattle.std.specs.Io.BufRead.{drop_through, first_line, strip_last}
@@ -26,14 +27,16 @@ none_breaks [] h k d within = absurd (omega arith)
 none_breaks (b ∷ bytes) h zero d within = (has_break-cons b bytes h).0
 none_breaks (b ∷ bytes) h (suc k) d within = none_breaks bytes (has_break-cons b bytes h).1 k d (omega arith)
 
-first_of_pieces : (piece : List ℕ) (pieces : List (List ℕ)) → 0 < length pieces → lines_of_pieces (piece ∷ pieces) ≡ strip_last 13 piece ∷ lines_of_pieces pieces
+first_of_pieces : (piece : List ℕ) (pieces : List (List ℕ)) → 0 < length pieces →
+    lines_of_pieces (piece ∷ pieces) ≡ strip_last 13 piece ∷ lines_of_pieces pieces
 first_of_pieces piece [] h = absurd (omega arith)
 first_of_pieces piece (next ∷ pieces) h = refl
 
 pub script_lines-first : (bytes : List ℕ) → 0 < length bytes → script_lines bytes ≡ first_line bytes ∷ script_lines (drop_through 10 bytes)
 script_lines-first bytes some = go (find_break bytes)
   where
-    at_break : (piece rest : List ℕ) → has_break piece ≡ false → script_lines (piece ++ (10 ∷ rest)) ≡ first_line (piece ++ (10 ∷ rest)) ∷ script_lines (drop_through 10 (piece ++ (10 ∷ rest)))
+    at_break : (piece rest : List ℕ) → has_break piece ≡ false →
+        script_lines (piece ++ (10 ∷ rest)) ≡ first_line (piece ++ (10 ∷ rest)) ∷ script_lines (drop_through 10 (piece ++ (10 ∷ rest)))
     at_break piece rest unbroken =
         ap lines_of_pieces (slice_split_at (λ b. b == 10) piece 10 rest (none_breaks piece unbroken) refl)
         ∙ first_of_pieces piece (slice_split (λ b. b == 10) rest) (omega (arith, length-slice_split (λ b. b == 10) rest))

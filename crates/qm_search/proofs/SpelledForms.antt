@@ -11,13 +11,19 @@ use Rattle.qm_search.specs.declared.spelled_query.SpelledQuery.TheOpen.{SpelledQ
 use Rattle.qm_search.specs.declared.spelled_query.SpelledQuery.TheViews.{out-SpelledQuery, roll-SpelledQuery}
 
 rolled : (q : SpelledQuery) (o : SpelledQuery-F SpelledQuery) → out-SpelledQuery q ≡ o → query_of q ≡ query_of (roll-SpelledQuery o)
-rolled q o is = subst (λ o. query_of q ≡ query_of (roll-SpelledQuery o)) is (fold_out-SpelledQuery Query layer_of q ∙ sym (fold-roll-SpelledQuery Query layer_of (out-SpelledQuery q)))
+rolled q o is = subst (λ o. query_of q ≡ query_of (roll-SpelledQuery o)) is
+    (fold_out-SpelledQuery Query layer_of q ∙ sym (fold-roll-SpelledQuery Query layer_of (out-SpelledQuery q)))
 
-pub query_of-phrase : (q : SpelledQuery) (slop : ℕ) (words : Vec (String Global) Global) → out-SpelledQuery q ≡ open_query.Phrase slop words → query_of q ≡ phrase slop (texts words.items)
+pub query_of-phrase : (q : SpelledQuery) (slop : ℕ) (words : Vec (String Global) Global) →
+    out-SpelledQuery q ≡ open_query.Phrase slop words → query_of q ≡ phrase slop (texts words.items)
 query_of-phrase q slop words is = rolled q (open_query.Phrase slop words) is ∙ fold-roll-SpelledQuery Query layer_of (open_query.Phrase slop words)
 
-pub query_of-boolean : (q : SpelledQuery) (minimum : ℕ) (clauses : Vec (Occur × SpelledQuery) Global) → out-SpelledQuery q ≡ open_query.Boolean minimum clauses → query_of q ≡ boolean minimum (clauses_of (map clause_of clauses.items))
-query_of-boolean q minimum clauses is = rolled q (open_query.Boolean minimum clauses) is ∙ fold-roll-SpelledQuery Query layer_of (open_query.Boolean minimum clauses)
+pub query_of-boolean : (q : SpelledQuery) (minimum : ℕ) (clauses : Vec (Occur × SpelledQuery) Global) →
+    out-SpelledQuery q ≡ open_query.Boolean minimum clauses → query_of q ≡ boolean minimum (clauses_of (map clause_of clauses.items))
+query_of-boolean q minimum clauses is = rolled q (open_query.Boolean minimum clauses) is
+    ∙ fold-roll-SpelledQuery Query layer_of (open_query.Boolean minimum clauses)
 
-pub query_of-disjunction_max : (q : SpelledQuery) (tie_breaker : ℕ) (disjuncts : Vec SpelledQuery Global) → out-SpelledQuery q ≡ open_query.DisjunctionMax tie_breaker disjuncts → query_of q ≡ disjunction_max tie_breaker (queries_of (map query_of disjuncts.items))
-query_of-disjunction_max q tie_breaker disjuncts is = rolled q (open_query.DisjunctionMax tie_breaker disjuncts) is ∙ fold-roll-SpelledQuery Query layer_of (open_query.DisjunctionMax tie_breaker disjuncts)
+pub query_of-disjunction_max : (q : SpelledQuery) (tie_breaker : ℕ) (disjuncts : Vec SpelledQuery Global) →
+    out-SpelledQuery q ≡ open_query.DisjunctionMax tie_breaker disjuncts → query_of q ≡ disjunction_max tie_breaker (queries_of (map query_of disjuncts.items))
+query_of-disjunction_max q tie_breaker disjuncts is = rolled q (open_query.DisjunctionMax tie_breaker disjuncts) is
+    ∙ fold-roll-SpelledQuery Query layer_of (open_query.DisjunctionMax tie_breaker disjuncts)

@@ -7,5 +7,6 @@ use Rattle.qm_search.specs.State.{state}
 use Rattle.qm_search.specs.Weights.{given}
 use Rattle.qm_search.specs.declared.corpus.Corpus.{Corpus}
 
-pub is_state : (c : Corpus) (documents : Script) (weights : FinMap term_cmp ℕ) → script c.documents ≡ documents → given c.weights ≡ weights → state c ≡ record { documents = documents; weights = weights }
+pub is_state : (c : Corpus) (documents : Script) (weights : FinMap term_cmp ℕ) → script c.documents ≡ documents →
+    given c.weights ≡ weights → state c ≡ record { documents = documents; weights = weights }
 is_state c documents weights same_documents same_weights = λ i. record { documents = same_documents i; weights = same_weights i }

@@ -1,5 +1,6 @@
 -- What a query's tree matches and scores over the parts of a segment is what it does over the segment.
-use Rattle.std.proofs.Common.{◌≡◌, ℕ, ◌+◌, ◌*◌, ◌<◌, Bool, true, false, ◌&&◌, if◌then◌else◌, List, [], ◌∷◌, ◌++◌, length, map, filter, slice_index_or, get_or, Option, None, Some, refl, ap, sym, ◌∙◌}
+use Rattle.std.proofs.Common.{◌≡◌, ℕ, ◌+◌, ◌*◌, ◌<◌, Bool, true, false, ◌&&◌, if◌then◌else◌, List, [], ◌∷◌, ◌++◌, length, map, filter, slice_index_or, get_or}
+use Rattle.std.proofs.Common.{Option, None, Some, refl, ap, sym, ◌∙◌}
 use Rattle.std.proofs.lemmas.Bool.{false≢true}
 use Rattle.std.proofs.lemmas.List.{get_or-append-add, get_or_append_left}
 use Rattle.std.specs.List.{range_with_len, sum}
@@ -9,7 +10,9 @@ use Rattle.qm_schema.specs.declared.occur.Occur.{Occur}
 use Rattle.qm_schema.specs.declared.occur.Occur.TheVariants.{Should, Must, MustNot}
 use Rattle.qm_term.specs.Bm25.{Weighing}
 use Rattle.qm_postings.specs.Segment.{Document, Segment, frequency, no_document}
-use Rattle.qm_weight.specs.Tree.{Tree, Clauses, all, none, term, phrase, phrase_prefix, boolean, boost, constant, clause, no_clause, boolean_matches, clause_matches, clause_scores, combined, field_of, full_places, list, matches, matching, occurs_as, phrase_count, Placed, prefix_score, score, weighed}
+use Rattle.qm_weight.specs.Tree.{Tree, Clauses, all, none, term, phrase, phrase_prefix, boolean, boost, constant, clause, no_clause, boolean_matches}
+use Rattle.qm_weight.specs.Tree.{clause_matches, clause_scores, combined, field_of, full_places, list, matches, matching, occurs_as, phrase_count, Placed}
+use Rattle.qm_weight.specs.Tree.{prefix_score, score, weighed}
 use Rattle.qm_search.specs.PrefixFree.{has_no_prefix, clauses_have_no_prefix}
 
 -- ---- one document decides, where there is no prefix
@@ -47,14 +50,16 @@ mutual
   matches-alone (boost k inside) s d free = matches-alone inside s d free
   matches-alone (constant k inside) s d free = matches-alone inside s d free
 
-  clause_matches-alone : (clauses : Clauses) (wanted : Occur) (s : Segment) (d : ℕ) → clauses_have_no_prefix clauses ≡ true → clause_matches clauses wanted s d ≡ clause_matches clauses wanted (alone s.schema (document_at s d)) 0
+  clause_matches-alone : (clauses : Clauses) (wanted : Occur) (s : Segment) (d : ℕ) → clauses_have_no_prefix clauses ≡ true →
+      clause_matches clauses wanted s d ≡ clause_matches clauses wanted (alone s.schema (document_at s d)) 0
   clause_matches-alone no_clause wanted s d free = refl
   clause_matches-alone (clause occur inside clauses) wanted s d free =
       let here = matches-alone inside s d (and-left (has_no_prefix inside) (clauses_have_no_prefix clauses) free) in
       let others = clause_matches-alone clauses wanted s d (and-right (has_no_prefix inside) (clauses_have_no_prefix clauses) free) in
       λ i. if occurs_as wanted occur then here i ∷ others i else others i
 
-weighed-alone : (s : Segment) (weight : Option Weighing) (b field d count : ℕ) → weighed s weight b field d count ≡ weighed (alone s.schema (document_at s d)) weight b field 0 count
+weighed-alone : (s : Segment) (weight : Option Weighing) (b field d count : ℕ) →
+    weighed s weight b field d count ≡ weighed (alone s.schema (document_at s d)) weight b field 0 count
 weighed-alone s None b field d count = refl
 weighed-alone s (Some weight) b field d count = refl
 
@@ -72,7 +77,8 @@ mutual
   score-alone (boost k inside) b s d free = score-alone inside (b * k) s d free
   score-alone (constant k inside) b s d free = refl
 
-  clause_scores-alone : (clauses : Clauses) (wanted : Occur) (b : ℕ) (s : Segment) (d : ℕ) → clauses_have_no_prefix clauses ≡ true → clause_scores clauses wanted b s d ≡ clause_scores clauses wanted b (alone s.schema (document_at s d)) 0
+  clause_scores-alone : (clauses : Clauses) (wanted : Occur) (b : ℕ) (s : Segment) (d : ℕ) → clauses_have_no_prefix clauses ≡ true →
+      clause_scores clauses wanted b s d ≡ clause_scores clauses wanted b (alone s.schema (document_at s d)) 0
   clause_scores-alone no_clause wanted b s d free = refl
   clause_scores-alone (clause occur inside clauses) wanted b s d free =
       let first = and-left (has_no_prefix inside) (clauses_have_no_prefix clauses) free in
@@ -83,7 +89,8 @@ mutual
 
 -- two segments of one schema, which have the same document here and there
 
-module _ (tree : Tree) (free : has_no_prefix tree ≡ true) (s t : Segment) (d e : ℕ) (schema : s.schema ≡ t.schema) (document : document_at s d ≡ document_at t e) where
+module _ (tree : Tree) (free : has_no_prefix tree ≡ true) (s t : Segment) (d e : ℕ)
+    (schema : s.schema ≡ t.schema) (document : document_at s d ≡ document_at t e) where
   same : alone s.schema (document_at s d) ≡ alone t.schema (document_at t e)
   same = ap (λ f. alone f (document_at s d)) schema ∙ ap (λ x. alone t.schema x) document
 
@@ -94,7 +101,8 @@ module _ (tree : Tree) (free : has_no_prefix tree ≡ true) (s t : Segment) (d e
   score-same b = score-alone tree b s d free ∙ ap (λ a. score tree b a 0) same ∙ sym (score-alone tree b t e free)
 
 -- a document of a part, and where it stands in the whole
-pub document-part : (whole part : Segment) (before after : List Document) (d : ℕ) → whole.documents ≡ before ++ (part.documents ++ after) → d < length part.documents → document_at part d ≡ document_at whole (length before + d)
+pub document-part : (whole part : Segment) (before after : List Document) (d : ℕ) → whole.documents ≡ before ++ (part.documents ++ after) →
+    d < length part.documents → document_at part d ≡ document_at whole (length before + d)
 document-part whole part before after d cut below =
     sym (get_or-append-add before (part.documents ++ after) d no_document ∙ get_or_append_left part.documents after no_document d below)
     ∙ ap (λ ds. get_or ds (length before + d) no_document) (sym cut)
@@ -121,7 +129,8 @@ mutual
   matches-plain (boost k inside) s d = matches-plain inside s d
   matches-plain (constant k inside) s d = matches-plain inside s d
 
-  clause_matches-plain : (clauses : Clauses) (wanted : Occur) (s : Segment) (d : ℕ) → clause_matches clauses wanted s d ≡ clause_matches clauses wanted (plain s) d
+  clause_matches-plain : (clauses : Clauses) (wanted : Occur) (s : Segment) (d : ℕ) →
+      clause_matches clauses wanted s d ≡ clause_matches clauses wanted (plain s) d
   clause_matches-plain no_clause wanted s d = refl
   clause_matches-plain (clause occur inside clauses) wanted s d =
       let here = matches-plain inside s d in
@@ -132,7 +141,8 @@ weighed-plain : (s : Segment) (weight : Option Weighing) (b field d count : ℕ)
 weighed-plain s None b field d count = refl
 weighed-plain s (Some weight) b field d count = refl
 
-prefix_score-plain : (s : Segment) (full : List Placed) (prefix : Placed) (weight : Option Weighing) (b d : ℕ) → prefix_score s full prefix weight b d ≡ prefix_score (plain s) full prefix weight b d
+prefix_score-plain : (s : Segment) (full : List Placed) (prefix : Placed) (weight : Option Weighing) (b d : ℕ) →
+    prefix_score s full prefix weight b d ≡ prefix_score (plain s) full prefix weight b d
 prefix_score-plain s [] prefix weight b d = refl
 prefix_score-plain s (t ∷ []) prefix None b d = refl
 prefix_score-plain s (t ∷ []) prefix (Some weight) b d = refl
@@ -152,7 +162,8 @@ mutual
   score-plain (boost k inside) b s d = score-plain inside (b * k) s d
   score-plain (constant k inside) b s d = refl
 
-  clause_scores-plain : (clauses : Clauses) (wanted : Occur) (b : ℕ) (s : Segment) (d : ℕ) → clause_scores clauses wanted b s d ≡ clause_scores clauses wanted b (plain s) d
+  clause_scores-plain : (clauses : Clauses) (wanted : Occur) (b : ℕ) (s : Segment) (d : ℕ) →
+      clause_scores clauses wanted b s d ≡ clause_scores clauses wanted b (plain s) d
   clause_scores-plain no_clause wanted b s d = refl
   clause_scores-plain (clause occur inside clauses) wanted b s d =
       let here = matches-plain inside s d in

@@ -1,5 +1,6 @@
 -- The words of a line, and of a text.
-use Rattle.std.proofs.Common.{◌≡◌, ℕ, ◌<◌, ◌==◌, Bool, true, false, not, cond, zero, suc, ◌+◌, ◌≤◌, None, map, drop, get_or, length-drop, List, [], ◌∷◌, ◌++◌, length, refl, ap, sym, ◌∙◌, subst, arith, append_assoc}
+use Rattle.std.proofs.Common.{◌≡◌, ℕ, ◌<◌, ◌==◌, Bool, true, false, not, cond, zero, suc, ◌+◌, ◌≤◌, None, map, drop, get_or, length-drop, List, [], ◌∷◌, ◌++◌}
+use Rattle.std.proofs.Common.{length, refl, ap, sym, ◌∙◌, subst, arith, append_assoc}
 use Rattle.std.proofs.lemmas.Bool.{ne_eqb}
 use Rattle.std.proofs.lemmas.List.{append-nil, drop_more, length-map, map-append}
 use Rattle.std.proofs.lemmas.List.Splits.{slice_split_at, slice_split_none}
@@ -16,7 +17,8 @@ parts-all : (P : ℕ → Type 0) (cut : ℕ → Bool) (xs : List ℕ) → AllByR
 parts-all P cut [] h = (tt, tt)
 parts-all P cut (x ∷ xs) h = onto P (cut x) x (slice_split cut xs) h.0 (parts-all P cut xs h.1)
   where
-    onto : (P : ℕ → Type 0) (b : Bool) (x : ℕ) (parts : List (List ℕ)) → P x → AllByRecursion (AllByRecursion P) parts → AllByRecursion (AllByRecursion P) (cond b ([] ∷ parts) (onto_first x parts))
+    onto : (P : ℕ → Type 0) (b : Bool) (x : ℕ) (parts : List (List ℕ)) → P x → AllByRecursion (AllByRecursion P) parts →
+        AllByRecursion (AllByRecursion P) (cond b ([] ∷ parts) (onto_first x parts))
     onto P true x parts p h = (tt, h)
     onto P false x [] p h = ((p, tt), tt)
     onto P false x (y ∷ parts) p h = ((p, h.0), h.1)
@@ -26,7 +28,8 @@ parts-lack : (cut : ℕ → Bool) (xs : List ℕ) → AllByRecursion (AllByRecur
 parts-lack cut [] = (tt, tt)
 parts-lack cut (x ∷ xs) = onto cut (cut x) x (slice_split cut xs) refl (parts-lack cut xs)
   where
-    onto : (cut : ℕ → Bool) (b : Bool) (x : ℕ) (parts : List (List ℕ)) → cut x ≡ b → AllByRecursion (AllByRecursion (λ b. cut b ≡ false)) parts → AllByRecursion (AllByRecursion (λ b. cut b ≡ false)) (cond b ([] ∷ parts) (onto_first x parts))
+    onto : (cut : ℕ → Bool) (b : Bool) (x : ℕ) (parts : List (List ℕ)) → cut x ≡ b → AllByRecursion (AllByRecursion (λ b. cut b ≡ false)) parts →
+        AllByRecursion (AllByRecursion (λ b. cut b ≡ false)) (cond b ([] ∷ parts) (onto_first x parts))
     onto cut true x parts p h = (tt, h)
     onto cut false x [] p h = ((p, tt), tt)
     onto cut false x (y ∷ parts) p h = ((p, h.0), h.1)
@@ -40,9 +43,11 @@ all-append : (P : List ℕ → Type 0) (xs ys : List (List ℕ)) → AllByRecurs
 all-append P [] ys h k = k
 all-append P (x ∷ xs) ys h k = (h.0, all-append P xs ys h.1 k)
 
-pieces-lack : (pieces : List (List ℕ)) → AllByRecursion (AllByRecursion (λ b. (b == 32) ≡ false)) pieces → AllByRecursion (AllByRecursion (λ b. (b == 32) ≡ false)) (flat_map cut_at_tabs pieces)
+pieces-lack : (pieces : List (List ℕ)) → AllByRecursion (AllByRecursion (λ b. (b == 32) ≡ false)) pieces →
+    AllByRecursion (AllByRecursion (λ b. (b == 32) ≡ false)) (flat_map cut_at_tabs pieces)
 pieces-lack [] h = tt
-pieces-lack (p ∷ pieces) h = all-append (AllByRecursion (λ b. (b == 32) ≡ false)) (cut_at_tabs p) (flat_map cut_at_tabs pieces) (parts-all (λ b. (b == 32) ≡ false) (λ b. b == 9) p h.0) (pieces-lack pieces h.1)
+pieces-lack (p ∷ pieces) h = all-append (AllByRecursion (λ b. (b == 32) ≡ false)) (cut_at_tabs p)
+    (flat_map cut_at_tabs pieces) (parts-all (λ b. (b == 32) ≡ false) (λ b. b == 9) p h.0) (pieces-lack pieces h.1)
 
 kept_if : (t : Bool) (w : List ℕ) (words : List (List ℕ)) → t ≡ false → cond (not t) (w ∷ words) words ≡ w ∷ words
 kept_if t w words h = rw h refl
@@ -62,7 +67,8 @@ non_empty-words ((b ∷ w) ∷ words) h =
     subst AreWords (sym (non_empty-cons (b ∷ w) words some)) (word, non_empty-words words h.1)
 
 pub line-words : (line : List ℕ) → AreWords (line_words line)
-line-words line = non_empty-words (flat_map cut_at_tabs (slice_split (λ b. b == 32) line)) (pieces-lack (slice_split (λ b. b == 32) line) (parts-lack (λ b. b == 32) line))
+line-words line =
+    non_empty-words (flat_map cut_at_tabs (slice_split (λ b. b == 32) line)) (pieces-lack (slice_split (λ b. b == 32) line) (parts-lack (λ b. b == 32) line))
 
 -- ---- a text without tabs
 
@@ -84,8 +90,10 @@ words-without-tabs text h = ap non_empty (uncut (slice_split (λ b. b == 32) tex
 
 -- ---- words from one on
 
-pub drop_mapped : {A B : Type 0} (bytes : A → B) (xs : List A) (i : ℕ) (x d : A) → i < length xs → x ≡ get_or xs i d → drop i (map bytes xs) ≡ bytes x ∷ drop (i + 1) (map bytes xs)
-drop_mapped bytes xs i x d below is = drop-map bytes i xs ∙ ap (map bytes) (drop_more xs i d below) ∙ (λ j. bytes (sym is j) ∷ sym (drop-map bytes (i + 1) xs) j)
+pub drop_mapped : {A B : Type 0} (bytes : A → B) (xs : List A) (i : ℕ) (x d : A) → i < length xs →
+    x ≡ get_or xs i d → drop i (map bytes xs) ≡ bytes x ∷ drop (i + 1) (map bytes xs)
+drop_mapped bytes xs i x d below is = drop-map bytes i xs ∙ ap (map bytes) (drop_more xs i d below)
+    ∙ (λ j. bytes (sym is j) ∷ sym (drop-map bytes (i + 1) xs) j)
 
 drop_past : {A : Type 0} (xs : List A) (i : ℕ) → length xs ≤ i → drop i xs ≡ []
 drop_past [] zero h = refl
@@ -97,7 +105,8 @@ pub none_left : {A B : Type 0} (bytes : A → B) (xs : List A) (i : ℕ) → len
 none_left bytes xs i past = drop-map bytes i xs ∙ ap (map bytes) (drop_past xs i past)
 
 pub not-whole : {A X : Type 0} (bytes : A → List ℕ) (xs : List A) (i : ℕ) (x : X) → i < length xs → whole (x, drop i (map bytes xs)) ≡ None
-not-whole bytes xs i x below = some-left (drop i (map bytes xs)) x (omega (arith, ap length (drop-map bytes i xs), length-map (drop i xs) bytes, length-drop i xs))
+not-whole bytes xs i x below =
+    some-left (drop i (map bytes xs)) x (omega (arith, ap length (drop-map bytes i xs), length-map (drop i xs) bytes, length-drop i xs))
   where
     some-left : {X : Type 0} (words : List (List ℕ)) (x : X) → 0 < length words → whole (x, words) ≡ None
     some-left [] x h = absurd (omega arith)
@@ -124,21 +133,26 @@ spaced-words [] h = refl
 spaced-words (w ∷ words) h = one_word w (spaced words) h.0 ∙ ap (λ l. w ∷ l) (spaced-words words h.1)
 
 -- the text of the words from one on
-pub spaced-more : {A : Type 0} (bytes : A → List ℕ) (xs : List A) (i : ℕ) (x d : A) (text whole : List ℕ) → i < length xs → x ≡ get_or xs i d → text ++ spaced (drop i (map bytes xs)) ≡ whole → ((text ++ bytes x) ++ 32 ∷ []) ++ spaced (drop (i + 1) (map bytes xs)) ≡ whole
+pub spaced-more : {A : Type 0} (bytes : A → List ℕ) (xs : List A) (i : ℕ) (x d : A) (text whole : List ℕ) → i < length xs → x ≡ get_or xs i d →
+    text ++ spaced (drop i (map bytes xs)) ≡ whole → ((text ++ bytes x) ++ 32 ∷ []) ++ spaced (drop (i + 1) (map bytes xs)) ≡ whole
 spaced-more bytes xs i x d text whole below is kept =
     ap (λ l. l ++ spaced (drop (i + 1) (map bytes xs))) (append_assoc text (bytes x) (32 ∷ []))
     ∙ append_assoc text (bytes x ++ 32 ∷ []) (spaced (drop (i + 1) (map bytes xs)))
     ∙ ap (λ l. text ++ spaced l) (sym (drop_mapped bytes xs i x d below is))
     ∙ kept
 
-pub spaced-done : {A : Type 0} (bytes : A → List ℕ) (xs : List A) (i : ℕ) (text whole : List ℕ) → length xs ≤ i → text ++ spaced (drop i (map bytes xs)) ≡ whole → text ≡ whole
+pub spaced-done : {A : Type 0} (bytes : A → List ℕ) (xs : List A) (i : ℕ) (text whole : List ℕ) →
+    length xs ≤ i → text ++ spaced (drop i (map bytes xs)) ≡ whole → text ≡ whole
 spaced-done bytes xs i text whole past kept = sym (append-nil text) ∙ ap (λ l. text ++ spaced l) (sym (none_left bytes xs i past)) ∙ kept
 
 -- ---- cutting
 
-pub pieces-more : {A : Type 0} (bytes : A → List ℕ) (pieces : List A) (piece : A) (before after found : List (List ℕ)) → before ≡ non_empty (flat_map cut_at_tabs (map bytes pieces)) → after ≡ before ++ non_empty found → found ≡ cut_at_tabs (bytes piece) → after ≡ non_empty (flat_map cut_at_tabs (map bytes (pieces ++ piece ∷ [])))
+pub pieces-more : {A : Type 0} (bytes : A → List ℕ) (pieces : List A) (piece : A) (before after found : List (List ℕ)) →
+    before ≡ non_empty (flat_map cut_at_tabs (map bytes pieces)) → after ≡ before ++ non_empty found →
+    found ≡ cut_at_tabs (bytes piece) → after ≡ non_empty (flat_map cut_at_tabs (map bytes (pieces ++ piece ∷ [])))
 pieces-more bytes pieces piece before after found kept grown cut =
     grown
     ∙ (λ i. kept i ++ non_empty (cut i))
     ∙ sym (filter-append (λ w. not (length w == 0)) (flat_map cut_at_tabs (map bytes pieces)) (cut_at_tabs (bytes piece)))
-    ∙ ap non_empty (ap (λ l. flat_map cut_at_tabs (map bytes pieces) ++ l) (sym (append-nil (cut_at_tabs (bytes piece)))) ∙ sym (flat_map-append cut_at_tabs (map bytes pieces) (bytes piece ∷ [])) ∙ ap (flat_map cut_at_tabs) (sym (map-append bytes pieces (piece ∷ []))))
+    ∙ ap non_empty (ap (λ l. flat_map cut_at_tabs (map bytes pieces) ++ l) (sym (append-nil (cut_at_tabs (bytes piece))))
+    ∙ sym (flat_map-append cut_at_tabs (map bytes pieces) (bytes piece ∷ [])) ∙ ap (flat_map cut_at_tabs) (sym (map-append bytes pieces (piece ∷ []))))

@@ -21,7 +21,8 @@ use Rattle.qm_search.specs.declared.answer.Answer.{Answer}
 use Rattle.qm_search.specs.declared.answer.Answer.TheVariants.{Silence, Listing, Refused, NotUnderstood}
 use Rattle.qm_search.specs.ProgramNumbers.{most_segments}
 use Rattle.qm_search.specs.declared.parse.Command.{Command}
-use Rattle.qm_search.specs.declared.parse.Command.TheVariants.{Nothing, AddDocument, SetWeight, EndSegment, DeleteDocument, ListDocuments, ListScores, CountMatches, ListAbove}
+use Rattle.qm_search.specs.declared.parse.Command.TheVariants.{Nothing, AddDocument, SetWeight, EndSegment, DeleteDocument, ListDocuments, ListScores}
+use Rattle.qm_search.specs.declared.parse.Command.TheVariants.{CountMatches, ListAbove}
 
 -- why the segments of a script may be refused as too many to be searched
 abbrev pub IsSegmentsRefusal : Script → QueryError → Type 0
@@ -80,12 +81,14 @@ CountsMatches q s answer text = (enable : EnableScoring Searched) × IsForDocume
 -- a line that lists documents with scores, by what the script says that words weigh
 abbrev pub ListsScores : language.Query → State → Answer → List ℕ → Type 0
 ListsScores q s answer text =
-    (searched : Searched) × (enable : EnableScoring Searched) × IsForScores s searched enable × AnswersQuery (listed_text enable s.documents) enable q s.documents answer text
+    (searched : Searched) × (enable : EnableScoring Searched) × IsForScores s searched enable ×
+    AnswersQuery (listed_text enable s.documents) enable q s.documents answer text
 
 -- a line that lists those of them for which a pruned run calls
 abbrev pub ListsAbove : ℤ → language.Query → State → Answer → List ℕ → Type 0
 ListsAbove threshold q s answer text =
-    (searched : Searched) × (enable : EnableScoring Searched) × IsForScores s searched enable × AnswersQuery (pruned_text threshold enable s.documents) enable q s.documents answer text
+    (searched : Searched) × (enable : EnableScoring Searched) × IsForScores s searched enable ×
+    AnswersQuery (pruned_text threshold enable s.documents) enable q s.documents answer text
 
 -- what is answered where a change of the documents or the weights came to this
 abbrev pub IsChangeAnswer : Result (Unit {0}) QueryError → Answer → Type 0

@@ -13,7 +13,8 @@ use Rattle.qm_schema.specs.declared.error.QueryError.TheVariants.{EmptyPrefix, M
 use Rattle.qm_schema.specs.declared.occur.Occur.{Occur}
 use Rattle.qm_schema.specs.declared.schema.option.IndexRecordOption.TheVariants.{WithFreqs}
 use Rattle.qm_search.specs.Script as spelled
-use Rattle.qm_search.specs.Script.{Clauses, Queries, all, none, term, phrase, phrase_prefix, boolean, boost, constant, disjunction_max, no_clause, clause, no_query, query}
+use Rattle.qm_search.specs.Script.{Clauses, Queries, all, none, term, phrase, phrase_prefix, boolean, boost, constant, disjunction_max, no_clause, clause}
+use Rattle.qm_search.specs.Script.{no_query, query}
 use Rattle.qm_search.specs.ProgramNumbers.{body_field}
 
 -- a word, as a term
@@ -38,7 +39,8 @@ term_asked word = Ok (query.term (record { term = term_of word; option = WithFre
 
 abbrev pub phrase_asked : ℕ → List (List ℕ) → Result Query QueryError
 phrase_asked slop words =
-    unless (with_two (map term_of words) (row_refusal (map term_of words))) (query.phrase (record { terms = enumerate_from 0 (map term_of words); slop = slop }))
+    unless (with_two (map term_of words) (row_refusal (map term_of words)))
+    (query.phrase (record { terms = enumerate_from 0 (map term_of words); slop = slop }))
 
 -- terms with their offsets, of which the last is the prefix
 abbrev pub prefix_parts : ℕ → ℕ × TermKey → List (ℕ × TermKey) → PrefixParts

@@ -1,7 +1,8 @@
 -- Which queries ask for the terms of a segment that begin with a prefix. Of a segment that is kept in parts
 -- they ask the terms of the whole.
 use Rattle.std.specs.Prelude.{Bool, true, false, ◌||◌}
-use Rattle.qm_search.specs.Script.{Query, Clauses, Queries, all, none, term, phrase, phrase_prefix, boolean, boost, constant, disjunction_max, no_clause, clause, no_query, query}
+use Rattle.qm_search.specs.Script.{Query, Clauses, Queries, all, none, term, phrase, phrase_prefix, boolean, boost, constant, disjunction_max, no_clause}
+use Rattle.qm_search.specs.Script.{clause, no_query, query}
 
 abbrev mutual
   -- a phrase prefix stands in the query

@@ -1,8 +1,10 @@
 -- What a command stands for in the language.
-use Rattle.qm_search.specs.Script.{Request, nothing, add_document, set_weight, end_segment, delete_document, list_documents, list_scores, count_matches, list_above}
+use Rattle.qm_search.specs.Script.{Request, nothing, add_document, set_weight, end_segment, delete_document, list_documents, list_scores, count_matches}
+use Rattle.qm_search.specs.Script.{list_above}
 use Rattle.qm_search.specs.Spelled.{query_of}
 use Rattle.qm_search.specs.declared.parse.Command.{Command}
-use Rattle.qm_search.specs.declared.parse.Command.TheVariants.{Nothing, AddDocument, SetWeight, EndSegment, DeleteDocument, ListDocuments, ListScores, CountMatches, ListAbove}
+use Rattle.qm_search.specs.declared.parse.Command.TheVariants.{Nothing, AddDocument, SetWeight, EndSegment, DeleteDocument, ListDocuments, ListScores}
+use Rattle.qm_search.specs.declared.parse.Command.TheVariants.{CountMatches, ListAbove}
 use Rattle.std.specs.Prelude.{string_bytes}
 use Rattle.qm_postings.specs.Document.{words_of}
 

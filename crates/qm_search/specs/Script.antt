@@ -1,6 +1,7 @@
 -- The language of a script's lines: which words a line has, and what it asks for. What reads a thing from
 -- the front of some words gives it, and the words behind it; None where it doesn't stand there.
-use Rattle.std.specs.Prelude.{◌≡◌, ◌<◌, ◌+◌, ℕ, zero, suc, ℤ, neg_ℤ, pos, drop, option_map, ◌^◌, ◌==◌, ◌&&◌, false, not, if◌then◌else◌, List, [], ◌∷◌, Option, None, Some, codes, filter, length, nat_lt, option_and_then}
+use Rattle.std.specs.Prelude.{◌≡◌, ◌<◌, ◌+◌, ℕ, zero, suc, ℤ, neg_ℤ, pos, drop, option_map, ◌^◌, ◌==◌, ◌&&◌, false, not, if◌then◌else◌, List, [], ◌∷◌, Option}
+use Rattle.std.specs.Prelude.{None, Some, codes, filter, length, nat_lt, option_and_then}
 use Rattle.std.specs.List.{AllByRecursion, flat_map, slice_split}
 use Rattle.std.specs.Str.{all_ascii_digits, bytes_eq}
 use Rattle.std.specs.Str.Parse.{digits_value, starts_with_minus}

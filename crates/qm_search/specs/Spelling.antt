@@ -4,7 +4,9 @@ use Rattle.std.specs.Fmt.{decimal, signed_decimal}
 use Rattle.std.specs.List.{AllByRecursion, join_with_byte}
 use Rattle.qm_schema.specs.declared.occur.Occur.{Occur}
 use Rattle.qm_schema.specs.declared.occur.Occur.TheVariants.{Should, Must, MustNot}
-use Rattle.qm_search.specs.Script.{Clauses, Queries, Query, Request, add_document, all, boolean, boost, clause, constant, count_matches, delete_document, disjunction_max, end_segment, list_above, list_documents, list_scores, no_clause, no_query, none, nothing, phrase, phrase_prefix, query, set_weight, term}
+use Rattle.qm_search.specs.Script.{Clauses, Queries, Query, Request, add_document, all, boolean, boost, clause, constant, count_matches, delete_document}
+use Rattle.qm_search.specs.Script.{disjunction_max, end_segment, list_above, list_documents, list_scores, no_clause, no_query, none, nothing, phrase}
+use Rattle.qm_search.specs.Script.{phrase_prefix, query, set_weight, term}
 use Rattle.qm_search.specs.ProgramNumbers.{most_depth}
 
 -- ---- queries

@@ -43,7 +43,10 @@ left-fewer d e (b ∷ bs) h = elim (cases_lt b.last d) [
 
 pub left-length : (d : ℕ) (bs : List Block) → blocks_left d bs ≤ length bs
 left-length d [] = omega (arith, left-none d)
-left-length d (b ∷ bs) = elim (cases_lt b.last d) [ inl past ↦ omega (arith, left-past d b bs past, left-length d bs) | inr here ↦ omega (arith, left-here d b bs here, left-length d bs) ]
+left-length d (b ∷ bs) = elim (cases_lt b.last d) [
+  | inl past ↦ omega (arith, left-past d b bs past, left-length d bs)
+  | inr here ↦ omega (arith, left-here d b bs here, left-length d bs)
+]
 
 end-here : (d : ℕ) (b : Block) (bs : List Block) → d ≤ b.last → end_at d (b ∷ bs) ≡ b.last
 unfolding end_at
@@ -79,7 +82,8 @@ pub from-end : (d : ℕ) (bs : List Block) → TERMINATED ≤ d → blocks_from 
 from-end d bs l = let is : nat_lt d TERMINATED ≡ false = le-ltb d TERMINATED l in rw is refl
 
 pub from-length : (d : ℕ) (bs : List Block) → blocks_from d bs ≤ length bs
-from-length d bs = elim (cases_lt d TERMINATED) [ inl below ↦ omega (arith, from-below d bs below, left-length d bs) | inr end ↦ omega (arith, from-end d bs end) ]
+from-length d bs =
+    elim (cases_lt d TERMINATED) [ inl below ↦ omega (arith, from-below d bs below, left-length d bs) | inr end ↦ omega (arith, from-end d bs end) ]
 
 -- a turn: a block is passed, or a document
 pub from-step : (d e : ℕ) (bs : List Block) → d < TERMINATED → d < e → blocks_from e bs ≤ blocks_from d bs
@@ -88,7 +92,8 @@ from-step d e bs below less = elim (cases_lt e TERMINATED) [
   | inr end ↦ omega (arith, from-end e bs end)
 ]
 
-pub from-passed : (d e : ℕ) (bs : List Block) → d < TERMINATED → d < e → 0 < blocks_left d bs → min (end_at d bs + 1) TERMINATED ≤ e → blocks_from e bs + 1 ≤ blocks_from d bs
+pub from-passed : (d e : ℕ) (bs : List Block) → d < TERMINATED → d < e → 0 < blocks_left d bs →
+    min (end_at d bs + 1) TERMINATED ≤ e → blocks_from e bs + 1 ≤ blocks_from d bs
 from-passed d e bs below less some past = elim (cases_lt e TERMINATED) [
   | inl more ↦ omega (arith, from-below d bs below, from-below e bs more, left-passed d e bs (omega arith) (omega arith) more)
   | inr end ↦ omega (arith, from-end e bs end, from-below d bs below)
@@ -105,9 +110,14 @@ some_left s h here d below =
       | inr past ↦ absurd (omega (arith, head_end p h.postings past, scored-document s, here))
     ] in
     let f = scored_by s.similarity_weight s.fieldnorm_reader in
-    let used : 0 < length a.blocks.now = omega (arith, infos_count p.reading a h.postings.arrays, block_of_place p.cursor (length a.documents.now) a.block_len h.postings.arrays.block_len inside) in
+    let used : 0 < length a.blocks.now = omega (
+      arith,
+      infos_count p.reading a h.postings.arrays,
+      block_of_place p.cursor (length a.documents.now) a.block_len h.postings.arrays.block_len inside,
+    ) in
     let b = length a.blocks.now - 1 in
-    let long : length (postings_blocks p) ≡ length a.blocks.now = blocks_count p.reading a h.postings.arrays ∙ sym (infos_count p.reading a h.postings.arrays) in
+    let long : length (postings_blocks p) ≡ length a.blocks.now = blocks_count p.reading a h.postings.arrays
+    ∙ sym (infos_count p.reading a h.postings.arrays) in
     let end = ends_at_end p.reading a h.postings.arrays b no_postings_block (omega arith) (omega arith) in
     let last = ap (λ (x : Block). x.last) (get_or-map f (postings_blocks p) b no_postings_block (f no_postings_block) (omega (arith, long))) in
     left-one d b (map f (postings_blocks p)) (f no_postings_block) (omega (arith, length-map (postings_blocks p) f, long)) (omega (arith, last, end))

@@ -42,9 +42,11 @@ module _ {F : Type 0} (call : F → ℕ → ℤ → ℤ → F → Type 0) where
         let r = one_list call th last f g (member_of s) k (IsMember-scorer s h) p in
         record { thresholds = r.0; last = last; calls = Plain-hits th last f g (scored_left s) r.0 r.1; at_least = r.2; at_most = r.3 }
 
-    pub MayPrune-term : (allowed : F → ℕ → ℤ → Type 0) (th : ℤ) (f : F) → MayRunOver call allowed th f (scored_left s) → MayPrune call allowed th f (united added (member_of s ∷ []))
+    pub MayPrune-term : (allowed : F → ℕ → ℤ → Type 0) (th : ℤ) (f : F) →
+        MayRunOver call allowed th f (scored_left s) → MayPrune call allowed th f (united added (member_of s ∷ []))
     MayPrune-term allowed th f p =
-        subst (λ es. MayPrune call allowed th f es) (sym (united_one (member_of s) (IsMember-scorer s h) ∙ left s)) (MayPrune-hits allowed th f (scored_left s) p)
+        subst (λ es. MayPrune call allowed th f es) (sym (united_one (member_of s) (IsMember-scorer s h) ∙ left s))
+        (MayPrune-hits allowed th f (scored_left s) p)
 
 length_hits : (es : List Entry) → length (hits es) ≡ length es
 unfolding hits
@@ -62,7 +64,8 @@ unfolding hits
 shown_hits [] = refl
 shown_hits (h ∷ u) = ap (λ xs. h ∷ xs) (shown_hits u)
 
-module _ {F : Type 0} (call : F → ℕ → ℤ → ℤ → F → Type 0) (combined : List ℕ → ℕ) (within : (xs : List ℕ) → combined xs ≤ sum xs) (ss : List TermScorer) (h : All IsTermScorer ss) where
+module _ {F : Type 0} (call : F → ℕ → ℤ → ℤ → F → Type 0) (combined : List ℕ → ℕ)
+    (within : (xs : List ℕ) → combined xs ≤ sum xs) (ss : List TermScorer) (h : All IsTermScorer ss) where
   gathered_hits : hits (terms_left combined ss) ≡ united combined (map member_of ss)
   gathered_hits = ap hits (sym (united_scorers combined within ss h)) ∙ shown_hits (united combined (map member_of ss))
 
@@ -76,5 +79,6 @@ module _ {F : Type 0} (call : F → ℕ → ℤ → ℤ → F → Type 0) (combi
     at_most = omega (arith, p.3, ap (count_above (bound_of (map member_of ss)) p.0) gathered_hits);
   }
 
-  pub MayPrune-terms : (allowed : F → ℕ → ℤ → Type 0) (th : ℤ) (f : F) → MayRunOver call allowed th f (terms_left combined ss) → MayPrune call allowed th f (united combined (map member_of ss))
+  pub MayPrune-terms : (allowed : F → ℕ → ℤ → Type 0) (th : ℤ) (f : F) →
+      MayRunOver call allowed th f (terms_left combined ss) → MayPrune call allowed th f (united combined (map member_of ss))
   MayPrune-terms allowed th f p = subst (λ (es : List Entry). MayRunOver call allowed th f es) (sym (united_scorers combined within ss h)) p

@@ -43,20 +43,31 @@ module _ (ms : List Member) (hs : List Head) (r : AreRecords ms hs) (n p : ℕ) 
 -- ---- how far to skip
 
 -- a block that is known ends where its record says
-pub known_end : (ms : List Member) (hs : List Head) (n p : ℕ) → AreRecords ms hs → IsFront n p hs → AreKnown n p hs → (k : ℕ) (d : Head) → k < n → skip_by p (listed ms (get_or hs k d)) ≡ suc (get_or hs k d).block_end
+pub known_end : (ms : List Member) (hs : List Head) (n p : ℕ) → AreRecords ms hs → IsFront n p hs → AreKnown n p hs →
+    (k : ℕ) (d : Head) → k < n → skip_by p (listed ms (get_or hs k d)) ≡ suc (get_or hs k d).block_end
 known_end ms hs n p r f known k d l =
     let h = get_or hs k d in
     let here : leb (head (listed ms h)) p ≡ true = le-leb (head (listed ms h)) p (front_at ms hs r n p f k d l) in
     let end : end_at p (listed ms h).blocks ≡ h.block_end = (r.each k d (omega (arith, l, f.within))).end p (known k d l).0 (known k d l).1 in
     rw here (ap suc end)
 
-pub end_more : (ms : List Member) (hs : List Head) (n p : ℕ) → AreRecords ms hs → IsFront n p hs → AreKnown n p hs → (k : ℕ) (d : Head) → k < n → (least end new all : ℕ)
-    → new ≡ min least end → min TERMINATED end ≡ min TERMINATED (suc (get_or hs k d).block_end) → least ≤ TERMINATED → min least (skip p (map (listed ms) (drop k hs))) ≡ all → min new (skip p (map (listed ms) (drop (k + 1) hs))) ≡ all
+pub end_more : (ms : List Member) (hs : List Head) (n p : ℕ) → AreRecords ms hs →
+    IsFront n p hs → AreKnown n p hs → (k : ℕ) (d : Head) → k < n → (least end new all : ℕ)
+    → new ≡ min least end → min TERMINATED end ≡ min TERMINATED (suc (get_or hs k d).block_end) → least ≤ TERMINATED →
+    min least (skip p (map (listed ms) (drop k hs))) ≡ all → min new (skip p (map (listed ms) (drop (k + 1) hs))) ≡ all
 end_more ms hs n p r f known k d l least end new all e g low i =
-    omega (arith, ap (skip p) (rest_at (listed ms) hs k d (omega (arith, l, f.within))), skip-cons p (listed ms (get_or hs k d)) (map (listed ms) (drop (k + 1) hs)), skip_le_end p (map (listed ms) (drop (k + 1) hs)), known_end ms hs n p r f known k d l)
+    omega (
+      arith,
+      ap (skip p) (rest_at (listed ms) hs k d (omega (arith, l, f.within))),
+      skip-cons p (listed ms (get_or hs k d))
+          (map (listed ms) (drop (k + 1) hs)),
+      skip_le_end p (map (listed ms) (drop (k + 1) hs)),
+      known_end ms hs n p r f known k d l,
+    )
 
 -- where all stand past p, the least head is the skip
-skip_ge : {X : Type 0} (m : X → Member) (p low : ℕ) (xs : List X) → low ≤ TERMINATED → ((k : ℕ) (d : X) → k < length xs → (p < head (m (get_or xs k d))) × (low ≤ head (m (get_or xs k d)))) → low ≤ skip p (map m xs)
+skip_ge : {X : Type 0} (m : X → Member) (p low : ℕ) (xs : List X) → low ≤ TERMINATED →
+    ((k : ℕ) (d : X) → k < length xs → (p < head (m (get_or xs k d))) × (low ≤ head (m (get_or xs k d)))) → low ≤ skip p (map m xs)
 unfolding skip
 skip_ge m p low [] l h = l
 skip_ge m p low (x ∷ xs) l h =
@@ -64,12 +75,14 @@ skip_ge m p low (x ∷ xs) l h =
     let here : skip_by p (m x) ≡ head (m x) = rw past refl in
     omega (arith, here, (h 0 x (omega arith)).1, skip_ge m p low xs l (λ k d i. h (suc k) d (omega arith)))
 
-skip_ge_from : {X : Type 0} (m : X → Member) (p low n : ℕ) (xs : List X) → low ≤ TERMINATED → ((k : ℕ) (d : X) → n ≤ k → k < length xs → (p < head (m (get_or xs k d))) × (low ≤ head (m (get_or xs k d)))) → low ≤ skip p (map m (drop n xs))
+skip_ge_from : {X : Type 0} (m : X → Member) (p low n : ℕ) (xs : List X) → low ≤ TERMINATED →
+    ((k : ℕ) (d : X) → n ≤ k → k < length xs → (p < head (m (get_or xs k d))) × (low ≤ head (m (get_or xs k d)))) → low ≤ skip p (map m (drop n xs))
 skip_ge_from m p low zero xs l h = skip_ge m p low xs l (λ k d i. h k d (omega arith) i)
 skip_ge_from m p low (suc n) [] l h = omega (arith, skip_ge m p low [] l (λ k d i. absurd (omega arith)))
 skip_ge_from m p low (suc n) (x ∷ xs) l h = skip_ge_from m p low n xs l (λ k d from i. h (suc k) d (omega arith) (omega arith))
 
-pub skip_next : (ms : List Member) (hs : List Head) (n p : ℕ) (d : Head) → AreRecords ms hs → IsNonDecreasingBy (λ (h : Head). h.doc) hs → All (λ (h : Head). h.doc ≤ TERMINATED) hs → IsFront n p hs → n < length hs → (get_or hs n d).doc ≡ skip p (map (listed ms) (drop n hs))
+pub skip_next : (ms : List Member) (hs : List Head) (n p : ℕ) (d : Head) → AreRecords ms hs → IsNonDecreasingBy (λ (h : Head). h.doc) hs →
+    All (λ (h : Head). h.doc ≤ TERMINATED) hs → IsFront n p hs → n < length hs → (get_or hs n d).doc ≡ skip p (map (listed ms) (drop n hs))
 skip_next ms hs n p d r sorted below f l =
     let m = listed ms (get_or hs n d) in
     let past : leb (head m) p ≡ false = lt-leb (head m) p (other_at ms hs r n p f n d (omega arith) l) in

@@ -23,7 +23,8 @@ pushed_last [] x j d e = ap (λ i. get_or (x ∷ []) i d) e
 pushed_last (y ∷ xs) x zero d e = absurd (omega arith)
 pushed_last (y ∷ xs) x (suc j) d e = pushed_last xs x j d (omega arith)
 
-module _ (ms : List Member) (hs : List Head) (long : length hs ≡ length ms) (made : (j : ℕ) (d : Head) → j < length ms → get_or hs j d ≡ first_record (get_or ms j no_member) j) where
+module _ (ms : List Member) (hs : List Head) (long : length hs ≡ length ms)
+    (made : (j : ℕ) (d : Head) → j < length ms → get_or hs j d ≡ first_record (get_or ms j no_member) j) where
   at : (j : ℕ) (d : Head) → j < length ms → listed ms (get_or hs j d) ≡ get_or ms j no_member
   at j d l = ap (listed ms) (made j d l)
 
@@ -58,4 +59,5 @@ postings-nil = refl
 
 pub few_postings : (ss : List TermScorer) → All IsTermScorer ss → postings (map member_of ss) ≤ length ss * 2147483647
 few_postings [] h = omega (arith, postings-nil)
-few_postings (s ∷ ss) h = omega (arith, postings-cons (member_of s) (map member_of ss), few_hits s (All-head IsTermScorer s ss h), few_postings ss (All-tail IsTermScorer s ss h))
+few_postings (s ∷ ss) h =
+    omega (arith, postings-cons (member_of s) (map member_of ss), few_hits s (All-head IsTermScorer s ss h), few_postings ss (All-tail IsTermScorer s ss h))

@@ -22,10 +22,17 @@ law s h = IsMember-scorer s.scorer h.valid
 pub score_le_top : (s : TermScorerWithMaxScore) → IsRunScorer s → first_score (wand_member s) ≤ (wand_member s).top
 score_le_top s h = let m = law s h in hit_score_le (wand_member s).blocks (wand_member s).top 0 (wand_member s).entries m.entries m.bounds
 
-pub scores_le_tops : (ss : List TermScorerWithMaxScore) → All IsRunScorer ss → sum_by (λ s. first_score (wand_member s)) ss ≤ sum_by (λ s. (wand_member s).top) ss
+pub scores_le_tops : (ss : List TermScorerWithMaxScore) → All IsRunScorer ss →
+    sum_by (λ s. first_score (wand_member s)) ss ≤ sum_by (λ s. (wand_member s).top) ss
 scores_le_tops [] h = omega arith
 scores_le_tops (s ∷ ss) h =
-    omega (arith, sum_by-cons (λ s. first_score (wand_member s)) s ss, sum_by-cons (λ s. (wand_member s).top) s ss, score_le_top s (All-head IsRunScorer s ss h), scores_le_tops ss (All-tail IsRunScorer s ss h))
+    omega (
+      arith,
+      sum_by-cons (λ s. first_score (wand_member s)) s ss,
+      sum_by-cons (λ s. (wand_member s).top) s ss,
+      score_le_top s (All-head IsRunScorer s ss h),
+      scores_le_tops ss (All-tail IsRunScorer s ss h),
+    )
 
 -- ---- a row of one
 

@@ -7,7 +7,8 @@ use Rattle.std.proofs.lemmas.Bool.{cases_Bool, cases_eq, eq-eqb, false≢true, n
 use Rattle.std.proofs.lemmas.List.Elements.{All-head, All-tail}
 use Rattle.qm_docset.specs.Entry.{Entry, AreEntries}
 use Rattle.qm_docset.specs.Gather.{entries_of, gather, scored, scores_at}
-use Rattle.qm_docset.specs.GatherFacts.{AreEntries-gather, entries_of-gather, entries_of-gather_few, entries_of-here, entries_of-nil, entries_of-other, same_list, scores_at-cons, scores_at-nil}
+use Rattle.qm_docset.specs.GatherFacts.{AreEntries-gather, entries_of-gather, entries_of-gather_few, entries_of-here, entries_of-nil, entries_of-other}
+use Rattle.qm_docset.specs.GatherFacts.{same_list, scores_at-cons, scores_at-nil}
 use Rattle.qm_docset.specs.declared.numbers.TheConstants.{TERMINATED}
 use Rattle.qm_docset.proofs.Gathering.{gather-same}
 use Rattle.qm_term.specs.HitRuns.{entries_of_hits, entry_of}
@@ -19,7 +20,8 @@ use Rattle.qm_term.specs.declared.term_scorer.TermScorer.{TermScorer}
 use Rattle.qm_term.proofs.WandBounds.{Each, Ascends-all_of, ascends, blockbound_le_reach, has-all_of, has-below, score-none}
 use Rattle.qm_term.proofs.WandMembers.{IsMember-scorer}
 use Rattle.qm_term.proofs.WandRows.{top_by_le}
-use Rattle.qm_term.proofs.WandScores.{Ascends-united, each_united, has-with, score-with, scores_in-has, scores_in-none, scores_of-cons, scores_of-nil, united_le}
+use Rattle.qm_term.proofs.WandScores.{Ascends-united, each_united, has-with, score-with, scores_in-has, scores_in-none, scores_of-cons, scores_of-nil}
+use Rattle.qm_term.proofs.WandScores.{united_le}
 use Rattle.qm_term.proofs.WandUnion.{has-add_all, has-cons, has-nil, score-cons}
 
 -- ---- one list
@@ -55,7 +57,8 @@ entries_has d low (e ∷ u) h y =
           entries_of-here d (entry_of e) (entries_of_hits u) q ∙ ap (λ r. entry_of e ∷ r) rest ∙ ap (λ x. x ∷ []) is
       | inr q ↦
           let n = ne_eqb e.document d q in
-          entries_of-other d (entry_of e) (entries_of_hits u) q ∙ entries_has d (suc e.document) u h.2 (sym (other_has d e u n) ∙ y) ∙ ap (λ s. scored d s ∷ []) (sym (other_score d e u n))
+          entries_of-other d (entry_of e) (entries_of_hits u) q ∙ entries_has d (suc e.document) u h.2 (sym (other_has d e u n) ∙ y)
+          ∙ ap (λ s. scored d s ∷ []) (sym (other_score d e u n))
     ]
 
 -- its scores there
@@ -90,7 +93,8 @@ scores_all d (m ∷ ms) h =
 some_scores : (d : ℕ) (ms : List Member) → Held d ms → 1 ≤ length (scores_of d ms)
 some_scores d [] h = absurd h
 some_scores d (m ∷ ms) h =
-    let parts : length (scores_of d (m ∷ ms)) ≡ length (scores_in d m.entries) + length (scores_of d ms) = ap length (scores_of-cons d m ms) ∙ length-append (scores_in d m.entries) (scores_of d ms) in
+    let parts : length (scores_of d (m ∷ ms)) ≡ length (scores_in d m.entries) + length (scores_of d ms) = ap length (scores_of-cons d m ms)
+    ∙ length-append (scores_in d m.entries) (scores_of d ms) in
     elim h [
       | inl y ↦ omega (arith, parts, ap length (scores_in-has d m.entries y))
       | inr r ↦ omega (arith, parts, some_scores d ms r)
@@ -108,7 +112,8 @@ module _ (combined : List ℕ → ℕ) (within : (xs : List ℕ) → combined xs
   small d = omega (arith, united_le combined within d ms h, blockbound_le_reach d ms h, top_by_le d ms)
 
   u_entries : AreEntries 0 (record { top = total_top ms; room = 0 }) (entries_of_hits (united combined ms))
-  u_entries = entries_are (total_top ms) 0 (united combined ms) (Ascends-united combined ms h) (each_united combined (λ d s. s ≤ total_top ms) ms h (λ d _. small d))
+  u_entries =
+      entries_are (total_top ms) 0 (united combined ms) (Ascends-united combined ms h) (each_united combined (λ d s. s ≤ total_top ms) ms h (λ d _. small d))
 
   g_entries : AreEntries 0 (record { top = total_top ms; room = 0 }) (gather 1 combined (map listed_of ms))
   g_entries = AreEntries-gather 1 combined (total_top ms) (map listed_of ms) (λ d _. omega (arith, ap combined (scores_all d ms h), small d))
@@ -134,7 +139,8 @@ module _ (combined : List ℕ → ℕ) (within : (xs : List ℕ) → combined xs
   -- what combiners make of the scores in U is what is gathered
   pub united_gathered : entries_of_hits (united combined ms) ≡ gather 1 combined (map listed_of ms)
   united_gathered =
-      same_list 0 (record { top = total_top ms; room = 0 }) (record { top = total_top ms; room = 0 }) (entries_of_hits (united combined ms)) (gather 1 combined (map listed_of ms)) u_entries g_entries says_same
+      same_list 0 (record { top = total_top ms; room = 0 }) (record { top = total_top ms; room = 0 })
+      (entries_of_hits (united combined ms)) (gather 1 combined (map listed_of ms)) u_entries g_entries says_same
 
 -- ---- scorers
 
@@ -147,7 +153,8 @@ seen d (e ∷ es) =
     let others = entries_of_hits (hits es) in
     elim (cases_eq e.document d) [
       | inl q ↦
-          ap (map (λ x. x.score)) (entries_of-here d shown others q) ∙ ap (λ r. e.score ∷ r) (seen d es) ∙ sym (ap (map (λ x. x.score)) (entries_of-here d e es q))
+          ap (map (λ x. x.score)) (entries_of-here d shown others q) ∙ ap (λ r. e.score ∷ r) (seen d es)
+          ∙ sym (ap (map (λ x. x.score)) (entries_of-here d e es q))
       | inr q ↦
           ap (map (λ x. x.score)) (entries_of-other d shown others q) ∙ seen d es ∙ sym (ap (map (λ x. x.score)) (entries_of-other d e es q))
     ]
@@ -165,7 +172,8 @@ scorer_members [] h = tt
 scorer_members (s ∷ ss) h = (IsMember-scorer s (All-head IsTermScorer s ss h), scorer_members ss (All-tail IsTermScorer s ss h))
 
 -- U of scorers is what is gathered of what they have left
-pub united_scorers : (combined : List ℕ → ℕ) → ((xs : List ℕ) → combined xs ≤ sum xs) → (ss : List TermScorer) → All IsTermScorer ss → entries_of_hits (united combined (map member_of ss)) ≡ gather 1 combined (map scored_left ss)
+pub united_scorers : (combined : List ℕ → ℕ) → ((xs : List ℕ) → combined xs ≤ sum xs) → (ss : List TermScorer) →
+    All IsTermScorer ss → entries_of_hits (united combined (map member_of ss)) ≡ gather 1 combined (map scored_left ss)
 united_scorers combined within ss h =
     united_gathered combined within (map member_of ss) (scorer_members ss h)
     ∙ gather-same 1 1 combined combined (map listed_of (map member_of ss)) (map scored_left ss) (λ d.

@@ -1,6 +1,7 @@
 -- What a pruned run sees of a term's scorer: no score is above the bound of its block, and no bound above
 -- the greatest score.
-use Rattle.std.proofs.Common.{◌≡◌, ℕ, zero, suc, ◌+◌, ◌<◌, ◌≤◌, Bool, true, false, cond, List, [], ◌∷◌, length, map, get_or, replicate, drop, max, sym, ap, refl, subst, ◌∙◌, arith, inl, inr, ◌⊎◌}
+use Rattle.std.proofs.Common.{◌≡◌, ℕ, zero, suc, ◌+◌, ◌<◌, ◌≤◌, Bool, true, false, cond, List, [], ◌∷◌, length, map, get_or, replicate, drop, max, sym, ap}
+use Rattle.std.proofs.Common.{refl, subst, ◌∙◌, arith, inl, inr, ◌⊎◌}
 use Rattle.std.specs.Prelude.{All, nat_le, nat_lt}
 use Rattle.std.proofs.lemmas.Bool.{cases_Bool, cases_lt, le-leb, lt-leb, false≢true}
 use Rattle.std.proofs.lemmas.List.Elements.{All-head, All-map, All-tail}
@@ -48,13 +49,15 @@ module _ (w : Weighing) (constant : Bool) (ids : List ℕ) where
         | inr here ↦ let is : nat_le d b.last ≡ true = le-leb d b.last here in rw is (refl, refl)
       ]
 
-  pub scored_looks : (t d : ℕ) (bs : List PostingsBlock) → f (postings_looked_at t d bs) ≡ cond (nat_lt d TERMINATED) (member_block_at (max t d) (map f bs)) no_block
+  pub scored_looks : (t d : ℕ) (bs : List PostingsBlock) →
+      f (postings_looked_at t d bs) ≡ cond (nat_lt d TERMINATED) (member_block_at (max t d) (map f bs)) no_block
   unfolding postings_looked_at
   scored_looks t d bs =
       let at = scored_at (max t d) bs in
       let block : f (block_at (max t d) bs) ≡ member_block_at (max t d) (map f bs) = λ i. record { last = sym at.0 i; bound = sym at.1 i } in
       let none : f no_postings_block ≡ no_block = λ i. record { last = TERMINATED; bound = no_frequency w (cond constant (get_or ids 0 0) 0) i } in
-      elim (nat_lt d TERMINATED) as (λ b. f (cond b (block_at (max t d) bs) no_postings_block) ≡ cond b (member_block_at (max t d) (map f bs)) no_block) [ true ↦ block | false ↦ none ]
+      elim (nat_lt d TERMINATED) as (λ b. f (cond b (block_at (max t d) bs) no_postings_block)
+      ≡ cond b (member_block_at (max t d) (map f bs)) no_block) [ true ↦ block | false ↦ none ]
 
 -- ---- documents with their scores
 
@@ -78,15 +81,22 @@ unfolding hits from hits_from
 from-hits t [] = refl
 from-hits t (e ∷ es) = elim (cases_lt e.document t) [
   | inl less ↦ let is : nat_le t e.document ≡ false = lt-leb t e.document less in rw is (from-hits t es)
-  | inr more ↦ let is : nat_le t e.document ≡ true = le-leb t e.document more in rw is (ap (λ xs. record { document = e.document; score = e.score } ∷ xs) (from-hits t es))
+  | inr more ↦ let is : nat_le t e.document ≡ true = le-leb t e.document more in
+      rw is (ap (λ xs. record { document = e.document; score = e.score } ∷ xs) (from-hits t es))
 ]
 
-bounded-hits : (low : ℕ) (limits : Limits) (bs : List Block) (es : List Entry) → AreEntries low limits es → All (λ e. e.score ≤ bound_at e.document bs) es → AreBounded low bs (hits es)
+bounded-hits : (low : ℕ) (limits : Limits) (bs : List Block) (es : List Entry) → AreEntries low limits es →
+    All (λ e. e.score ≤ bound_at e.document bs) es → AreBounded low bs (hits es)
 unfolding hits
 bounded-hits low limits bs [] a h = tt
 bounded-hits low limits bs (e ∷ es) a h =
-    let on : e.document + 1 ≡ suc e.document = omega arith in
-    (a.here.from_low, a.here.below_end, All-head (λ (e : Entry). e.score ≤ bound_at e.document bs) e es h, subst (λ n. AreBounded n bs (hits es)) on (bounded-hits (e.document + 1) limits bs es a.others (All-tail (λ (e : Entry). e.score ≤ bound_at e.document bs) e es h)))
+    let on : e.document + 1 ≡ suc e.document = omega arith in (
+      a.here.from_low,
+      a.here.below_end,
+      All-head (λ (e : Entry). e.score ≤ bound_at e.document bs) e es h,
+      subst (λ n. AreBounded n bs (hits es)) on
+          (bounded-hits (e.document + 1) limits bs es a.others (All-tail (λ (e : Entry). e.score ≤ bound_at e.document bs) e es h)),
+    )
 
 -- ---- one id for all
 
@@ -115,13 +125,15 @@ module _ (s : TermScorer) (h : IsTermScorer s) where
   constant = is_made_constant s.fieldnorm_reader
 
   -- the id that bounds a block is at most that of each of its documents
-  id_le : (e : Entry) → e.document < length ids → (block_at e.document (postings_blocks s.postings)).least_id ≤ get_or ids e.document 0 ⊎ (constant ≡ true) → cond constant (get_or ids 0 0) (block_at e.document (postings_blocks s.postings)).least_id ≤ get_or ids e.document 0
+  id_le : (e : Entry) → e.document < length ids → (block_at e.document (postings_blocks s.postings)).least_id ≤ get_or ids e.document 0 ⊎ (constant ≡ true) →
+      cond constant (get_or ids 0 0) (block_at e.document (postings_blocks s.postings)).least_id ≤ get_or ids e.document 0
   id_le e covered least = elim (cases_Bool constant) [
     | inl one ↦ rw one (omega (arith, one_id s.fieldnorm_reader.ids e.document one covered))
     | inr each ↦ rw each (elim least [ inl l ↦ l | inr one ↦ absurd (false≢true (sym each ∙ one)) ])
   ]
 
-  score_le : (e : Entry) → e.document < length ids → (block_at e.document (postings_blocks s.postings)).least_id ≤ get_or ids e.document 0 ⊎ (constant ≡ true) → e.frequency ≤ (block_at e.document (postings_blocks s.postings)).most
+  score_le : (e : Entry) → e.document < length ids → (block_at e.document (postings_blocks s.postings)).least_id ≤ get_or ids e.document 0 ⊎ (constant ≡ true) →
+      e.frequency ≤ (block_at e.document (postings_blocks s.postings)).most
       → bm25 w (get_or ids e.document 0) e.frequency ≤ bound_at e.document (scored_blocks s)
   unfolding scored_blocks
   score_le e covered least most =
@@ -129,13 +141,15 @@ module _ (s : TermScorer) (h : IsTermScorer s) where
       let id = cond constant (get_or ids 0 0) b.least_id in
       let small = s.fieldnorm_reader.bytes e.document 0 covered in
       let up = bm25-rises w (get_or ids e.document 0) e.frequency b.most most in
-      let down = bm25-falls w id (get_or ids e.document 0) b.most s.similarity_weight.ascending (id_le e covered least) (omega (arith, small, s.similarity_weight.many)) in
+      let down = bm25-falls w id (get_or ids e.document 0) b.most s.similarity_weight.ascending
+      (id_le e covered least) (omega (arith, small, s.similarity_weight.many)) in
       omega (arith, up, down, (scored_at w constant ids e.document (postings_blocks s.postings)).1)
 
   scores_bounded : All (λ (e : Entry). e.score ≤ bound_at e.document (scored_blocks s)) (scored_left s)
   unfolding rescored
   scores_bounded =
-      All-map (λ (e : Entry). e.score ≤ bound_at e.document (scored_blocks s)) (λ e. record e { score = bm25 w (get_or ids e.document 0) e.frequency }) (postings_left s.postings)
+      All-map (λ (e : Entry). e.score ≤ bound_at e.document (scored_blocks s))
+      (λ e. record e { score = bm25 w (get_or ids e.document 0) e.frequency }) (postings_left s.postings)
       (λ k d l. score_le (get_or (postings_left s.postings) k d) (h.covered k d l)
       (elim h.bounded [ inl one ↦ inr one | inr each ↦ inl (each k d l) ])
       (within_blocks s.postings h.postings k d l))
@@ -144,7 +158,11 @@ module _ (s : TermScorer) (h : IsTermScorer s) where
   unfolding member_of scored_blocks
   IsMember-scorer = record {
     entries = bounded-hits 0 (scored_limits s) (scored_blocks s) (scored_left s) (AreEntries-scored s h) scores_bounded;
-    bounds = λ d. omega (arith, (scored_at w constant ids d (postings_blocks s.postings)).1, bm25-le w (cond constant (get_or ids 0 0) (block_at d (postings_blocks s.postings)).least_id) (block_at d (postings_blocks s.postings)).most);
+    bounds = λ d. omega (
+      arith,
+      (scored_at w constant ids d (postings_blocks s.postings)).1,
+      bm25-le w (cond constant (get_or ids 0 0) (block_at d (postings_blocks s.postings)).least_id) (block_at d (postings_blocks s.postings)).most,
+    );
   }
 
 -- ---- what calls leave
@@ -164,8 +182,10 @@ top-member s = refl
 pub looks-member : (t : ℕ) (s : TermScorer) → scored_looked_at t s ≡ looked_at t (member_of s)
 unfolding member_of scored_blocks
 looks-member t s =
-    scored_looks (weighing s.similarity_weight) (is_made_constant s.fieldnorm_reader) (norm_ids s.fieldnorm_reader) t (head_document (postings_left s.postings)) (postings_blocks s.postings)
-    ∙ ap (λ d. cond (nat_lt d TERMINATED) (member_block_at (max t d) (map (scored_by s.similarity_weight s.fieldnorm_reader) (postings_blocks s.postings))) no_block) (sym (head-hits (scored_left s) ∙ scored-document s))
+    scored_looks (weighing s.similarity_weight) (is_made_constant s.fieldnorm_reader)
+    (norm_ids s.fieldnorm_reader) t (head_document (postings_left s.postings)) (postings_blocks s.postings)
+    ∙ ap (λ d. cond (nat_lt d TERMINATED) (member_block_at (max t d) (map (scored_by s.similarity_weight s.fieldnorm_reader) (postings_blocks s.postings)))
+    no_block) (sym (head-hits (scored_left s) ∙ scored-document s))
 
 module _ (s n : TermScorer) (blocks : scored_blocks n ≡ scored_blocks s) (limits : scored_limits n ≡ scored_limits s) where
   same : (es : List Entry) → scored_left n ≡ es → member_of n ≡ record { entries = hits es; blocks = scored_blocks s; top = (scored_limits s).top }
@@ -174,11 +194,13 @@ module _ (s n : TermScorer) (blocks : scored_blocks n ≡ scored_blocks s) (limi
 
   pub next-member : scored_left n ≡ drop 1 (scored_left s) → member_of n ≡ next (member_of s)
   unfolding member_of
-  next-member left = same (drop 1 (scored_left s)) left ∙ ap (λ (es : List Hit). record { entries = es; blocks = scored_blocks s; top = (scored_limits s).top }) (drop-hits (scored_left s))
+  next-member left = same (drop 1 (scored_left s)) left
+      ∙ ap (λ (es : List Hit). record { entries = es; blocks = scored_blocks s; top = (scored_limits s).top }) (drop-hits (scored_left s))
 
   pub cut-member : (t : ℕ) → scored_left n ≡ from t (scored_left s) → member_of n ≡ cut t (member_of s)
   unfolding member_of
-  cut-member t left = same (from t (scored_left s)) left ∙ ap (λ (es : List Hit). record { entries = es; blocks = scored_blocks s; top = (scored_limits s).top }) (from-hits t (scored_left s))
+  cut-member t left = same (from t (scored_left s)) left
+      ∙ ap (λ (es : List Hit). record { entries = es; blocks = scored_blocks s; top = (scored_limits s).top }) (from-hits t (scored_left s))
 
   pub same-member : scored_left n ≡ scored_left s → member_of n ≡ member_of s
   unfolding member_of
@@ -190,7 +212,10 @@ pub head_or_end : (s : SegmentPostings) → IsPostings s → (head_document (pos
 head_or_end s h = elim (cases_lt s.cursor (length s.arrays.documents.now)) [ inl inside ↦ inr (head_below s h inside) | inr past ↦ inl (head_end s h past) ]
 
 pub looked_end : (s : SegmentPostings) → IsPostings s → head_document (postings_left s) ≡ TERMINATED → looked_block s ≡ no_postings_block
-looked_end s h end = elim (cases_lt s.cursor (length s.arrays.documents.now)) [ inl inside ↦ absurd (omega (arith, head_below s h inside, end)) | inr past ↦ looked_outside s past ]
+looked_end s h end = elim (cases_lt s.cursor (length s.arrays.documents.now)) [
+  | inl inside ↦ absurd (omega (arith, head_below s h inside, end))
+  | inr past ↦ looked_outside s past
+]
 
 pub bound_end : (s : TermScorer) → IsTermScorer s → head_document (postings_left s.postings) ≡ TERMINATED → (scored_looked s).bound ≡ 0
 unfolding scored_looked

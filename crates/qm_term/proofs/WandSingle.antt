@@ -1,9 +1,11 @@
 -- The run over one list.
-use Rattle.std.proofs.Common.{◌≡◌, ℕ, ℤ, suc, ◌+◌, ◌<◌, ◌≤◌, ◌<ℤ◌, ◌≤ℤ◌, Bool, true, cond, leb, ltb, max, List, [], ◌∷◌, ◌++◌, length, sum, refl, sym, ap, ◌∙◌, arith, subst, inl, inr, pos}
+use Rattle.std.proofs.Common.{◌≡◌, ℕ, ℤ, suc, ◌+◌, ◌<◌, ◌≤◌, ◌<ℤ◌, ◌≤ℤ◌, Bool, true, cond, leb, ltb, max, List, [], ◌∷◌, ◌++◌, length, sum, refl, sym, ap, ◌∙◌}
+use Rattle.std.proofs.Common.{arith, subst, inl, inr, pos}
 use Rattle.std.proofs.lemmas.Bool.{cond-true, le-leb, lt-ltb}
 use Rattle.std.proofs.lemmas.List.Sums.{sum_by-cons}
 use Rattle.qm_term.specs.Members.{Hit, Member, hit_score, has, add_entry, add_all, all_of, scores_of, united, Ascends, IsMember, end_at, bound_at}
-use Rattle.qm_term.specs.Pivot.{head, bound_in, bound_of, blockbound, cut, next, front, AreCut, IsQuietTo, Passes, Scores, IsSingle, Pruned, front_scores, looked_at, block_at, no_block, past}
+use Rattle.qm_term.specs.Pivot.{head, bound_in, bound_of, blockbound, cut, next, front, AreCut, IsQuietTo, Passes, Scores, IsSingle, Pruned, front_scores}
+use Rattle.qm_term.specs.Pivot.{looked_at, block_at, no_block, past}
 use Rattle.qm_term.specs.HitRuns.{MayPrune, Plain, calls_of, count_above}
 use Rattle.qm_docset.specs.declared.numbers.TheConstants.{TERMINATED}
 use Rattle.qm_term.proofs.WandUnion.{from-all, add-nil, add-first}
@@ -57,8 +59,10 @@ scores_first th m h l above =
     record {
       held = inl y;
       worth = subst (λ (n : ℕ). th <ℤ pos n) (sym is) above;
-      low = λ d a held. elim held [ inl q ↦ absurd (let at = has-head d 0 m.entries (ascends 0 m.blocks m.entries h.entries) q in omega arith) | inr n ↦ absurd n ];
-      rest = sym (from-all (suc p) (suc p) (all_of (next m ∷ [])) (Ascends-all_from (suc p) (next m ∷ []) far) (omega arith)) ∙ cut_from (suc p) (m ∷ []) (next m ∷ []) k;
+      low = λ d a held.
+          elim held [ inl q ↦ absurd (let at = has-head d 0 m.entries (ascends 0 m.blocks m.entries h.entries) q in omega arith) | inr n ↦ absurd n ];
+      rest = sym (from-all (suc p) (suc p) (all_of (next m ∷ [])) (Ascends-all_from (suc p) (next m ∷ []) far) (omega arith))
+          ∙ cut_from (suc p) (m ∷ []) (next m ∷ []) k;
       scores = λ d a. cut_scores (suc p) d (m ∷ []) (next m ∷ []) k a;
       bounds = λ d a. cut_blockbound (suc p) d (m ∷ []) (next m ∷ []) k a;
     }
@@ -69,7 +73,8 @@ first_score m h l =
     let p = head m in
     let t : leb (head m) p ≡ true = le-leb (head m) p (omega arith) in
     let is : front p m ≡ hit_score m.entries ∷ [] = cond-true (leb (head m) p) (hit_score m.entries ∷ []) [] t in
-    ap sum (front_score p (m ∷ []) (h, tt) l ((λ _. refl), tt) ∙ front_scores-cons p m [] ∙ ap (λ xs. xs ++ front_scores p []) is ∙ ap (λ xs. hit_score m.entries ∷ xs) (front_scores-nil p))
+    ap sum (front_score p (m ∷ []) (h, tt) l ((λ _. refl), tt) ∙ front_scores-cons p m []
+    ∙ ap (λ xs. xs ++ front_scores p []) is ∙ ap (λ xs. hit_score m.entries ∷ xs) (front_scores-nil p))
     ∙ sum_by-cons (λ n. n) (hit_score m.entries) [] ∙ omega arith
 
 pub fewer_cut : (m : Member) (t : ℕ) → head m < t → t ≤ TERMINATED → length (cut t m).entries < length m.entries
@@ -82,14 +87,16 @@ added xs = sum xs
 pub no_more : (xs : List ℕ) → added xs ≤ sum xs
 no_more xs = omega arith
 
-module _ {F : Type 0} (call : F → ℕ → ℤ → ℤ → F → Type 0) (th th' : ℤ) (f g : F) (m n : Member) (ticked : Bool) (h : IsMember m) (i : IsMember n) (t : IsSingle call added th f m th' g n ticked) where
+module _ {F : Type 0} (call : F → ℕ → ℤ → ℤ → F → Type 0) (th th' : ℤ) (f g : F) (m n : Member)
+    (ticked : Bool) (h : IsMember m) (i : IsMember n) (t : IsSingle call added th f m th' g n ticked) where
   pub single_back : (k : ℕ) (last : ℤ) (z : F) → Pruned call added th' g (n ∷ []) k last z → Pruned call added th f (m ∷ []) (cond ticked 1 0 + k) last z
   single_back k last z r =
       elim t [
         | inl s ↦ quiet_back call added no_more th th' s.target (m ∷ []) (n ∷ []) f g z ticked k last (h, tt) (i, tt) s.passes s.quiet r
         | inr s ↦
             let one : ◌≡◌ {A = ℕ} (cond ticked 1 0) 1 = ap tick_of s.tick in
-            more call added no_more th f (m ∷ []) (suc k) (cond ticked 1 0 + k) last z (omega (arith, one)) (score_step added no_more call th (head m) (m ∷ []) (n ∷ []) (h, tt) s.scores f g z th' last k s.turn r)
+            more call added no_more th f (m ∷ []) (suc k) (cond ticked 1 0 + k) last z (omega (arith, one))
+            (score_step added no_more call th (head m) (m ∷ []) (n ∷ []) (h, tt) s.scores f g z th' last k s.turn r)
       ]
 
   pub single_may : (pre : F → ℕ → ℤ → Type 0) → MayPrune call pre th f (united added (m ∷ [])) → MayPrune call pre th' g (united added (n ∷ []))
@@ -100,9 +107,11 @@ module _ {F : Type 0} (call : F → ℕ → ℤ → ℤ → F → Type 0) (th th
       ]
 
 -- at the end nothing is left to do
-pub single_end : {F : Type 0} (call : F → ℕ → ℤ → ℤ → F → Type 0) (th : ℤ) (f : F) (m : Member) → IsMember m → TERMINATED ≤ head m → Pruned call added th f (m ∷ []) 0 th f
+pub single_end : {F : Type 0} (call : F → ℕ → ℤ → ℤ → F → Type 0) (th : ℤ) (f : F) (m : Member) →
+    IsMember m → TERMINATED ≤ head m → Pruned call added th f (m ∷ []) 0 th f
 single_end call th f m h e =
-    pruned_none added no_more call th f (m ∷ []) (h, tt) (λ d held. elim held [ inl y ↦ absurd (let at = has-head d 0 m.entries (ascends 0 m.blocks m.entries h.entries) y in omega arith) | inr n ↦ absurd n ])
+    pruned_none added no_more call th f (m ∷ []) (h, tt)
+    (λ d held. elim held [ inl y ↦ absurd (let at = has-head d 0 m.entries (ascends 0 m.blocks m.entries h.entries) y in omega arith) | inr n ↦ absurd n ])
 
 -- ---- U of one list is the list, and its bounds are its blocks'
 
@@ -122,13 +131,15 @@ all_of_one m h = add_all-nil 0 m.entries (ascends 0 m.blocks m.entries h.entries
 pub united_one : (m : Member) → IsMember m → united added (m ∷ []) ≡ m.entries
 united_one m h = united_sum (m ∷ []) (h, tt) ∙ all_of_one m h
 
-pub one_list : {F : Type 0} (call : F → ℕ → ℤ → ℤ → F → Type 0) (th last : ℤ) (f z : F) (m : Member) (k : ℕ) → IsMember m → Pruned call added th f (m ∷ []) k last z
+pub one_list : {F : Type 0} (call : F → ℕ → ℤ → ℤ → F → Type 0) (th last : ℤ) (f z : F) (m : Member) (k : ℕ) →
+    IsMember m → Pruned call added th f (m ∷ []) k last z
     → (ths : List ℤ) × Plain call th f m.entries ths last z × (calls_of ths m.entries ≤ k) × (k ≤ count_above (λ e. bound_at e.document m.blocks) ths m.entries)
 one_list call th last f z m k h r =
     let is = united_one m h in
     let same : count_above (bound_of (m ∷ [])) r.0 (united added (m ∷ [])) ≡ count_above (λ e. bound_at e.document m.blocks) r.0 (united added (m ∷ []))
     = count_same (bound_of (m ∷ [])) (λ e. bound_at e.document m.blocks) r.0 (united added (m ∷ []))
-    (each_united added (λ d s. blockbound d (m ∷ []) ≡ bound_at d m.blocks) (m ∷ []) (h, tt) (λ d held. elim held [ inl y ↦ one_bound d m ∙ cond-true (has d m.entries) (bound_at d m.blocks) 0 y | inr n ↦ absurd n ])) in (
+    (each_united added (λ d s. blockbound d (m ∷ []) ≡ bound_at d m.blocks) (m ∷ []) (h, tt)
+    (λ d held. elim held [ inl y ↦ one_bound d m ∙ cond-true (has d m.entries) (bound_at d m.blocks) 0 y | inr n ↦ absurd n ])) in (
       r.0,
       subst (λ (u : List Hit). Plain call th f u r.0 last z) is r.1,
       omega (arith, r.2, ap (calls_of r.0) is),

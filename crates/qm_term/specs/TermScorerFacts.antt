@@ -20,7 +20,8 @@ use Rattle.qm_term.specs.declared.term_scorer.TermScorer.{TermScorer}
 
 pub AreEntries-scored : (s : TermScorer) → IsTermScorer s → AreEntries 0 (scored_limits s) (scored_left s)
 AreEntries-scored s h =
-    AreEntries-rescored _ (bm25_bound (weighing s.similarity_weight)) 0 (postings_limits s.postings) (postings_left s.postings) (λ e within. bm25-le (weighing s.similarity_weight) (slice_index_or (norm_ids s.fieldnorm_reader) e.document 0) e.frequency) (AreEntries-postings s.postings h.postings)
+    AreEntries-rescored _ (bm25_bound (weighing s.similarity_weight)) 0 (postings_limits s.postings) (postings_left s.postings) (λ e within. bm25-le
+    (weighing s.similarity_weight) (slice_index_or (norm_ids s.fieldnorm_reader) e.document 0) e.frequency) (AreEntries-postings s.postings h.postings)
 
 pub AreCovered-drop : (ids : List ℕ) (n : ℕ) (es : List Entry) → AreCovered ids es → AreCovered ids (drop n es)
 AreCovered-drop ids n es h = All-drop (λ e. e.document < length ids) n es h
@@ -33,18 +34,28 @@ pub AreCovered-nil : (ids : List ℕ) → AreCovered ids []
 AreCovered-nil ids = λ k d l. absurd (omega arith)
 
 -- what bounds the length ids of some documents bounds those of fewer
-pub IsBoundedBy-drop : (reader : FieldNormReader) (blocks : List Block) (n : ℕ) (es : List Entry) → IsBoundedBy reader blocks es → IsBoundedBy reader blocks (drop n es)
-IsBoundedBy-drop reader blocks n es h = elim h [ inl one ↦ inl one | inr each ↦ inr (All-drop (λ e. (block_at e.document blocks).least_id ≤ slice_index_or (norm_ids reader) e.document 0) n es each) ]
+pub IsBoundedBy-drop : (reader : FieldNormReader) (blocks : List Block) (n : ℕ) (es : List Entry) →
+    IsBoundedBy reader blocks es → IsBoundedBy reader blocks (drop n es)
+IsBoundedBy-drop reader blocks n es h = elim h [
+  | inl one ↦ inl one
+  | inr each ↦ inr (All-drop (λ e. (block_at e.document blocks).least_id ≤ slice_index_or (norm_ids reader) e.document 0) n es each)
+]
 
-pub IsBoundedBy-from : (reader : FieldNormReader) (blocks : List Block) (t : ℕ) (es : List Entry) → IsBoundedBy reader blocks es → IsBoundedBy reader blocks (from t es)
+pub IsBoundedBy-from : (reader : FieldNormReader) (blocks : List Block) (t : ℕ) (es : List Entry) →
+    IsBoundedBy reader blocks es → IsBoundedBy reader blocks (from t es)
 unfolding from
-IsBoundedBy-from reader blocks t es h = elim h [ inl one ↦ inl one | inr each ↦ inr (All-filter (λ e. nat_le t e.document) (λ e. (block_at e.document blocks).least_id ≤ slice_index_or (norm_ids reader) e.document 0) es each) ]
+IsBoundedBy-from reader blocks t es h = elim h [
+  | inl one ↦ inl one
+  | inr each ↦
+      inr (All-filter (λ e. nat_le t e.document) (λ e. (block_at e.document blocks).least_id ≤ slice_index_or (norm_ids reader) e.document 0) es each)
+]
 
 pub IsBoundedBy-nil : (reader : FieldNormReader) (blocks : List Block) → IsBoundedBy reader blocks []
 IsBoundedBy-nil reader blocks = inr (λ k d l. absurd (omega arith))
 
 -- the same after a call that leaves the blocks as they are
-pub bounded_after : (reader : FieldNormReader) (old new : List Block) (es left : List Entry) → new ≡ old → left ≡ es → IsBoundedBy reader old es → IsBoundedBy reader new left
+pub bounded_after : (reader : FieldNormReader) (old new : List Block) (es left : List Entry) →
+    new ≡ old → left ≡ es → IsBoundedBy reader old es → IsBoundedBy reader new left
 bounded_after reader old new es left blocks same h = subst (λ b. IsBoundedBy reader b left) (sym blocks) (subst (IsBoundedBy reader old) (sym same) h)
 
 -- what keeps what it keeps of itself keeps it of others
@@ -55,7 +66,8 @@ pub ScoresAs-self : (s : TermScorer) → ScoresAs s s
 ScoresAs-self s = record { ids = refl; postings = ReadsAs-self s.postings; blocks = refl }
 
 -- a scorer whose postings alone change, and keep what they keep, keeps what it keeps
-pub keeps_scoring : (s old new : TermScorer) → new.fieldnorm_reader ≡ old.fieldnorm_reader → new.similarity_weight ≡ old.similarity_weight → ((p : SegmentPostings) → ReadsAs p old.postings → ReadsAs p new.postings) → ScoresAs s old → ScoresAs s new
+pub keeps_scoring : (s old new : TermScorer) → new.fieldnorm_reader ≡ old.fieldnorm_reader → new.similarity_weight ≡ old.similarity_weight →
+    ((p : SegmentPostings) → ReadsAs p old.postings → ReadsAs p new.postings) → ScoresAs s old → ScoresAs s new
 unfolding scored_blocks
 keeps_scoring s old new reader weight kept h =
     let same = kept old.postings (ReadsAs-self old.postings) in
@@ -73,7 +85,8 @@ covered-head ids (e ∷ es) h here = h 0 e (omega arith)
 pub scored-document : (s : TermScorer) → head_document (scored_left s) ≡ head_document (postings_left s.postings)
 scored-document s = head_document-rescored _ (postings_left s.postings)
 
-pub scored-within : (s : TermScorer) → IsTermScorer s → head_document (scored_left s) < TERMINATED → head_document (scored_left s) < length (norm_ids s.fieldnorm_reader)
+pub scored-within : (s : TermScorer) → IsTermScorer s → head_document (scored_left s) < TERMINATED →
+    head_document (scored_left s) < length (norm_ids s.fieldnorm_reader)
 scored-within s h here =
     let same = scored-document s in
     let P : ℕ → Type 0 = λ d. d < length (norm_ids s.fieldnorm_reader) in

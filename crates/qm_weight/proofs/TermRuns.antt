@@ -49,7 +49,8 @@ seen d (e ∷ es) =
     let shown = scored e.document e.score in
     ap (λ xs. map (λ x. x.score) (entries_of d xs)) (bare-cons e es) ∙ elim (cases_eq e.document d) [
       | inl q ↦
-          ap (map (λ x. x.score)) (entries_of-here d shown (bare es) q) ∙ ap (λ r. e.score ∷ r) (seen d es) ∙ sym (ap (map (λ x. x.score)) (entries_of-here d e es q))
+          ap (map (λ x. x.score)) (entries_of-here d shown (bare es) q) ∙ ap (λ r. e.score ∷ r) (seen d es)
+          ∙ sym (ap (map (λ x. x.score)) (entries_of-here d e es q))
       | inr q ↦
           ap (map (λ x. x.score)) (entries_of-other d shown (bare es) q) ∙ seen d es ∙ sym (ap (map (λ x. x.score)) (entries_of-other d e es q))
     ]
@@ -73,7 +74,8 @@ module _ {S : Type 0} (D : Ghosts S) where
       ∙ scores_terms d ss (All-tail IsTermOrEmpty (Empty s) ss h)
   scores_terms d (s ∷ ss) h = absurd (All-head IsTermOrEmpty s ss h)
 
-  pub gathered_terms : (combined : List ℕ → ℕ) (ss : List (AnyScorer S)) → All IsTermOrEmpty ss → gather 1 combined (map (tree_entries D) ss) ≡ gather 1 combined (map scored_left (terms_of ss))
+  pub gathered_terms : (combined : List ℕ → ℕ) (ss : List (AnyScorer S)) → All IsTermOrEmpty ss →
+      gather 1 combined (map (tree_entries D) ss) ≡ gather 1 combined (map scored_left (terms_of ss))
   gathered_terms combined ss h =
       gather-same 1 1 combined combined (map (tree_entries D) ss) (map scored_left (terms_of ss)) (λ d.
       let same = scores_terms d ss h in
@@ -81,16 +83,27 @@ module _ {S : Type 0} (D : Ghosts S) where
 
   pub valid_terms : (ss : List (AnyScorer S)) → All IsTermOrEmpty ss → All (IsTree D) ss → All IsTermScorer (terms_of ss)
   valid_terms [] h v = All-nil IsTermScorer
-  valid_terms (Term s ∷ ss) h v = All-cons IsTermScorer s.value (terms_of ss) (All-head (IsTree D) (Term s) ss v) (valid_terms ss (All-tail IsTermOrEmpty (Term s) ss h) (All-tail (IsTree D) (Term s) ss v))
+  valid_terms (Term s ∷ ss) h v = All-cons IsTermScorer s.value (terms_of ss) (All-head (IsTree D) (Term s) ss v)
+      (valid_terms ss (All-tail IsTermOrEmpty (Term s) ss h) (All-tail (IsTree D) (Term s) ss v))
   valid_terms (Empty s ∷ ss) h v = valid_terms ss (All-tail IsTermOrEmpty (Empty s) ss h) (All-tail (IsTree D) (Empty s) ss v)
   valid_terms (s ∷ ss) h v = absurd (All-head IsTermOrEmpty s ss h)
 
   pub tops_terms : (ss : List (AnyScorer S)) → All IsTermOrEmpty ss → total_member_top (map member_of (terms_of ss)) ≡ total_top (map (tree_limits D) ss)
   tops_terms [] h = total-nil (λ m. m.top)
   tops_terms (Term s ∷ ss) h =
-      omega (arith, total-cons (λ m. m.top) (member_of s.value) (map member_of (terms_of ss)), top-member s.value, tops_terms ss (All-tail IsTermOrEmpty (Term s) ss h), sum_by-cons (λ (l : Limits). l.top) (tree_limits D (Term s)) (map (tree_limits D) ss))
+      omega (
+        arith,
+        total-cons (λ m. m.top) (member_of s.value) (map member_of (terms_of ss)),
+        top-member s.value,
+        tops_terms ss (All-tail IsTermOrEmpty (Term s) ss h),
+        sum_by-cons (λ (l : Limits). l.top) (tree_limits D (Term s)) (map (tree_limits D) ss),
+      )
   tops_terms (Empty s ∷ ss) h =
-      omega (arith, tops_terms ss (All-tail IsTermOrEmpty (Empty s) ss h), sum_by-cons (λ (l : Limits). l.top) (tree_limits D (Empty s)) (map (tree_limits D) ss))
+      omega (
+        arith,
+        tops_terms ss (All-tail IsTermOrEmpty (Empty s) ss h),
+        sum_by-cons (λ (l : Limits). l.top) (tree_limits D (Empty s)) (map (tree_limits D) ss),
+      )
   tops_terms (s ∷ ss) h = absurd (All-head IsTermOrEmpty s ss h)
 
 -- what follows of what is there follows where it is
@@ -105,7 +118,8 @@ error_of e (Err f) = f
 
 -- ---- clauses none of which must not match
 
-no_trees : {T : Type 0} (D : Ghosts T) (b : ℕ) (segment : Segment) (trees : List Tree) (members : List T) → AreScorersOf D b segment trees members → length members ≡ 0 → trees ≡ []
+no_trees : {T : Type 0} (D : Ghosts T) (b : ℕ) (segment : Segment) (trees : List Tree) (members : List T) →
+    AreScorersOf D b segment trees members → length members ≡ 0 → trees ≡ []
 no_trees D b segment [] [] h none = refl
 no_trees D b segment [] (s ∷ members) h none = absurd h
 no_trees D b segment (t ∷ trees) [] h none = absurd h
@@ -118,28 +132,38 @@ all_wanted (clause Should tree clauses) h = ap (clause Should tree) (all_wanted 
 all_wanted (clause MustNot tree clauses) h = absurd (omega (arith, ap length h))
 
 -- what the scorers of Should clauses alone list together is the list of the Boolean
-pub list-should : {T : Type 0} (D : Ghosts (AnyScorer T)) (law : (s : AnyScorer T) → D.valid s → AreEntries 0 (D.limits s) (D.entries s)) (w : BooleanWeight) (b : ℕ) (segment : Segment) → length segment.documents ≤ TERMINATED → (scorers : ClauseScorers T)
-    → AreClauseScorers D (clauses_from w.weights.items) b segment scorers → IsOfTerms w scorers → IsListOf (boolean_tree w) b segment (gather 1 (any_combined w.score_combiner) (lists D scorers.should.items))
+pub list-should : {T : Type 0} (D : Ghosts (AnyScorer T)) (law : (s : AnyScorer T) → D.valid s → AreEntries 0 (D.limits s) (D.entries s))
+    (w : BooleanWeight) (b : ℕ) (segment : Segment) → length segment.documents ≤ TERMINATED → (scorers : ClauseScorers T)
+    → AreClauseScorers D (clauses_from w.weights.items) b segment scorers → IsOfTerms w scorers →
+    IsListOf (boolean_tree w) b segment (gather 1 (any_combined w.score_combiner) (lists D scorers.should.items))
 list-should D law w b segment few scorers rows seen =
     let clauses = clauses_from w.weights.items in
     let minimum = w.minimum_number_should_match in
     let es = gather 1 (any_combined w.score_combiner) (lists D scorers.should.items) in
     let one : max minimum 1 ≡ 1 = omega (arith, seen.least) in
-    let made : IsWantedListing minimum w.score_combiner clauses b segment es = subst (λ n. IsWantedListing minimum w.score_combiner clauses b segment (gather n (any_combined w.score_combiner) (lists D scorers.should.items))) one
-    (from-should D law minimum w.score_combiner clauses b segment few scorers.must.items scorers.should.items (rows Must) (rows Should) (no_length scorers.must.items seen.no_must)) in
+    let made : IsWantedListing minimum w.score_combiner clauses b segment es =
+    subst (λ n. IsWantedListing minimum w.score_combiner clauses b segment (gather n (any_combined w.score_combiner) (lists D scorers.should.items))) one
+    (from-should D law minimum w.score_combiner clauses b segment few scorers.must.items scorers.should.items
+    (rows Must) (rows Should) (no_length scorers.must.items seen.no_must)) in
     subst (λ (cs : Clauses). IsListOf (boolean w.scoring_enabled minimum (combiner_of w.score_combiner) cs) b segment es)
     (all_wanted clauses (no_trees D b segment (clause_trees clauses MustNot) scorers.must_not.items (rows MustNot) seen.no_must_not))
     (list-wanted w.scoring_enabled minimum w.score_combiner clauses b segment es made)
 
 -- the run over what they list is one over the Boolean
-pub pruned-run : {F E : Type 0} (step : F → ℕ → ℤ → ℤ → F → Type 0) (tree : Tree) (segment : Segment) (threshold same : ℤ) (f g : F) (es : List Entry) (r : Result (Unit {0}) E) → same ≡ threshold → IsListOf tree 1 segment es
+pub pruned-run : {F E : Type 0} (step : F → ℕ → ℤ → ℤ → F → Type 0) (tree : Tree) (segment : Segment) (threshold same : ℤ)
+    (f g : F) (es : List Entry) (r : Result (Unit {0}) E) → same ≡ threshold → IsListOf tree 1 segment es
     → OnOk r ((ths : List ℤ) × (last : ℤ) × Plain (InRange step) same f es ths last g) → OnOk r (PrunesTree step tree segment threshold f g)
 pruned-run step tree segment threshold same f g es r is listed =
     on_ok _ _ (λ run. (es, listed, run.0, run.1, Plain-at (InRange step) threshold same f es run.0 run.1 g is run.2)) r
 
 -- what refuses it
-pub pruned-refused : {T : Type 0} (D : Ghosts (AnyScorer T)) (law : (s : AnyScorer T) → D.valid s → AreEntries 0 (D.limits s) (D.entries s)) (w : BooleanWeight) (b : ℕ) (segment : Segment) → length segment.documents ≤ TERMINATED → (scorers : ClauseScorers T) → AreClauseScorers D (clauses_from w.weights.items) b segment scorers
-    → (r : Result (Unit {0}) QueryError) → IfErr r IsBoundOrMemory → (IsErrOf r ScoreBound → greatest_score < total_top (bounds D scorers.should.items)) → IfErr r (IsRefusalOf (boolean_tree w) b)
+pub pruned-refused : {T : Type 0} (D : Ghosts (AnyScorer T)) (law : (s : AnyScorer T) → D.valid s → AreEntries 0 (D.limits s) (D.entries s))
+    (w : BooleanWeight) (b : ℕ) (segment : Segment) → length segment.documents ≤ TERMINATED →
+    (scorers : ClauseScorers T) → AreClauseScorers D (clauses_from w.weights.items) b segment scorers
+    → (r : Result (Unit {0}) QueryError) → IfErr r IsBoundOrMemory →
+    (IsErrOf r ScoreBound → greatest_score < total_top (bounds D scorers.should.items)) → IfErr r (IsRefusalOf (boolean_tree w) b)
 pruned-refused D law w b segment few scorers rows r only past =
-    if_err (IsWantedRefusal D w segment scorers.must.items scorers.should.items) (IsRefusalOf (boolean_tree w) b) (λ e refused. refused-wanted D w b segment e (refused b (record { must = rows Must; should = rows Should }))) r
-    (refused-result D law w segment few scorers.must.items scorers.should.items r (total_top (bounds D scorers.should.items)) only past (λ k wanted. omega (arith, tops D law w segment few scorers.must.items scorers.should.items k wanted)))
+    if_err (IsWantedRefusal D w segment scorers.must.items scorers.should.items) (IsRefusalOf (boolean_tree w) b)
+    (λ e refused. refused-wanted D w b segment e (refused b (record { must = rows Must; should = rows Should }))) r
+    (refused-result D law w segment few scorers.must.items scorers.should.items r (total_top (bounds D scorers.should.items)) only past
+    (λ k wanted. omega (arith, tops D law w segment few scorers.must.items scorers.should.items k wanted)))

@@ -11,7 +11,8 @@ pub any_query::AnyQuery::visit_terms-visit_terms-requires :
     goal.any_query::AnyQuery::visit_terms-visit_terms-requires
 any_query::AnyQuery::visit_terms-visit_terms-requires g t c κs within =
     let same : boolean_of c.in-Boolean.query ≡ query_of c.args.self.now = search (rules, q.the_lemmas, row_subqueries-items) in
-    let allowed : MayVisitTerms g.F.FnMut c.args.visitor.now (terms_of_query (boolean_of c.in-Boolean.query)) = subst (λ x. MayVisitTerms g.F.FnMut c.args.visitor.now (terms_of_query x)) (sym same) c.requires.allowed in
+    let allowed : MayVisitTerms g.F.FnMut c.args.visitor.now (terms_of_query (boolean_of c.in-Boolean.query)) =
+    subst (λ x. MayVisitTerms g.F.FnMut c.args.visitor.now (terms_of_query x)) (sym same) c.requires.allowed in
     (search (rules, q.the_lemmas), (search rules, allowed))
 
 pub any_query::AnyQuery::visit_terms-returns-in-Boolean :
@@ -24,14 +25,18 @@ pub any_query::AnyQuery::visit_terms-visit_terms-requires-in-DisjunctionMax :
     goal.any_query::AnyQuery::visit_terms-visit_terms-requires-in-DisjunctionMax
 any_query::AnyQuery::visit_terms-visit_terms-requires-in-DisjunctionMax g t c κs within =
     let same : disjunction_max_of c.in-DisjunctionMax.query ≡ query_of c.args.self.now = search (rules, q.the_lemmas, row_disjuncts-items) in
-    let allowed : MayVisitTerms g.F.FnMut c.args.visitor.now (terms_of_query (disjunction_max_of c.in-DisjunctionMax.query)) = subst (λ x. MayVisitTerms g.F.FnMut c.args.visitor.now (terms_of_query x)) (sym same) c.requires.allowed in
+    let allowed : MayVisitTerms g.F.FnMut c.args.visitor.now (terms_of_query (disjunction_max_of c.in-DisjunctionMax.query)) =
+    subst (λ x. MayVisitTerms g.F.FnMut c.args.visitor.now (terms_of_query x)) (sym same) c.requires.allowed in
     (search (rules, q.the_lemmas), (search rules, allowed))
 
 pub any_query::AnyQuery::visit_terms-returns-in-DisjunctionMax :
     goal.any_query::AnyQuery::visit_terms-returns-in-DisjunctionMax
 any_query::AnyQuery::visit_terms-returns-in-DisjunctionMax g t c =
     let same : disjunction_max_of c.in-DisjunctionMax.query ≡ query_of c.args.self.now = search (rules, q.the_lemmas, row_disjuncts-items) in
-    record { calls = subst (λ x. VisitsTerms g.F.FnMut c.args.visitor.now (terms_of_query x) c.visit_terms-in-DisjunctionMax.new.visitor) same c.visit_terms-in-DisjunctionMax.ensures.calls }
+    record {
+      calls = subst (λ x. VisitsTerms g.F.FnMut c.args.visitor.now (terms_of_query x) c.visit_terms-in-DisjunctionMax.new.visitor)
+          same c.visit_terms-in-DisjunctionMax.ensures.calls;
+    }
 
 pub boolean_query::BooleanQuery::visit_terms-visit_clause-requires :
     goal.boolean_query::BooleanQuery::visit_terms-visit_clause-requires
@@ -52,7 +57,8 @@ boolean_query::BooleanQuery::visit_terms-loop-clause-preserved g t c =
     let left = clauses_left-more clauses c.loop-clause.clause-index c.clause-item.result is below in
     record {
       allowed = rest_allowed g.F.FnMut _ _ _ left c.loop-clause.visitor c.visit_clause.new.visitor c.visit_clause.ensures.calls c.loop-clause.invariant.allowed;
-      calls = λ last others. c.loop-clause.invariant.calls last (rest_called g.F.FnMut _ _ _ left c.loop-clause.visitor c.visit_clause.new.visitor c.visit_clause.ensures.calls last others);
+      calls = λ last others. c.loop-clause.invariant.calls last
+          (rest_called g.F.FnMut _ _ _ left c.loop-clause.visitor c.visit_clause.new.visitor c.visit_clause.ensures.calls last others);
     }
 
 pub disjunction_max_query::DisjunctionMaxQuery::visit_terms-visit_terms-requires :
@@ -63,7 +69,8 @@ disjunction_max_query::DisjunctionMaxQuery::visit_terms-visit_terms-requires g t
     let below = subst (λ xs. c.loop-query.query-index < length xs) c.deref-query-items.ensures.value c.loop-query-test.true in
     let left = disjuncts_left-more disjuncts c.loop-query.query-index c.query-item.result is below in
     let here = here_allowed g.F.FnMut _ _ _ left c.loop-query.visitor c.loop-query.invariant.allowed in
-    let allowed : MayVisitTerms g.F.FnMut c.loop-query.visitor (terms_of_query (query_of c.deref.result.now)) = subst (λ x. MayVisitTerms g.F.FnMut c.loop-query.visitor (terms_of_query (query_of x))) (sym c.deref.ensures) here in
+    let allowed : MayVisitTerms g.F.FnMut c.loop-query.visitor (terms_of_query (query_of c.deref.result.now)) =
+    subst (λ x. MayVisitTerms g.F.FnMut c.loop-query.visitor (terms_of_query (query_of x))) (sym c.deref.ensures) here in
     (search (rules, q.the_lemmas), (search rules, allowed))
 
 pub disjunction_max_query::DisjunctionMaxQuery::visit_terms-loop-query-preserved :
@@ -73,8 +80,10 @@ disjunction_max_query::DisjunctionMaxQuery::visit_terms-loop-query-preserved g t
     let is = c.query-item.is ∙ ap (λ xs. get_or xs c.loop-query.query-index c.query-item.result) c.deref-query-items.ensures.value in
     let below = subst (λ xs. c.loop-query.query-index < length xs) c.deref-query-items.ensures.value c.loop-query-test.true in
     let left = disjuncts_left-more disjuncts c.loop-query.query-index c.query-item.result is below in
-    let made = subst (λ x. VisitsTerms g.F.FnMut c.loop-query.visitor (terms_of_query (query_of x)) c.visit_terms.new.visitor) c.deref.ensures c.visit_terms.ensures.calls in
+    let made = subst
+    (λ x. VisitsTerms g.F.FnMut c.loop-query.visitor (terms_of_query (query_of x)) c.visit_terms.new.visitor) c.deref.ensures c.visit_terms.ensures.calls in
     record {
       allowed = rest_allowed g.F.FnMut _ _ _ left c.loop-query.visitor c.visit_terms.new.visitor made c.loop-query.invariant.allowed;
-      calls = λ last others. c.loop-query.invariant.calls last (rest_called g.F.FnMut _ _ _ left c.loop-query.visitor c.visit_terms.new.visitor made last others);
+      calls =
+          λ last others. c.loop-query.invariant.calls last (rest_called g.F.FnMut _ _ _ left c.loop-query.visitor c.visit_terms.new.visitor made last others);
     }

@@ -8,12 +8,14 @@ abbrev pub invariant-boolean_query::BooleanQuery::visit_terms-loop-clause :
     goal.invariant-boolean_query::BooleanQuery::visit_terms-loop-clause
 invariant-boolean_query::BooleanQuery::visit_terms-loop-clause g l = record {
   allowed : MayVisitTerms g.F.FnMut l.visitor (clauses_left l.self.subqueries.items l.clause-index);
-  calls : (last : _) → VisitsTerms g.F.FnMut l.visitor (clauses_left l.self.subqueries.items l.clause-index) last → VisitsTerms g.F.FnMut l.fn.visitor (terms_of_query (boolean_of l.fn.self)) last;
+  calls : (last : _) → VisitsTerms g.F.FnMut l.visitor (clauses_left l.self.subqueries.items l.clause-index) last →
+      VisitsTerms g.F.FnMut l.fn.visitor (terms_of_query (boolean_of l.fn.self)) last;
 }
 
 abbrev pub invariant-disjunction_max_query::DisjunctionMaxQuery::visit_terms-loop-query :
     goal.invariant-disjunction_max_query::DisjunctionMaxQuery::visit_terms-loop-query
 invariant-disjunction_max_query::DisjunctionMaxQuery::visit_terms-loop-query g l = record {
   allowed : MayVisitTerms g.F.FnMut l.visitor (disjuncts_left l.self.disjuncts.items l.query-index);
-  calls : (last : _) → VisitsTerms g.F.FnMut l.visitor (disjuncts_left l.self.disjuncts.items l.query-index) last → VisitsTerms g.F.FnMut l.fn.visitor (terms_of_query (disjunction_max_of l.fn.self)) last;
+  calls : (last : _) → VisitsTerms g.F.FnMut l.visitor (disjuncts_left l.self.disjuncts.items l.query-index) last →
+      VisitsTerms g.F.FnMut l.fn.visitor (terms_of_query (disjunction_max_of l.fn.self)) last;
 }

@@ -1,5 +1,6 @@
 -- A tree goes on by seeks of what stands below it.
-use Rattle.std.proofs.Common.{rules, drop, true≢false, ◌≡◌, ◌+◌, ◌*◌, ◌<◌, ◌≤◌, [], ◌∷◌, ◌++◌, All, get_or, length, map, set, take, true, arith, refl, sym, ap, subst, ◌∙◌, inl, inr, ℕ, List, max, min, nat_abs, to_z, w64, fold}
+use Rattle.std.proofs.Common.{rules, drop, true≢false, ◌≡◌, ◌+◌, ◌*◌, ◌<◌, ◌≤◌, [], ◌∷◌, ◌++◌, All, get_or, length, map, set, take, true, arith, refl, sym, ap}
+use Rattle.std.proofs.Common.{subst, ◌∙◌, inl, inr, ℕ, List, max, min, nat_abs, to_z, w64, fold}
 use denote.Param.Weighed.{at_most, most}
 use Rattle.std.proofs.lemmas.Bool.{cases_lt}
 use Rattle.std.proofs.lemmas.Grind.{take-set_at}
@@ -22,25 +23,32 @@ use Rattle.qm_combine.specs.RescoredFacts.{IsSeekAnswer-rescored, head_score-res
 use Rattle.qm_combine.specs.SharedSeek.{StandOn}
 use Rattle.qm_combine.specs.Union.{least_head, total_top, united_limits}
 use Rattle.qm_combine.specs.Without.{without}
-use Rattle.qm_combine.specs.WithoutFacts.{IsKept, from-without, head_document-le, head_document-past, head_document-without, without-stepped, head_score-without}
+use Rattle.qm_combine.specs.WithoutFacts.{IsKept, from-without, head_document-le, head_document-past, head_document-without, without-stepped}
+use Rattle.qm_combine.specs.WithoutFacts.{head_score-without}
 use Rattle.qm_combine.proofs.EachMember.{map-map-set_same, take-map-set_more, map-set_same, All-same_lists, get_or-map-map, score_cast}
-use Rattle.qm_combine.proofs.Leading.{IsSeekAnswer-shared, common_entries-caught_up, common_entries-cut, common_entries-passed, common_entries-sought, head_document-together, leader_bound-common_entries, head_score-together}
+use Rattle.qm_combine.proofs.Leading.{IsSeekAnswer-shared, common_entries-caught_up, common_entries-cut, common_entries-passed, common_entries-sought}
+use Rattle.qm_combine.proofs.Leading.{head_document-together, leader_bound-common_entries, head_score-together}
 use Rattle.qm_combine.proofs.Uniting.{least_head-push, least_head-most, least_head-le, scores_at-more, scores_at-more_ahead}
 use Rattle.qm_phrase.specs.PhrasePrefixScorer.{phrase_prefix_left}
 use Rattle.qm_phrase.specs.PhraseScorer.{phrase_left}
 use Rattle.qm_term.specs.TermScorer.{scored_left}
 use Rattle.qm_scorer.specs.Group.{IsGroupNode, group_entries, group_lists}
-use Rattle.qm_scorer.specs.Tree.{HasRoom, IsTree, IsTreePlaced, postings_cursors, set_cursors, tree_entries, tree_limits, HasParts, kept_score, tree_head, tree_top, united}
+use Rattle.qm_scorer.specs.Tree.{HasRoom, IsTree, IsTreePlaced, postings_cursors, set_cursors, tree_entries, tree_limits, HasParts, kept_score, tree_head}
+use Rattle.qm_scorer.specs.Tree.{tree_top, united}
 use Rattle.qm_scorer.specs.TreeFacts.{tree-ascends}
 use Rattle.qm_scorer.proofs.Groups.{HasRoom-moved, group-ended, group-enough, group-moved, group-passed, group-reached, group-there, least_head-from}
-use Rattle.qm_scorer.proofs.Depth.{most-set, same-All, same-BitSet, same-Empty, same-Own, same-Phrase, same-PhrasePrefix, same-Term, size-kept, size-led, size-members, size-others, size-united}
+use Rattle.qm_scorer.proofs.Depth.{most-set, same-All, same-BitSet, same-Empty, same-Own, same-Phrase, same-PhrasePrefix, same-Term, size-kept, size-led}
+use Rattle.qm_scorer.proofs.Depth.{size-members, size-others, size-united}
 use Rattle.qm_scorer.proofs.Heads.{tree-head, boost-fits, tree-here}
 use Rattle.qm_scorer.proofs.Moving.{asked, both_found, on_found, placed_where, same, still_found}
-use Rattle.qm_scorer.proofs.MoveArms.{added, answered-as, answered-leaf, head-rescored, moved-Boost, moved-Const, moved-Disjunction, moved-Exclude, moved-Intersection, moved-RequiredOptional, moved-Union, sought-as, sought-leaf, swept-leaf}
+use Rattle.qm_scorer.proofs.MoveArms.{added, answered-as, answered-leaf, head-rescored, moved-Boost, moved-Const, moved-Disjunction, moved-Exclude}
+use Rattle.qm_scorer.proofs.MoveArms.{moved-Intersection, moved-RequiredOptional, moved-Union, sought-as, sought-leaf, swept-leaf}
 use Rattle.qm_scorer.specs.BareFacts.{bare-nil}
 use Rattle.qm_scorer.proofs.Opened.{entries-Disjunction, entries-Intersection, entries-Union, opened-Disjunction, opened-Union, placed-Intersection}
 use Rattle.qm_scorer.specs.declared.any_scorer.AnyScorer.{AnyScorer, size-AnyScorer}
-use Rattle.qm_scorer.specs.declared.any_scorer.AnyScorer.TheVariants.{All as Every, BitSet, Boost, Const, Disjunction, Empty, Exclude, Intersection, Own, Phrase, PhrasePrefix, RequiredOptional, Term, Union, outs-Boost, outs-Const, outs-Disjunction, outs-Exclude, outs-Intersection, outs-RequiredOptional, outs-Union}
+use Rattle.qm_scorer.specs.declared.any_scorer.AnyScorer.TheVariants.{All as Every, BitSet, Boost, Const, Disjunction, Empty, Exclude, Intersection, Own}
+use Rattle.qm_scorer.specs.declared.any_scorer.AnyScorer.TheVariants.{Phrase, PhrasePrefix, RequiredOptional, Term, Union, outs-Boost, outs-Const}
+use Rattle.qm_scorer.specs.declared.any_scorer.AnyScorer.TheVariants.{outs-Disjunction, outs-Exclude, outs-Intersection, outs-RequiredOptional, outs-Union}
 use Rattle.qm_scorer.specs.declared.group_node.Shape.{Shape}
 use Rattle.qm_scorer.specs.declared.intersection_node.IntersectionNode.{size_is-IntersectionNode}
 use Rattle.qm_scorer.proofs.IntersectionArms.{left-document, lent-trees, lent-here, lent-together}
@@ -55,10 +63,16 @@ use Rattle.qm_scorer.specs.AnyCombiner.{any_cleared, any_combined, AnyHasRoom, a
 use Rattle.qm_scorer.specs.Bare.{scores_to}
 use Rattle.qm_scorer.specs.United.{IsUnionNode, union_limits, union_list, union_lists}
 use Rattle.qm_scorer.specs.declared.union_node.UnionNode.{UnionNode, size-UnionNode, size_is-UnionNode}
-use Rattle.qm_scorer.proofs.Refilling.{IsRefilling, refilled-behind, refilled-entries, refilled-here, refilling-first, refilling-more, refilling-none, refilling-room}
+use Rattle.qm_scorer.proofs.Refilling.{IsRefilling, refilled-behind, refilled-entries, refilled-here, refilling-first, refilling-more, refilling-none}
+use Rattle.qm_scorer.proofs.Refilling.{refilling-room}
 use Rattle.qm_scorer.proofs.Taking.{head_score-within, taken-room, taken_to-all, taken_to-more, taken_to-none}
 use Rattle.qm_scorer.proofs.Uniting.{cut_twice, least_head-cut_from, parts-same, united-made}
-use Rattle.qm_scorer.proofs.+moves.Goals.{group_node::danger_group-else-doc-target-via-else-doc-target, group_node::danger_group-else-doc-target-via-then-doc-target+else-target-lt-TERMINATED, group_node::seek_group-else-node-target, group_node::seek_group-then-node-target, union_node::danger_union-else-doc-target-via-else-doc-target, union_node::danger_union-else-doc-target-via-then-doc-target+else-target-lt-TERMINATED, group_node::score_group-else-doc_tree-doc, group_node::score_group-then-doc_tree-doc}
+use Rattle.qm_scorer.proofs.+moves.Goals.{group_node::danger_group-else-doc-target-via-else-doc-target}
+use Rattle.qm_scorer.proofs.+moves.Goals.{group_node::danger_group-else-doc-target-via-then-doc-target+else-target-lt-TERMINATED}
+use Rattle.qm_scorer.proofs.+moves.Goals.{group_node::seek_group-else-node-target, group_node::seek_group-then-node-target}
+use Rattle.qm_scorer.proofs.+moves.Goals.{union_node::danger_union-else-doc-target-via-else-doc-target}
+use Rattle.qm_scorer.proofs.+moves.Goals.{union_node::danger_union-else-doc-target-via-then-doc-target+else-target-lt-TERMINATED}
+use Rattle.qm_scorer.proofs.+moves.Goals.{group_node::score_group-else-doc_tree-doc, group_node::score_group-then-doc_tree-doc}
 use Rattle.std.specs.List.{sum}
 use Rattle.std.proofs.lemmas.List.Sums.{fold-append, sum_by-cons, sum_by_more}
 use Rattle.qm_scorer.specs.MoveFacts.{head_score-bounded}
@@ -67,7 +81,8 @@ use Rattle.qm_combine.proofs.OptionalScores.{scores_at-passed, scores_at-reached
 use Rattle.qm_scorer.specs.AnyCombinerFacts.{any-taken}
 use Rattle.qm_scorer.specs.declared.group_node.GroupNode.{GroupNode, size-GroupNode}
 use Rattle.qm_scorer.proofs.GroupScores.{group-kept, group-score, room-next}
-use Rattle.qm_scorer.proofs.ScoreArms.{asked-Boost, asked-Const, asked-Exclude, asked-RequiredOptional, score_fits, scored-Boost, scored-Const, scored-Disjunction, scored-Exclude, scored-Intersection, scored-RequiredOptional, scored-Union, scored-as, scored-leaf}
+use Rattle.qm_scorer.proofs.ScoreArms.{asked-Boost, asked-Const, asked-Exclude, asked-RequiredOptional, score_fits, scored-Boost, scored-Const}
+use Rattle.qm_scorer.proofs.ScoreArms.{scored-Disjunction, scored-Exclude, scored-Intersection, scored-RequiredOptional, scored-Union, scored-as, scored-leaf}
 use Rattle.qm_scorer.specs.declared.any_scorer.AnyScorer as aq
 use Rattle.qm_scorer.specs.declared.exclude_node.ExcludeNode as q
 use Rattle.qm_scorer.specs.declared.group_node.GroupNode as gq
@@ -88,7 +103,11 @@ exclude_node::pass_excluded-returns-then-not-contains_document g t c =
       out = asks.valid;
       kept = λ here. ap left (sym c.loop-doc.invariant.here) ∙ same c.loop-doc.doc _ _ asks.left ∙ sym asks.member ∙ c.if-not-contains_document.true;
       top = c.loop-doc.invariant.top;
-      depth = omega (arith, c.loop-doc.invariant.depth, size-kept c.loop-doc.node (record c.loop-doc.node { out = c.contains_document.new.scorer }) (omega arith) asks.depth);
+      depth = omega (
+        arith,
+        c.loop-doc.invariant.depth,
+        size-kept c.loop-doc.node (record c.loop-doc.node { out = c.contains_document.new.scorer }) (omega arith) asks.depth,
+      );
     }
 
 pub exclude_node::pass_excluded-returns : goal.exclude_node::pass_excluded-returns
@@ -106,7 +125,12 @@ exclude_node::pass_excluded-returns g t c =
 
 pub exclude_node::pass_excluded-loop-doc-smaller : goal.exclude_node::pass_excluded-loop-doc-smaller
 exclude_node::pass_excluded-loop-doc-smaller g t c =
-    omega (arith, c.seek_tree-doc.ensures.head, ap head_document c.seek_tree-doc.ensures.entries, head_document-from (c.loop-doc.doc + 1) (tree_entries g.S.DocSet c.loop-doc.node.inner) (omega arith))
+    omega (
+      arith,
+      c.seek_tree-doc.ensures.head,
+      ap head_document c.seek_tree-doc.ensures.entries,
+      head_document-from (c.loop-doc.doc + 1) (tree_entries g.S.DocSet c.loop-doc.node.inner) (omega arith),
+    )
 
 pub exclude_node::pass_excluded-loop-doc-preserved : goal.exclude_node::pass_excluded-loop-doc-preserved
 exclude_node::pass_excluded-loop-doc-preserved g t c =
@@ -114,9 +138,12 @@ exclude_node::pass_excluded-loop-doc-preserved g t c =
     let left = has_document (tree_entries g.S.DocSet c.contains_document.new.scorer) in
     let ascends = tree-ascends g.S.DocSet g.met.S.DocSet.ascending c.loop-doc.node.inner c.loop-doc.invariant.inner in
     let here : head_document es < TERMINATED = omega (arith, c.loop-doc.invariant.here) in
-    let out : left (head_document es) ≡ true = ap left (sym c.loop-doc.invariant.here) ∙ same c.loop-doc.doc _ _ c.contains_document.ensures.left ∙ sym c.contains_document.ensures.member ∙ c.if-not-contains_document.false in
-    let next : tree_entries g.S.DocSet c.seek_tree-doc.new.scorer ≡ drop 1 es = c.seek_tree-doc.ensures.entries ∙ ap (λ d. from (d + 1) es) c.loop-doc.invariant.here ∙ from-next 0 _ es ascends in
-    let passed = ap (without left) next ∙ without-stepped left es here out ∙ asked c.loop-doc.doc _ es _ _ ascends c.loop-doc.invariant.here c.contains_document.ensures.left ∙ c.loop-doc.invariant.left in
+    let out : left (head_document es) ≡ true = ap left (sym c.loop-doc.invariant.here)
+    ∙ same c.loop-doc.doc _ _ c.contains_document.ensures.left ∙ sym c.contains_document.ensures.member ∙ c.if-not-contains_document.false in
+    let next : tree_entries g.S.DocSet c.seek_tree-doc.new.scorer ≡ drop 1 es = c.seek_tree-doc.ensures.entries
+    ∙ ap (λ d. from (d + 1) es) c.loop-doc.invariant.here ∙ from-next 0 _ es ascends in
+    let passed = ap (without left) next ∙ without-stepped left es here out
+    ∙ asked c.loop-doc.doc _ es _ _ ascends c.loop-doc.invariant.here c.contains_document.ensures.left ∙ c.loop-doc.invariant.left in
     record {
       here = c.seek_tree-doc.ensures.head;
       left = passed;
@@ -159,7 +186,8 @@ pub exclude_node::contains_document-returns-in-SeekLowerBound : goal.exclude_nod
 exclude_node::contains_document-returns-in-SeekLowerBound g t c =
     let left = tree_entries g.S.DocSet c.danger_tree.new.scorer in
     let ascends = tree-ascends g.S.DocSet g.met.S.DocSet.ascending c.danger_tree.new.scorer c.danger_tree.ensures.valid in
-    let before : c.args.doc < head_document left = omega (arith, c.in-SeekLowerBound.ensures.answer.before_all, c.in-SeekLowerBound.ensures.answer.past c.requires.doc) in
+    let before : c.args.doc < head_document left =
+    omega (arith, c.in-SeekLowerBound.ensures.answer.before_all, c.in-SeekLowerBound.ensures.answer.past c.requires.doc) in
     record {
       member = sym (has_document-before 0 c.args.doc _ left ascends before) ∙ same c.args.doc _ left c.danger_tree.ensures.entries;
       left = c.danger_tree.ensures.entries;
@@ -266,13 +294,15 @@ group_node::reach_members-loop-i-preserved g t c =
     let here : i < length xs = omega (arith, long, c.loop-i-test.true, c.len-i-end.ensures, c.args.node.now.members.ok.0) in
     let item = c.index_mut.result.now in
     let read : tree_entries g.S.DocSet item ≡ tree_entries g.S.DocSet (get_or xs i item) = ap (tree_entries g.S.DocSet) (c.index_mut.ensures.value) in
-    let cut : from d (tree_entries g.S.DocSet x) ≡ from d (tree_entries g.S.DocSet (get_or xs i c.index_mut.result.now)) = ap (from d) (c.reach_tree.ensures.entries ∙ ap (from d) read) ∙ from-from d d _ (omega arith) in
+    let cut : from d (tree_entries g.S.DocSet x) ≡ from d (tree_entries g.S.DocSet (get_or xs i c.index_mut.result.now)) =
+    ap (from d) (c.reach_tree.ensures.entries ∙ ap (from d) read) ∙ from-from d d _ (omega arith) in
     let Stands : AnyScorer g.row.S.Denot → Type 0 = λ m. d ≤ head_document (tree_entries g.S.DocSet m) in
     let grown : take (i + 1) (set xs i x) ≡ take i xs ++ x ∷ [] = take-set_at xs i (i + 1) x (omega arith) here in
     let past : Stands x = rw c.reach_tree.ensures.entries (head_document-from d _ c.requires.target) in
     let more = take-map-set_more (tree_entries g.S.DocSet) xs i x here in
     let pushed = least_head-push (take i (map (tree_entries g.S.DocSet) xs)) (tree_entries g.S.DocSet x) in
-    let smaller = subst (λ (y : AnyScorer g.row.S.Denot). size-AnyScorer g.row.S.Denot x ≤ size-AnyScorer g.row.S.Denot y) c.index_mut.ensures.value c.reach_tree.ensures.depth in
+    let smaller = subst (λ (y : AnyScorer g.row.S.Denot). size-AnyScorer g.row.S.Denot x ≤ size-AnyScorer g.row.S.Denot y)
+    c.index_mut.ensures.value c.reach_tree.ensures.depth in
     record {
       unvisited = search (rules, gq.the_lemmas);
       valid = All-set (IsTree g.S.DocSet) xs i x c.reach_tree.ensures.valid c.loop-i.invariant.valid;
@@ -293,8 +323,10 @@ group_node::reach_members-returns g t c =
     let reached = subst (All (λ x. c.args.target ≤ head_document (tree_entries g.S.DocSet x))) whole c.loop-i.invariant.reached in
     let law = tree-ascends g.S.DocSet g.met.S.DocSet.ascending in
     record {
-      least = c.loop-i.invariant.least ∙ ap least_head (take_all c.loop-i.i (map (tree_entries g.S.DocSet) xs) (omega (arith, length-map xs (tree_entries g.S.DocSet), long)));
-      lists = sym (from-row (tree_entries g.S.DocSet) (tree_limits g.S.DocSet) c.args.target xs (λ k d below. law _ (c.loop-i.invariant.valid k d below)) reached) ∙ c.loop-i.invariant.lists;
+      least = c.loop-i.invariant.least
+          ∙ ap least_head (take_all c.loop-i.i (map (tree_entries g.S.DocSet) xs) (omega (arith, length-map xs (tree_entries g.S.DocSet), long)));
+      lists = sym (from-row (tree_entries g.S.DocSet) (tree_limits g.S.DocSet) c.args.target xs
+          (λ k d below. law _ (c.loop-i.invariant.valid k d below)) reached) ∙ c.loop-i.invariant.lists;
       members = record { valid = c.loop-i.invariant.valid; placed = c.loop-i.invariant.placed };
       shape = c.loop-i.invariant.shape;
       current = c.loop-i.invariant.current;
@@ -327,7 +359,8 @@ group_node::next_match-loop-doc-preserved g t c =
     ] in
     record {
       least = ensured.least;
-      entries = group-passed g.S.DocSet g.met.S.DocSet.ascending d before c.reach_members-doc-in-loop-doc.new.node ensured.shape ensured.lists c.loop-doc.invariant.members.valid c.loop-doc.invariant.least some few ∙ c.loop-doc.invariant.entries;
+      entries = group-passed g.S.DocSet g.met.S.DocSet.ascending d before c.reach_members-doc-in-loop-doc.new.node ensured.shape
+          ensured.lists c.loop-doc.invariant.members.valid c.loop-doc.invariant.least some few ∙ c.loop-doc.invariant.entries;
       members = ensured.members;
       room = HasRoom-moved (d + 1) _ _ _ _ ensured.shape ensured.lists c.loop-doc.invariant.room;
       shape = ensured.shape ∙ c.loop-doc.invariant.shape;
@@ -336,13 +369,20 @@ group_node::next_match-loop-doc-preserved g t c =
 
 pub group_node::next_match-loop-doc-smaller : goal.group_node::next_match-loop-doc-smaller
 group_node::next_match-loop-doc-smaller g t c =
-    omega (arith, c.reach_members-doc-in-loop-doc.ensures.least, ap least_head c.reach_members-doc-in-loop-doc.ensures.lists, least_head-from (c.loop-doc.doc + 1) (group_lists g.S.DocSet c.loop-doc.node) (omega (arith, c.loop-doc-test.true)), c.loop-doc-test.true)
+    omega (
+      arith,
+      c.reach_members-doc-in-loop-doc.ensures.least,
+      ap least_head c.reach_members-doc-in-loop-doc.ensures.lists,
+      least_head-from (c.loop-doc.doc + 1) (group_lists g.S.DocSet c.loop-doc.node) (omega (arith, c.loop-doc-test.true)),
+      c.loop-doc-test.true,
+    )
 
 pub group_node::next_match-returns-after-loop-doc : goal.group_node::next_match-returns-after-loop-doc
 group_node::next_match-returns-after-loop-doc g t c =
     let some = subst (λ (s : Shape). 1 ≤ s.minimum) (sym c.loop-doc.invariant.shape) c.requires.some in
     record {
-      head = group-ended g.S.DocSet g.met.S.DocSet.ascending c.loop-doc.node c.loop-doc.doc c.loop-doc.invariant.members.valid c.loop-doc.invariant.least some (omega (arith, c.loop-doc-test.false));
+      head = group-ended g.S.DocSet g.met.S.DocSet.ascending c.loop-doc.node c.loop-doc.doc c.loop-doc.invariant.members.valid c.loop-doc.invariant.least some
+          (omega (arith, c.loop-doc-test.false));
       least = c.loop-doc.invariant.least;
       entries = c.loop-doc.invariant.entries;
       members = c.loop-doc.invariant.members;
@@ -355,7 +395,8 @@ pub group_node::next_match-returns-else-not-has_enough : goal.group_node::next_m
 group_node::next_match-returns-else-not-has_enough g t c =
     let some = subst (λ (s : Shape). 1 ≤ s.minimum) (sym c.loop-doc.invariant.shape) c.requires.some in
     record {
-      head = group-enough g.S.DocSet g.met.S.DocSet.ascending c.loop-doc.node c.loop-doc.doc c.loop-doc.invariant.members.valid c.loop-doc.invariant.least some c.loop-doc-test.true (c.has_enough.ensures.0 c.if-not-has_enough.false);
+      head = group-enough g.S.DocSet g.met.S.DocSet.ascending c.loop-doc.node c.loop-doc.doc c.loop-doc.invariant.members.valid
+          c.loop-doc.invariant.least some c.loop-doc-test.true (c.has_enough.ensures.0 c.if-not-has_enough.false);
       least = c.loop-doc.invariant.least;
       entries = c.loop-doc.invariant.entries;
       members = c.loop-doc.invariant.members;
@@ -373,8 +414,15 @@ group_node::seek_group-returns g t c =
     elim c.if-node-target.branch [
       | group_node::seek_group-then-node-target w ↦
           let made = w.next_match-node.ensures in
-          let moved = group-moved g.S.DocSet g.met.S.DocSet.ascending c.args.target c.args.node.now _ c.requires.valid (record { valid = made.members.valid; placed = made.members.placed }) made.room made.shape made.head made.least made.entries in
-          rw w.node-is (record { head = made.head; entries = made.entries; valid = moved; shape = made.shape; depth = size-members w.next_match-node.new.node _ _ (omega arith) made.depth })
+          let moved = group-moved g.S.DocSet g.met.S.DocSet.ascending c.args.target c.args.node.now _ c.requires.valid
+          (record { valid = made.members.valid; placed = made.members.placed }) made.room made.shape made.head made.least made.entries in
+          rw w.node-is (record {
+            head = made.head;
+            entries = made.entries;
+            valid = moved;
+            shape = made.shape;
+            depth = size-members w.next_match-node.new.node _ _ (omega arith) made.depth;
+          })
       | group_node::seek_group-else-node-target w ↦
           let there = group-there g.S.DocSet g.met.S.DocSet.ascending c.args.target c.args.node.now c.requires.valid (omega (arith, w.if-node-target.false)) in
           rw w.node-is (record { head = c.requires.valid.own.first; entries = there; valid = c.requires.valid; shape = refl; depth = omega arith })
@@ -396,7 +444,8 @@ group_node::danger_group-returns-else-doc-target g t c =
     let sought = c.seek_group-doc.ensures in
     let head = sought.head in
     let bounds = head_document-bounds 0 _ _ (omega arith) sought.valid.own.bounded.entries in
-    let past : c.args.target ≤ c.seek_group-doc.result = omega (arith, head, ap head_document sought.entries, head_document-from c.args.target (group_entries g.S.DocSet c.args.node.now) c.requires.target) in
+    let past : c.args.target ≤ c.seek_group-doc.result =
+    omega (arith, head, ap head_document sought.entries, head_document-from c.args.target (group_entries g.S.DocSet c.args.node.now) c.requires.target) in
     let answer : IsSeekAnswer c.args.target (group_entries g.S.DocSet c.seek_group-doc.new.node) (SeekLowerBound c.seek_group-doc.result) =
     elim c.else-doc-target.branch [
       | group_node::danger_group-else-doc-target-via-then-doc-target+else-target-lt-TERMINATED w ↦ record {
@@ -418,36 +467,51 @@ pub union_node::take_tree-returns-in-Term : goal.union_node::take_tree-returns-i
 union_node::take_tree-returns-in-Term g t c =
     let e = c.take_in.ensures in
     swept-leaf g.S.DocSet Term (λ s. scored_left s.value) (λ _. refl)
-    (same-Term g.row.S.Denot) c.args.window.now c.take_in.new.self c.args.bound c.take_in.result c.in-Term.leaf c.take_in.new.scorer c.in-Term.leaf-is c.in-Term.is e.head e.left.entries (ap (λ (l : Limits). l.top) e.left.limits) e.left.valid e.left.placed (record { documents = e.documents; beyond = e.beyond; states = e.states; start = e.start; until = e.until; combiner = e.combiner }) (search rules)
+    (same-Term g.row.S.Denot) c.args.window.now c.take_in.new.self c.args.bound c.take_in.result c.in-Term.leaf c.take_in.new.scorer
+    c.in-Term.leaf-is c.in-Term.is e.head e.left.entries (ap (λ (l : Limits). l.top) e.left.limits) e.left.valid e.left.placed
+    (record { documents = e.documents; beyond = e.beyond; states = e.states; start = e.start; until = e.until; combiner = e.combiner }) (search rules)
 
 pub union_node::take_other-returns-in-All : goal.union_node::take_other-returns-in-All
 union_node::take_other-returns-in-All g t c =
     let e = c.take_in.ensures in
-    swept-leaf g.S.DocSet Every all_left (λ _. refl) (same-All g.row.S.Denot) c.args.window.now c.take_in.new.self c.args.bound c.take_in.result c.in-All.leaf c.take_in.new.scorer c.in-All.leaf-is c.in-All.is e.head e.left.entries refl e.left.valid e.left.placed (record { documents = e.documents; beyond = e.beyond; states = e.states; start = e.start; until = e.until; combiner = e.combiner }) (search rules)
+    swept-leaf g.S.DocSet Every all_left (λ _. refl) (same-All g.row.S.Denot) c.args.window.now c.take_in.new.self c.args.bound
+    c.take_in.result c.in-All.leaf c.take_in.new.scorer c.in-All.leaf-is c.in-All.is e.head e.left.entries refl e.left.valid e.left.placed
+    (record { documents = e.documents; beyond = e.beyond; states = e.states; start = e.start; until = e.until; combiner = e.combiner }) (search rules)
 
 pub union_node::take_other-returns-in-Own : goal.union_node::take_other-returns-in-Own
 union_node::take_other-returns-in-Own g t c =
     let e = c.take_in-in-Own.ensures in
     swept-leaf g.S.DocSet Own g.S.DocSet.entries (λ _. refl)
-    (same-Own g.row.S.Denot) c.args.window.now c.take_in-in-Own.new.self c.args.bound c.take_in-in-Own.result c.in-Own.leaf c.take_in-in-Own.new.scorer c.in-Own.leaf-is c.in-Own.is e.head e.left.entries (ap (λ (l : Limits). l.top) e.left.limits) e.left.valid e.left.placed (record { documents = e.documents; beyond = e.beyond; states = e.states; start = e.start; until = e.until; combiner = e.combiner }) (search rules)
+    (same-Own g.row.S.Denot) c.args.window.now c.take_in-in-Own.new.self c.args.bound c.take_in-in-Own.result c.in-Own.leaf c.take_in-in-Own.new.scorer
+    c.in-Own.leaf-is c.in-Own.is e.head e.left.entries (ap (λ (l : Limits). l.top) e.left.limits) e.left.valid e.left.placed
+    (record { documents = e.documents; beyond = e.beyond; states = e.states; start = e.start; until = e.until; combiner = e.combiner }) (search rules)
 
 pub union_node::take_other-returns-in-BitSet : goal.union_node::take_other-returns-in-BitSet
 union_node::take_other-returns-in-BitSet g t c =
     let e = c.take_in-in-BitSet.ensures in
     swept-leaf g.S.DocSet BitSet (λ s. constant_left set_cursors s.value) (λ _. refl)
-    (same-BitSet g.row.S.Denot) c.args.window.now c.take_in-in-BitSet.new.self c.args.bound c.take_in-in-BitSet.result c.in-BitSet.leaf c.take_in-in-BitSet.new.scorer c.in-BitSet.leaf-is c.in-BitSet.is e.head e.left.entries (ap (λ (l : Limits). l.top) e.left.limits) e.left.valid e.left.placed (record { documents = e.documents; beyond = e.beyond; states = e.states; start = e.start; until = e.until; combiner = e.combiner }) (search rules)
+    (same-BitSet g.row.S.Denot) c.args.window.now c.take_in-in-BitSet.new.self c.args.bound c.take_in-in-BitSet.result
+    c.in-BitSet.leaf c.take_in-in-BitSet.new.scorer c.in-BitSet.leaf-is c.in-BitSet.is e.head e.left.entries
+    (ap (λ (l : Limits). l.top) e.left.limits) e.left.valid e.left.placed
+    (record { documents = e.documents; beyond = e.beyond; states = e.states; start = e.start; until = e.until; combiner = e.combiner }) (search rules)
 
 pub union_node::take_other-returns-in-Phrase : goal.union_node::take_other-returns-in-Phrase
 union_node::take_other-returns-in-Phrase g t c =
     let e = c.take_in-in-Phrase.ensures in
     swept-leaf g.S.DocSet Phrase (λ s. phrase_left postings_cursors s.value) (λ _. refl)
-    (same-Phrase g.row.S.Denot) c.args.window.now c.take_in-in-Phrase.new.self c.args.bound c.take_in-in-Phrase.result c.in-Phrase.leaf c.take_in-in-Phrase.new.scorer c.in-Phrase.leaf-is c.in-Phrase.is e.head e.left.entries (ap (λ (l : Limits). l.top) e.left.limits) e.left.valid e.left.placed (record { documents = e.documents; beyond = e.beyond; states = e.states; start = e.start; until = e.until; combiner = e.combiner }) (search rules)
+    (same-Phrase g.row.S.Denot) c.args.window.now c.take_in-in-Phrase.new.self c.args.bound c.take_in-in-Phrase.result
+    c.in-Phrase.leaf c.take_in-in-Phrase.new.scorer c.in-Phrase.leaf-is c.in-Phrase.is e.head e.left.entries
+    (ap (λ (l : Limits). l.top) e.left.limits) e.left.valid e.left.placed
+    (record { documents = e.documents; beyond = e.beyond; states = e.states; start = e.start; until = e.until; combiner = e.combiner }) (search rules)
 
 pub union_node::take_other-returns-in-PhrasePrefix : goal.union_node::take_other-returns-in-PhrasePrefix
 union_node::take_other-returns-in-PhrasePrefix g t c =
     let e = c.take_in-in-PhrasePrefix.ensures in
     swept-leaf g.S.DocSet PhrasePrefix (λ s. phrase_prefix_left postings_cursors s.value) (λ _. refl)
-    (same-PhrasePrefix g.row.S.Denot) c.args.window.now c.take_in-in-PhrasePrefix.new.self c.args.bound c.take_in-in-PhrasePrefix.result c.in-PhrasePrefix.leaf c.take_in-in-PhrasePrefix.new.scorer c.in-PhrasePrefix.leaf-is c.in-PhrasePrefix.is e.head e.left.entries (ap (λ (l : Limits). l.top) e.left.limits) e.left.valid e.left.placed (record { documents = e.documents; beyond = e.beyond; states = e.states; start = e.start; until = e.until; combiner = e.combiner }) (search rules)
+    (same-PhrasePrefix g.row.S.Denot) c.args.window.now c.take_in-in-PhrasePrefix.new.self c.args.bound c.take_in-in-PhrasePrefix.result
+    c.in-PhrasePrefix.leaf c.take_in-in-PhrasePrefix.new.scorer c.in-PhrasePrefix.leaf-is c.in-PhrasePrefix.is e.head e.left.entries
+    (ap (λ (l : Limits). l.top) e.left.limits) e.left.valid e.left.placed
+    (record { documents = e.documents; beyond = e.beyond; states = e.states; start = e.start; until = e.until; combiner = e.combiner }) (search rules)
 
 pub union_node::take_by_steps-loop-doc-init : goal.union_node::take_by_steps-loop-doc-init
 union_node::take_by_steps-loop-doc-init g t c =
@@ -725,13 +789,15 @@ union_node::reach_each-loop-i-preserved g t c =
     let here : i < length xs = omega (arith, long, c.loop-i-test.true, c.len-i-end.ensures, c.args.node.now.members.ok.0) in
     let item = c.index_mut.result.now in
     let read : tree_entries g.S.DocSet item ≡ tree_entries g.S.DocSet (get_or xs i item) = ap (tree_entries g.S.DocSet) (c.index_mut.ensures.value) in
-    let cut : from d (tree_entries g.S.DocSet x) ≡ from d (tree_entries g.S.DocSet (get_or xs i c.index_mut.result.now)) = ap (from d) (c.reach_tree.ensures.entries ∙ ap (from d) read) ∙ from-from d d _ (omega arith) in
+    let cut : from d (tree_entries g.S.DocSet x) ≡ from d (tree_entries g.S.DocSet (get_or xs i c.index_mut.result.now)) =
+    ap (from d) (c.reach_tree.ensures.entries ∙ ap (from d) read) ∙ from-from d d _ (omega arith) in
     let Stands : AnyScorer g.row.S.Denot → Type 0 = λ m. d ≤ head_document (tree_entries g.S.DocSet m) in
     let grown : take (i + 1) (set xs i x) ≡ take i xs ++ x ∷ [] = take-set_at xs i (i + 1) x (omega arith) here in
     let past : Stands x = rw c.reach_tree.ensures.entries (head_document-from d _ c.requires.target) in
     let more = take-map-set_more (tree_entries g.S.DocSet) xs i x here in
     let pushed = least_head-push (take i (map (tree_entries g.S.DocSet) xs)) (tree_entries g.S.DocSet x) in
-    let smaller = subst (λ (y : AnyScorer g.row.S.Denot). size-AnyScorer g.row.S.Denot x ≤ size-AnyScorer g.row.S.Denot y) c.index_mut.ensures.value c.reach_tree.ensures.depth in
+    let smaller = subst (λ (y : AnyScorer g.row.S.Denot). size-AnyScorer g.row.S.Denot x ≤ size-AnyScorer g.row.S.Denot y)
+    c.index_mut.ensures.value c.reach_tree.ensures.depth in
     record {
       unvisited = search (rules, uq.the_lemmas);
       valid = All-set (IsTree g.S.DocSet) xs i x c.reach_tree.ensures.valid c.loop-i.invariant.valid;
@@ -754,8 +820,10 @@ union_node::reach_each-returns g t c =
     let reached = subst (All (λ x. c.args.target ≤ head_document (tree_entries g.S.DocSet x))) whole c.loop-i.invariant.reached in
     let law = tree-ascends g.S.DocSet g.met.S.DocSet.ascending in
     record {
-      least = c.loop-i.invariant.least ∙ ap least_head (take_all c.loop-i.i (map (tree_entries g.S.DocSet) xs) (omega (arith, length-map xs (tree_entries g.S.DocSet), long)));
-      lists = sym (from-row (tree_entries g.S.DocSet) (tree_limits g.S.DocSet) c.args.target xs (λ k d below. law _ (c.loop-i.invariant.valid k d below)) reached) ∙ c.loop-i.invariant.lists;
+      least = c.loop-i.invariant.least
+          ∙ ap least_head (take_all c.loop-i.i (map (tree_entries g.S.DocSet) xs) (omega (arith, length-map xs (tree_entries g.S.DocSet), long)));
+      lists = sym (from-row (tree_entries g.S.DocSet) (tree_limits g.S.DocSet) c.args.target xs
+          (λ k d below. law _ (c.loop-i.invariant.valid k d below)) reached) ∙ c.loop-i.invariant.lists;
       limits = c.loop-i.invariant.limits;
       members = record { valid = c.loop-i.invariant.valid; placed = c.loop-i.invariant.placed };
       window = c.loop-i.invariant.window;
@@ -913,8 +981,10 @@ intersection_node::danger_others-danger_tree-requires g t c κs within =
     let i = c.loop-i.i in
     let xs = c.loop-i.others in
     let here : i < length xs = omega (arith, c.loop-i.auto.others, c.loop-i-test.true) in
-    let smaller = at_most (size-AnyScorer g.row.S.Denot) xs i c.index-others-i.result here in
-    (omega (arith, c.decreases, smaller, size_is-IntersectionNode g.row.S.Denot c.args.node.now, c.loop-i.invariant.depth), (search rules, (c.loop-i.invariant.valid i _ here, omega (arith, c.requires.target))))
+    let smaller = at_most (size-AnyScorer g.row.S.Denot) xs i c.index-others-i.result here in (
+      omega (arith, c.decreases, smaller, size_is-IntersectionNode g.row.S.Denot c.args.node.now, c.loop-i.invariant.depth),
+      (search rules, (c.loop-i.invariant.valid i _ here, omega (arith, c.requires.target))),
+    )
 
 pub intersection_node::danger_others-returns-in-SeekLowerBound : goal.intersection_node::danger_others-returns-in-SeekLowerBound
 intersection_node::danger_others-returns-in-SeekLowerBound g t c =
@@ -924,7 +994,8 @@ intersection_node::danger_others-returns-in-SeekLowerBound g t c =
     let x = c.danger_tree.new.scorer in
     let d = c.args.target in
     let here : i < length xs = omega (arith, c.loop-i.auto.others, c.loop-i-test.true) in
-    let whole = with_items_is c.args.node.now.others (set xs i x) (omega (arith, length-set xs i x, c.loop-i.auto.others, ap length c.as_mut_slice-others.ensures.value, c.args.node.now.others.ok.0)) in
+    let whole = with_items_is c.args.node.now.others (set xs i x)
+    (omega (arith, length-set xs i x, c.loop-i.auto.others, ap length c.as_mut_slice-others.ensures.value, c.args.node.now.others.ok.0)) in
     let answer = c.in-SeekLowerBound.ensures.answer in
     let bounds = head_document-bounds 0 _ _ (omega arith) (tree-ascends g.S.DocSet g.met.S.DocSet.ascending x c.danger_tree.ensures.valid) in
     let there : i < length (set xs i x) = omega (arith, length-set xs i x, here) in
@@ -934,7 +1005,8 @@ intersection_node::danger_others-returns-in-SeekLowerBound g t c =
     let smaller = most-set size xs i x c.index-others-i.result here c.danger_tree.ensures.depth in
     record {
       answer = (answer.past c.requires.target, omega (arith, answer.before_all, bounds.1), (i, x, held, read, answer.before_all));
-      lists = ap (λ ys. map (from d) (map (tree_entries g.S.DocSet) ys)) whole ∙ map-map-set_same (from d) (tree_entries g.S.DocSet) xs i x c.index-others-i.result here cut ∙ c.loop-i.invariant.lists;
+      lists = ap (λ ys. map (from d) (map (tree_entries g.S.DocSet) ys)) whole
+          ∙ map-map-set_same (from d) (tree_entries g.S.DocSet) xs i x c.index-others-i.result here cut ∙ c.loop-i.invariant.lists;
       others = subst (All (IsTree g.S.DocSet)) (sym whole) (All-set (IsTree g.S.DocSet) xs i x c.danger_tree.ensures.valid c.loop-i.invariant.valid);
       leader = refl;
       top = refl;
@@ -944,7 +1016,8 @@ intersection_node::danger_others-returns-in-SeekLowerBound g t c =
 pub intersection_node::danger_others-returns : goal.intersection_node::danger_others-returns
 intersection_node::danger_others-returns g t c =
     let xs = c.loop-i.others in
-    let whole = with_items_is c.args.node.now.others xs (omega (arith, c.loop-i.auto.others, ap length c.as_mut_slice-others.ensures.value, c.args.node.now.others.ok.0)) in
+    let whole = with_items_is c.args.node.now.others xs
+    (omega (arith, c.loop-i.auto.others, ap length c.as_mut_slice-others.ensures.value, c.args.node.now.others.ok.0)) in
     let all : take c.loop-i.i xs ≡ xs = take_all c.loop-i.i xs (omega (arith, c.loop-i.auto.others, c.loop-i-test.false)) in
     let Stands : AnyScorer g.row.S.Denot → Type 0 = λ m. IsTreePlaced g.S.DocSet m × (head_document (tree_entries g.S.DocSet m) ≡ c.args.target) in
     record {
@@ -966,9 +1039,12 @@ intersection_node::align-loop-candidate-preserved g t c =
     let es = tree_entries g.S.DocSet old.leader in
     let ascends = law old.leader h.leader in
     let there : c.loop-candidate.candidate ≤ head_document es = omega (arith, h.here) in
-    let passed = common_entries-passed (IsTree g.S.DocSet) (tree_limits g.S.DocSet) (tree_entries g.S.DocSet) law held_sum c.loop-candidate.candidate _ es old.others.items n.others.items there ascends h.others c.in-SeekLowerBound.ensures.others c.in-SeekLowerBound.ensures.lists in
-    let caught_up = common_entries-caught_up (IsTree g.S.DocSet) (tree_limits g.S.DocSet) (tree_entries g.S.DocSet) law held_sum c.in-SeekLowerBound.bound _ es n.others.items answer.1 ascends c.in-SeekLowerBound.ensures.others answer.2 in
-    let cut = ap (λ r. common_entries held_sum (r ∷ map (tree_entries g.S.DocSet) n.others.items)) (c.seek_tree-candidate.ensures.entries ∙ ap (λ x. from c.in-SeekLowerBound.bound (tree_entries g.S.DocSet x)) c.in-SeekLowerBound.ensures.leader) in
+    let passed = common_entries-passed (IsTree g.S.DocSet) (tree_limits g.S.DocSet) (tree_entries g.S.DocSet) law held_sum c.loop-candidate.candidate
+    _ es old.others.items n.others.items there ascends h.others c.in-SeekLowerBound.ensures.others c.in-SeekLowerBound.ensures.lists in
+    let caught_up = common_entries-caught_up (IsTree g.S.DocSet) (tree_limits g.S.DocSet)
+    (tree_entries g.S.DocSet) law held_sum c.in-SeekLowerBound.bound _ es n.others.items answer.1 ascends c.in-SeekLowerBound.ensures.others answer.2 in
+    let cut = ap (λ r. common_entries held_sum (r ∷ map (tree_entries g.S.DocSet) n.others.items))
+    (c.seek_tree-candidate.ensures.entries ∙ ap (λ x. from c.in-SeekLowerBound.bound (tree_entries g.S.DocSet x)) c.in-SeekLowerBound.ensures.leader) in
     record {
       here = c.seek_tree-candidate.ensures.head;
       placed = c.seek_tree-candidate.ensures.placed;
@@ -982,18 +1058,31 @@ intersection_node::align-loop-candidate-preserved g t c =
 pub intersection_node::align-loop-candidate-smaller : goal.intersection_node::align-loop-candidate-smaller
 intersection_node::align-loop-candidate-smaller g t c =
     let answer = c.in-SeekLowerBound.ensures.answer in
-    omega (arith, answer.0, c.seek_tree-candidate.ensures.head, ap head_document c.seek_tree-candidate.ensures.entries, head_document-from c.in-SeekLowerBound.bound (tree_entries g.S.DocSet c.danger_others.new.node.leader) answer.1, c.loop-candidate-test.true)
+    omega (
+      arith,
+      answer.0,
+      c.seek_tree-candidate.ensures.head,
+      ap head_document c.seek_tree-candidate.ensures.entries,
+      head_document-from c.in-SeekLowerBound.bound (tree_entries g.S.DocSet c.danger_others.new.node.leader) answer.1,
+      c.loop-candidate-test.true,
+    )
 
 pub intersection_node::align-seek_tree-candidate-requires : goal.intersection_node::align-seek_tree-candidate-requires
-intersection_node::align-seek_tree-candidate-requires g t c κs within =
-    (search (rules, iq.the_lemmas), (search rules, (subst (IsTree g.S.DocSet) (sym c.in-SeekLowerBound.ensures.leader) c.loop-candidate.invariant.leader, c.in-SeekLowerBound.ensures.answer.1)))
+intersection_node::align-seek_tree-candidate-requires g t c κs within = (
+  search (rules, iq.the_lemmas),
+  (
+    search rules,
+    (subst (IsTree g.S.DocSet) (sym c.in-SeekLowerBound.ensures.leader) c.loop-candidate.invariant.leader, c.in-SeekLowerBound.ensures.answer.1),
+  ),
+)
 
 pub intersection_node::align-returns : goal.intersection_node::align-returns
 intersection_node::align-returns g t c =
     let law = tree-ascends g.S.DocSet g.met.S.DocSet.ascending in
     let h = c.loop-candidate.invariant in
     record {
-      head = h.here ∙ head_document-together (IsTree g.S.DocSet) (tree_limits g.S.DocSet) (tree_entries g.S.DocSet) law held_sum (IsTreePlaced g.S.DocSet) _ _ c.loop-candidate.node.others.items (law _ h.leader) h.others (λ below. absurd (omega (arith, h.here, c.loop-candidate-test.false)));
+      head = h.here ∙ head_document-together (IsTree g.S.DocSet) (tree_limits g.S.DocSet) (tree_entries g.S.DocSet) law held_sum (IsTreePlaced g.S.DocSet)
+          _ _ c.loop-candidate.node.others.items (law _ h.leader) h.others (λ below. absurd (omega (arith, h.here, c.loop-candidate-test.false)));
       entries = h.entries;
       trees = record { leader = h.leader; others = h.others };
       placed = record { leader = h.placed; others = λ below. absurd (omega (arith, h.here, c.loop-candidate-test.false)) };
@@ -1008,14 +1097,17 @@ intersection_node::align-returns-in-Found g t c =
     let old = c.loop-candidate.node in
     let n = c.danger_others.new.node in
     let found = c.in-Found.ensures in
-    let here : c.loop-candidate.candidate ≡ head_document (tree_entries g.S.DocSet n.leader) = h.here ∙ ap (λ x. head_document (tree_entries g.S.DocSet x)) (sym found.leader) in
+    let here : c.loop-candidate.candidate ≡ head_document (tree_entries g.S.DocSet n.leader) = h.here
+    ∙ ap (λ x. head_document (tree_entries g.S.DocSet x)) (sym found.leader) in
     let leads = subst (IsTree g.S.DocSet) (sym found.leader) h.leader in
     let together = subst (λ d. StandOn (IsTreePlaced g.S.DocSet) (tree_entries g.S.DocSet) d n.others.items) here found.answer in
     let there : c.loop-candidate.candidate ≤ head_document (tree_entries g.S.DocSet old.leader) = omega (arith, h.here) in
     record {
-      head = here ∙ head_document-together (IsTree g.S.DocSet) (tree_limits g.S.DocSet) (tree_entries g.S.DocSet) law held_sum (IsTreePlaced g.S.DocSet) _ _ n.others.items (law n.leader leads) found.others (λ below. together);
+      head = here ∙ head_document-together (IsTree g.S.DocSet) (tree_limits g.S.DocSet) (tree_entries g.S.DocSet) law held_sum
+          (IsTreePlaced g.S.DocSet) _ _ n.others.items (law n.leader leads) found.others (λ below. together);
       entries = ap (λ x. common_entries held_sum (tree_entries g.S.DocSet x ∷ map (tree_entries g.S.DocSet) n.others.items)) found.leader
-          ∙ common_entries-passed (IsTree g.S.DocSet) (tree_limits g.S.DocSet) (tree_entries g.S.DocSet) law held_sum c.loop-candidate.candidate _ (tree_entries g.S.DocSet old.leader) old.others.items n.others.items there (law _ h.leader) h.others found.others found.lists
+          ∙ common_entries-passed (IsTree g.S.DocSet) (tree_limits g.S.DocSet) (tree_entries g.S.DocSet) law held_sum c.loop-candidate.candidate _
+          (tree_entries g.S.DocSet old.leader) old.others.items n.others.items there (law _ h.leader) h.others found.others found.lists
           ∙ h.entries;
       trees = record { leader = leads; others = found.others };
       placed = record { leader = subst (IsTreePlaced g.S.DocSet) (sym found.leader) h.placed; others = λ below. together };
@@ -1031,13 +1123,17 @@ intersection_node::danger_intersection-returns-in-Found g t c =
     let asks = c.danger_others.ensures in
     let found = c.in-Found.ensures in
     let leads = subst (IsTree g.S.DocSet) (sym asks.leader) found.valid in
-    let here : head_document (tree_entries g.S.DocSet n.leader) ≡ c.args.target = ap (λ x. head_document (tree_entries g.S.DocSet x)) asks.leader ∙ found.answer.here in
+    let here : head_document (tree_entries g.S.DocSet n.leader) ≡ c.args.target = ap (λ x. head_document (tree_entries g.S.DocSet x)) asks.leader
+    ∙ found.answer.here in
     let cut = ap (tree_entries g.S.DocSet) asks.leader ∙ found.entries in
     record {
-      answer = IsSeekAnswer-shared (IsTree g.S.DocSet) (tree_limits g.S.DocSet) (tree_entries g.S.DocSet) law held_sum (IsTreePlaced g.S.DocSet) c.args.target _ _ n.others.items c.danger_others.result found.answer.below_end (law n.leader leads) here asks.others asks.answer;
-      entries = common_entries-sought (IsTree g.S.DocSet) (tree_limits g.S.DocSet) (tree_entries g.S.DocSet) law held_sum c.args.target _ _ _ old.others.items n.others.items c.requires.target (law _ c.requires.trees.leader) cut c.requires.trees.others asks.others asks.lists;
+      answer = IsSeekAnswer-shared (IsTree g.S.DocSet) (tree_limits g.S.DocSet) (tree_entries g.S.DocSet) law held_sum (IsTreePlaced g.S.DocSet)
+          c.args.target _ _ n.others.items c.danger_others.result found.answer.below_end (law n.leader leads) here asks.others asks.answer;
+      entries = common_entries-sought (IsTree g.S.DocSet) (tree_limits g.S.DocSet) (tree_entries g.S.DocSet) law held_sum c.args.target _ _ _
+          old.others.items n.others.items c.requires.target (law _ c.requires.trees.leader) cut c.requires.trees.others asks.others asks.lists;
       trees = record { leader = leads; others = asks.others };
-      placed = placed_where g.S.DocSet c.args.target n (sym here) (subst (IsTreePlaced g.S.DocSet) (sym asks.leader) found.placed) c.danger_others.result asks.answer;
+      placed = placed_where g.S.DocSet c.args.target n (sym here)
+          (subst (IsTreePlaced g.S.DocSet) (sym asks.leader) found.placed) c.danger_others.result asks.answer;
       top = asks.top;
       depth = omega (arith, asks.depth, size-led old c.danger_tree.new.scorer found.depth);
     }
@@ -1049,11 +1145,13 @@ intersection_node::danger_intersection-returns-in-SeekLowerBound g t c =
     let bound = c.in-SeekLowerBound.ensures in
     record {
       answer = record {
-        before_all = leader_bound-common_entries (IsTree g.S.DocSet) (tree_limits g.S.DocSet) (tree_entries g.S.DocSet) law held_sum c.in-SeekLowerBound.bound _ _ old.others.items bound.answer.before_all (law _ bound.valid) c.requires.trees.others;
+        before_all = leader_bound-common_entries (IsTree g.S.DocSet) (tree_limits g.S.DocSet) (tree_entries g.S.DocSet) law held_sum
+            c.in-SeekLowerBound.bound _ _ old.others.items bound.answer.before_all (law _ bound.valid) c.requires.trees.others;
         past = bound.answer.past;
         at_end = bound.answer.at_end;
       };
-      entries = common_entries-sought (IsTree g.S.DocSet) (tree_limits g.S.DocSet) (tree_entries g.S.DocSet) law held_sum c.args.target _ _ _ old.others.items old.others.items c.requires.target (law _ c.requires.trees.leader) bound.entries c.requires.trees.others c.requires.trees.others refl;
+      entries = common_entries-sought (IsTree g.S.DocSet) (tree_limits g.S.DocSet) (tree_entries g.S.DocSet) law held_sum c.args.target _ _ _ old.others.items
+          old.others.items c.requires.target (law _ c.requires.trees.leader) bound.entries c.requires.trees.others c.requires.trees.others refl;
       trees = record { leader = bound.valid; others = c.requires.trees.others };
       placed = tt;
       top = refl;
@@ -1069,7 +1167,8 @@ intersection_node::seek_intersection-returns g t c =
     let cut = ap (λ es. common_entries held_sum (es ∷ map (tree_entries g.S.DocSet) old.others.items)) sought.entries in
     record {
       head = aligned.head;
-      entries = aligned.entries ∙ cut ∙ common_entries-cut (IsTree g.S.DocSet) (tree_limits g.S.DocSet) (tree_entries g.S.DocSet) law held_sum c.args.target _ _ old.others.items c.requires.target (law _ c.requires.trees.leader) c.requires.trees.others;
+      entries = aligned.entries ∙ cut ∙ common_entries-cut (IsTree g.S.DocSet) (tree_limits g.S.DocSet)
+          (tree_entries g.S.DocSet) law held_sum c.args.target _ _ old.others.items c.requires.target (law _ c.requires.trees.leader) c.requires.trees.others;
       trees = aligned.trees;
       placed = aligned.placed;
       top = aligned.top;
@@ -1080,104 +1179,155 @@ intersection_node::seek_intersection-returns g t c =
 
 pub any_scorer::seek_tree-returns-in-Term : goal.any_scorer::seek_tree-returns-in-Term
 any_scorer::seek_tree-returns-in-Term g t c =
-    sought-leaf g.S.DocSet Term (λ s. scored_left s.value) (λ _. refl) (same-Term g.row.S.Denot) c.args.target c.seek.result c.in-Term.leaf c.seek.new.self c.in-Term.leaf-is c.in-Term.is c.seek.ensures.head c.seek.ensures.entries (ap (λ (l : Limits). l.top) c.seek.ensures.limits) c.seek.ensures.valid c.seek.ensures.placed (search rules)
+    sought-leaf g.S.DocSet Term (λ s. scored_left s.value) (λ _. refl) (same-Term g.row.S.Denot) c.args.target c.seek.result
+    c.in-Term.leaf c.seek.new.self c.in-Term.leaf-is c.in-Term.is c.seek.ensures.head c.seek.ensures.entries
+    (ap (λ (l : Limits). l.top) c.seek.ensures.limits) c.seek.ensures.valid c.seek.ensures.placed (search rules)
 
 pub any_scorer::seek_other-returns-in-Empty : goal.any_scorer::seek_other-returns-in-Empty
 any_scorer::seek_other-returns-in-Empty g t c =
-    sought-leaf g.S.DocSet Empty (λ _. []) (λ _. sym bare-nil) (same-Empty g.row.S.Denot) c.args.target c.seek.result c.in-Empty.leaf c.seek.new.self c.in-Empty.leaf-is c.in-Empty.is c.seek.ensures.head c.seek.ensures.entries refl tt c.seek.ensures.placed (search rules)
+    sought-leaf g.S.DocSet Empty (λ _. []) (λ _. sym bare-nil) (same-Empty g.row.S.Denot) c.args.target c.seek.result c.in-Empty.leaf
+    c.seek.new.self c.in-Empty.leaf-is c.in-Empty.is c.seek.ensures.head c.seek.ensures.entries refl tt c.seek.ensures.placed (search rules)
 
 pub any_scorer::seek_other-returns-in-All : goal.any_scorer::seek_other-returns-in-All
 any_scorer::seek_other-returns-in-All g t c =
-    sought-leaf g.S.DocSet Every all_left (λ _. refl) (same-All g.row.S.Denot) c.args.target c.seek-in-All.result c.in-All.leaf c.seek-in-All.new.self c.in-All.leaf-is c.in-All.is c.seek-in-All.ensures.head c.seek-in-All.ensures.entries refl c.seek-in-All.ensures.valid c.seek-in-All.ensures.placed (search rules)
+    sought-leaf g.S.DocSet Every all_left (λ _. refl)
+    (same-All g.row.S.Denot) c.args.target c.seek-in-All.result c.in-All.leaf c.seek-in-All.new.self c.in-All.leaf-is c.in-All.is
+    c.seek-in-All.ensures.head c.seek-in-All.ensures.entries refl c.seek-in-All.ensures.valid c.seek-in-All.ensures.placed (search rules)
 
 pub any_scorer::seek_other-returns-in-Own : goal.any_scorer::seek_other-returns-in-Own
 any_scorer::seek_other-returns-in-Own g t c =
-    sought-leaf g.S.DocSet Own g.S.DocSet.entries (λ _. refl) (same-Own g.row.S.Denot) c.args.target c.seek-in-Own.result c.in-Own.leaf c.seek-in-Own.new.self c.in-Own.leaf-is c.in-Own.is c.seek-in-Own.ensures.head c.seek-in-Own.ensures.entries (ap (λ (l : Limits). l.top) c.seek-in-Own.ensures.limits) c.seek-in-Own.ensures.valid c.seek-in-Own.ensures.placed (search rules)
+    sought-leaf g.S.DocSet Own g.S.DocSet.entries (λ _. refl) (same-Own g.row.S.Denot) c.args.target c.seek-in-Own.result
+    c.in-Own.leaf c.seek-in-Own.new.self c.in-Own.leaf-is c.in-Own.is c.seek-in-Own.ensures.head c.seek-in-Own.ensures.entries
+    (ap (λ (l : Limits). l.top) c.seek-in-Own.ensures.limits) c.seek-in-Own.ensures.valid c.seek-in-Own.ensures.placed (search rules)
 
 pub any_scorer::seek_other-returns-in-Term : goal.any_scorer::seek_other-returns-in-Term
 any_scorer::seek_other-returns-in-Term g t c =
-    sought-leaf g.S.DocSet Term (λ s. scored_left s.value) (λ _. refl) (same-Term g.row.S.Denot) c.args.target c.seek-in-Term.result c.in-Term.leaf c.seek-in-Term.new.self c.in-Term.leaf-is c.in-Term.is c.seek-in-Term.ensures.head c.seek-in-Term.ensures.entries (ap (λ (l : Limits). l.top) c.seek-in-Term.ensures.limits) c.seek-in-Term.ensures.valid c.seek-in-Term.ensures.placed (search rules)
+    sought-leaf g.S.DocSet Term (λ s. scored_left s.value) (λ _. refl) (same-Term g.row.S.Denot) c.args.target c.seek-in-Term.result
+    c.in-Term.leaf c.seek-in-Term.new.self c.in-Term.leaf-is c.in-Term.is c.seek-in-Term.ensures.head c.seek-in-Term.ensures.entries
+    (ap (λ (l : Limits). l.top) c.seek-in-Term.ensures.limits) c.seek-in-Term.ensures.valid c.seek-in-Term.ensures.placed (search rules)
 
 pub any_scorer::seek_other-returns-in-BitSet : goal.any_scorer::seek_other-returns-in-BitSet
 any_scorer::seek_other-returns-in-BitSet g t c =
-    sought-leaf g.S.DocSet BitSet (λ s. constant_left set_cursors s.value) (λ _. refl) (same-BitSet g.row.S.Denot) c.args.target c.seek-in-BitSet.result c.in-BitSet.leaf c.seek-in-BitSet.new.self c.in-BitSet.leaf-is c.in-BitSet.is c.seek-in-BitSet.ensures.head c.seek-in-BitSet.ensures.entries (ap (λ (l : Limits). l.top) c.seek-in-BitSet.ensures.limits) c.seek-in-BitSet.ensures.valid c.seek-in-BitSet.ensures.placed (search rules)
+    sought-leaf g.S.DocSet BitSet (λ s. constant_left set_cursors s.value) (λ _. refl) (same-BitSet g.row.S.Denot) c.args.target c.seek-in-BitSet.result
+    c.in-BitSet.leaf c.seek-in-BitSet.new.self c.in-BitSet.leaf-is c.in-BitSet.is c.seek-in-BitSet.ensures.head c.seek-in-BitSet.ensures.entries
+    (ap (λ (l : Limits). l.top) c.seek-in-BitSet.ensures.limits) c.seek-in-BitSet.ensures.valid c.seek-in-BitSet.ensures.placed (search rules)
 
 pub any_scorer::seek_other-returns-in-Phrase : goal.any_scorer::seek_other-returns-in-Phrase
 any_scorer::seek_other-returns-in-Phrase g t c =
-    sought-leaf g.S.DocSet Phrase (λ s. phrase_left postings_cursors s.value) (λ _. refl) (same-Phrase g.row.S.Denot) c.args.target c.seek-in-Phrase.result c.in-Phrase.leaf c.seek-in-Phrase.new.self c.in-Phrase.leaf-is c.in-Phrase.is c.seek-in-Phrase.ensures.head c.seek-in-Phrase.ensures.entries (ap (λ (l : Limits). l.top) c.seek-in-Phrase.ensures.limits) c.seek-in-Phrase.ensures.valid c.seek-in-Phrase.ensures.placed (search rules)
+    sought-leaf g.S.DocSet Phrase (λ s. phrase_left postings_cursors s.value) (λ _. refl) (same-Phrase g.row.S.Denot) c.args.target c.seek-in-Phrase.result
+    c.in-Phrase.leaf c.seek-in-Phrase.new.self c.in-Phrase.leaf-is c.in-Phrase.is c.seek-in-Phrase.ensures.head c.seek-in-Phrase.ensures.entries
+    (ap (λ (l : Limits). l.top) c.seek-in-Phrase.ensures.limits) c.seek-in-Phrase.ensures.valid c.seek-in-Phrase.ensures.placed (search rules)
 
 pub any_scorer::seek_other-returns-in-PhrasePrefix : goal.any_scorer::seek_other-returns-in-PhrasePrefix
 any_scorer::seek_other-returns-in-PhrasePrefix g t c =
-    sought-leaf g.S.DocSet PhrasePrefix (λ s. phrase_prefix_left postings_cursors s.value) (λ _. refl) (same-PhrasePrefix g.row.S.Denot) c.args.target c.seek-in-PhrasePrefix.result c.in-PhrasePrefix.leaf c.seek-in-PhrasePrefix.new.self c.in-PhrasePrefix.leaf-is c.in-PhrasePrefix.is c.seek-in-PhrasePrefix.ensures.head c.seek-in-PhrasePrefix.ensures.entries (ap (λ (l : Limits). l.top) c.seek-in-PhrasePrefix.ensures.limits) c.seek-in-PhrasePrefix.ensures.valid c.seek-in-PhrasePrefix.ensures.placed (search rules)
+    sought-leaf g.S.DocSet PhrasePrefix (λ s. phrase_prefix_left postings_cursors s.value) (λ _. refl) (same-PhrasePrefix g.row.S.Denot) c.args.target
+    c.seek-in-PhrasePrefix.result c.in-PhrasePrefix.leaf c.seek-in-PhrasePrefix.new.self c.in-PhrasePrefix.leaf-is c.in-PhrasePrefix.is
+    c.seek-in-PhrasePrefix.ensures.head c.seek-in-PhrasePrefix.ensures.entries (ap (λ (l : Limits). l.top) c.seek-in-PhrasePrefix.ensures.limits)
+    c.seek-in-PhrasePrefix.ensures.valid c.seek-in-PhrasePrefix.ensures.placed (search rules)
 
 pub any_scorer::danger_tree-returns-in-Term : goal.any_scorer::danger_tree-returns-in-Term
 any_scorer::danger_tree-returns-in-Term g t c =
-    answered-leaf g.S.DocSet Term (λ s. scored_left s.value) (λ _. refl) (same-Term g.row.S.Denot) c.args.target c.seek_danger.result c.in-Term.leaf c.seek_danger.new.self c.in-Term.leaf-is c.in-Term.is c.seek_danger.ensures.answer c.seek_danger.ensures.entries (ap (λ (l : Limits). l.top) c.seek_danger.ensures.limits) c.seek_danger.ensures.valid c.seek_danger.ensures.placed (search rules)
+    answered-leaf g.S.DocSet Term (λ s. scored_left s.value) (λ _. refl) (same-Term g.row.S.Denot) c.args.target c.seek_danger.result
+    c.in-Term.leaf c.seek_danger.new.self c.in-Term.leaf-is c.in-Term.is c.seek_danger.ensures.answer c.seek_danger.ensures.entries
+    (ap (λ (l : Limits). l.top) c.seek_danger.ensures.limits) c.seek_danger.ensures.valid c.seek_danger.ensures.placed (search rules)
 
 pub any_scorer::danger_other-returns-in-Empty : goal.any_scorer::danger_other-returns-in-Empty
 any_scorer::danger_other-returns-in-Empty g t c =
-    answered-leaf g.S.DocSet Empty (λ _. []) (λ _. sym bare-nil) (same-Empty g.row.S.Denot) c.args.target c.seek_danger.result c.in-Empty.leaf c.seek_danger.new.self c.in-Empty.leaf-is c.in-Empty.is c.seek_danger.ensures.answer c.seek_danger.ensures.entries refl tt c.seek_danger.ensures.placed (search rules)
+    answered-leaf g.S.DocSet Empty (λ _. []) (λ _. sym bare-nil)
+    (same-Empty g.row.S.Denot) c.args.target c.seek_danger.result c.in-Empty.leaf c.seek_danger.new.self c.in-Empty.leaf-is
+    c.in-Empty.is c.seek_danger.ensures.answer c.seek_danger.ensures.entries refl tt c.seek_danger.ensures.placed (search rules)
 
 pub any_scorer::danger_other-returns-in-All : goal.any_scorer::danger_other-returns-in-All
 any_scorer::danger_other-returns-in-All g t c =
-    answered-leaf g.S.DocSet Every all_left (λ _. refl) (same-All g.row.S.Denot) c.args.target c.seek_danger-in-All.result c.in-All.leaf c.seek_danger-in-All.new.self c.in-All.leaf-is c.in-All.is c.seek_danger-in-All.ensures.answer c.seek_danger-in-All.ensures.entries refl c.seek_danger-in-All.ensures.valid c.seek_danger-in-All.ensures.placed (search rules)
+    answered-leaf g.S.DocSet Every all_left (λ _. refl) (same-All g.row.S.Denot) c.args.target c.seek_danger-in-All.result
+    c.in-All.leaf c.seek_danger-in-All.new.self c.in-All.leaf-is c.in-All.is c.seek_danger-in-All.ensures.answer
+    c.seek_danger-in-All.ensures.entries refl c.seek_danger-in-All.ensures.valid c.seek_danger-in-All.ensures.placed (search rules)
 
 pub any_scorer::danger_other-returns-in-Own : goal.any_scorer::danger_other-returns-in-Own
 any_scorer::danger_other-returns-in-Own g t c =
-    answered-leaf g.S.DocSet Own g.S.DocSet.entries (λ _. refl) (same-Own g.row.S.Denot) c.args.target c.seek_danger-in-Own.result c.in-Own.leaf c.seek_danger-in-Own.new.self c.in-Own.leaf-is c.in-Own.is c.seek_danger-in-Own.ensures.answer c.seek_danger-in-Own.ensures.entries (ap (λ (l : Limits). l.top) c.seek_danger-in-Own.ensures.limits) c.seek_danger-in-Own.ensures.valid c.seek_danger-in-Own.ensures.placed (search rules)
+    answered-leaf g.S.DocSet Own g.S.DocSet.entries (λ _. refl) (same-Own g.row.S.Denot) c.args.target c.seek_danger-in-Own.result c.in-Own.leaf
+    c.seek_danger-in-Own.new.self c.in-Own.leaf-is c.in-Own.is c.seek_danger-in-Own.ensures.answer c.seek_danger-in-Own.ensures.entries
+    (ap (λ (l : Limits). l.top) c.seek_danger-in-Own.ensures.limits) c.seek_danger-in-Own.ensures.valid c.seek_danger-in-Own.ensures.placed (search rules)
 
 pub any_scorer::danger_other-returns-in-Term : goal.any_scorer::danger_other-returns-in-Term
 any_scorer::danger_other-returns-in-Term g t c =
-    answered-leaf g.S.DocSet Term (λ s. scored_left s.value) (λ _. refl) (same-Term g.row.S.Denot) c.args.target c.seek_danger-in-Term.result c.in-Term.leaf c.seek_danger-in-Term.new.self c.in-Term.leaf-is c.in-Term.is c.seek_danger-in-Term.ensures.answer c.seek_danger-in-Term.ensures.entries (ap (λ (l : Limits). l.top) c.seek_danger-in-Term.ensures.limits) c.seek_danger-in-Term.ensures.valid c.seek_danger-in-Term.ensures.placed (search rules)
+    answered-leaf g.S.DocSet Term (λ s. scored_left s.value) (λ _. refl) (same-Term g.row.S.Denot) c.args.target c.seek_danger-in-Term.result c.in-Term.leaf
+    c.seek_danger-in-Term.new.self c.in-Term.leaf-is c.in-Term.is c.seek_danger-in-Term.ensures.answer c.seek_danger-in-Term.ensures.entries (ap
+    (λ (l : Limits). l.top) c.seek_danger-in-Term.ensures.limits) c.seek_danger-in-Term.ensures.valid c.seek_danger-in-Term.ensures.placed (search rules)
 
 pub any_scorer::danger_other-returns-in-BitSet : goal.any_scorer::danger_other-returns-in-BitSet
 any_scorer::danger_other-returns-in-BitSet g t c =
-    answered-leaf g.S.DocSet BitSet (λ s. constant_left set_cursors s.value) (λ _. refl) (same-BitSet g.row.S.Denot) c.args.target c.seek_danger-in-BitSet.result c.in-BitSet.leaf c.seek_danger-in-BitSet.new.self c.in-BitSet.leaf-is c.in-BitSet.is c.seek_danger-in-BitSet.ensures.answer c.seek_danger-in-BitSet.ensures.entries (ap (λ (l : Limits). l.top) c.seek_danger-in-BitSet.ensures.limits) c.seek_danger-in-BitSet.ensures.valid c.seek_danger-in-BitSet.ensures.placed (search rules)
+    answered-leaf g.S.DocSet BitSet (λ s. constant_left set_cursors s.value) (λ _. refl) (same-BitSet g.row.S.Denot) c.args.target
+    c.seek_danger-in-BitSet.result c.in-BitSet.leaf c.seek_danger-in-BitSet.new.self c.in-BitSet.leaf-is c.in-BitSet.is
+    c.seek_danger-in-BitSet.ensures.answer c.seek_danger-in-BitSet.ensures.entries (ap (λ (l : Limits). l.top) c.seek_danger-in-BitSet.ensures.limits)
+    c.seek_danger-in-BitSet.ensures.valid c.seek_danger-in-BitSet.ensures.placed (search rules)
 
 pub any_scorer::danger_other-returns-in-Phrase : goal.any_scorer::danger_other-returns-in-Phrase
 any_scorer::danger_other-returns-in-Phrase g t c =
-    answered-leaf g.S.DocSet Phrase (λ s. phrase_left postings_cursors s.value) (λ _. refl) (same-Phrase g.row.S.Denot) c.args.target c.seek_danger-in-Phrase.result c.in-Phrase.leaf c.seek_danger-in-Phrase.new.self c.in-Phrase.leaf-is c.in-Phrase.is c.seek_danger-in-Phrase.ensures.answer c.seek_danger-in-Phrase.ensures.entries (ap (λ (l : Limits). l.top) c.seek_danger-in-Phrase.ensures.limits) c.seek_danger-in-Phrase.ensures.valid c.seek_danger-in-Phrase.ensures.placed (search rules)
+    answered-leaf g.S.DocSet Phrase (λ s. phrase_left postings_cursors s.value) (λ _. refl) (same-Phrase g.row.S.Denot) c.args.target
+    c.seek_danger-in-Phrase.result c.in-Phrase.leaf c.seek_danger-in-Phrase.new.self c.in-Phrase.leaf-is c.in-Phrase.is
+    c.seek_danger-in-Phrase.ensures.answer c.seek_danger-in-Phrase.ensures.entries (ap (λ (l : Limits). l.top) c.seek_danger-in-Phrase.ensures.limits)
+    c.seek_danger-in-Phrase.ensures.valid c.seek_danger-in-Phrase.ensures.placed (search rules)
 
 pub any_scorer::danger_other-returns-in-PhrasePrefix : goal.any_scorer::danger_other-returns-in-PhrasePrefix
 any_scorer::danger_other-returns-in-PhrasePrefix g t c =
-    answered-leaf g.S.DocSet PhrasePrefix (λ s. phrase_prefix_left postings_cursors s.value) (λ _. refl) (same-PhrasePrefix g.row.S.Denot) c.args.target c.seek_danger-in-PhrasePrefix.result c.in-PhrasePrefix.leaf c.seek_danger-in-PhrasePrefix.new.self c.in-PhrasePrefix.leaf-is c.in-PhrasePrefix.is c.seek_danger-in-PhrasePrefix.ensures.answer c.seek_danger-in-PhrasePrefix.ensures.entries (ap (λ (l : Limits). l.top) c.seek_danger-in-PhrasePrefix.ensures.limits) c.seek_danger-in-PhrasePrefix.ensures.valid c.seek_danger-in-PhrasePrefix.ensures.placed (search rules)
+    answered-leaf g.S.DocSet PhrasePrefix (λ s. phrase_prefix_left postings_cursors s.value) (λ _. refl) (same-PhrasePrefix g.row.S.Denot)
+    c.args.target c.seek_danger-in-PhrasePrefix.result c.in-PhrasePrefix.leaf c.seek_danger-in-PhrasePrefix.new.self c.in-PhrasePrefix.leaf-is
+    c.in-PhrasePrefix.is c.seek_danger-in-PhrasePrefix.ensures.answer c.seek_danger-in-PhrasePrefix.ensures.entries (ap (λ (l : Limits). l.top)
+    c.seek_danger-in-PhrasePrefix.ensures.limits) c.seek_danger-in-PhrasePrefix.ensures.valid c.seek_danger-in-PhrasePrefix.ensures.placed (search rules)
 
 -- ---- the nodes of the enum
 pub any_scorer::seek_other-returns-in-Boost : goal.any_scorer::seek_other-returns-in-Boost
 any_scorer::seek_other-returns-in-Boost g t c =
     let node = c.in-Boost.node in
     let lent = rw (c.in-Boost.is, outs-Boost node) at c.deref_mut.ensures.value in
-    let moved = moved-Boost g.S.DocSet c.args.target node c.seek_tree.new.scorer lent (subst (IsTree g.S.DocSet) c.in-Boost.is c.requires.valid) c.seek_tree.ensures.entries c.seek_tree.ensures.valid c.seek_tree.ensures.depth in
-    sought-as g.S.DocSet c.args.target c.seek_tree.result (Boost node) (Boost (record node { value = record c.deref_mut.result.now { inner = c.seek_tree.new.scorer } })) c.in-Boost.is (rw (c.in-Boost.is, outs-Boost node) refl) moved (head-rescored g.S.DocSet (λ e. e.score * c.deref_mut.result.now.boost) (tree_entries g.S.DocSet c.seek_tree.new.scorer) c.seek_tree.ensures.head) c.seek_tree.ensures.placed
+    let moved = moved-Boost g.S.DocSet c.args.target node c.seek_tree.new.scorer lent
+    (subst (IsTree g.S.DocSet) c.in-Boost.is c.requires.valid) c.seek_tree.ensures.entries c.seek_tree.ensures.valid c.seek_tree.ensures.depth in
+    sought-as g.S.DocSet c.args.target c.seek_tree.result (Boost node)
+    (Boost (record node { value = record c.deref_mut.result.now { inner = c.seek_tree.new.scorer } })) c.in-Boost.is
+    (rw (c.in-Boost.is, outs-Boost node) refl) moved (head-rescored g.S.DocSet (λ e. e.score * c.deref_mut.result.now.boost)
+    (tree_entries g.S.DocSet c.seek_tree.new.scorer) c.seek_tree.ensures.head) c.seek_tree.ensures.placed
 
 pub any_scorer::seek_other-returns-in-Const : goal.any_scorer::seek_other-returns-in-Const
 any_scorer::seek_other-returns-in-Const g t c =
     let node = c.in-Const.node in
     let lent = rw (c.in-Const.is, outs-Const node) at c.deref_mut-in-Const.ensures.value in
-    let moved = moved-Const g.S.DocSet c.args.target node c.seek_tree-in-Const.new.scorer lent (subst (IsTree g.S.DocSet) c.in-Const.is c.requires.valid) c.seek_tree-in-Const.ensures.entries c.seek_tree-in-Const.ensures.valid c.seek_tree-in-Const.ensures.depth in
-    sought-as g.S.DocSet c.args.target c.seek_tree-in-Const.result (Const node) (Const (record node { value = record c.deref_mut-in-Const.result.now { inner = c.seek_tree-in-Const.new.scorer } })) c.in-Const.is (rw (c.in-Const.is, outs-Const node) refl) moved (head-rescored g.S.DocSet (λ _. c.deref_mut-in-Const.result.now.score) (tree_entries g.S.DocSet c.seek_tree-in-Const.new.scorer) c.seek_tree-in-Const.ensures.head) c.seek_tree-in-Const.ensures.placed
+    let moved = moved-Const g.S.DocSet c.args.target node c.seek_tree-in-Const.new.scorer lent (subst (IsTree g.S.DocSet) c.in-Const.is c.requires.valid)
+    c.seek_tree-in-Const.ensures.entries c.seek_tree-in-Const.ensures.valid c.seek_tree-in-Const.ensures.depth in
+    sought-as g.S.DocSet c.args.target c.seek_tree-in-Const.result (Const node)
+    (Const (record node { value = record c.deref_mut-in-Const.result.now { inner = c.seek_tree-in-Const.new.scorer } })) c.in-Const.is
+    (rw (c.in-Const.is, outs-Const node) refl) moved (head-rescored g.S.DocSet (λ _. c.deref_mut-in-Const.result.now.score)
+    (tree_entries g.S.DocSet c.seek_tree-in-Const.new.scorer) c.seek_tree-in-Const.ensures.head) c.seek_tree-in-Const.ensures.placed
 
 pub any_scorer::seek_other-returns-in-RequiredOptional : goal.any_scorer::seek_other-returns-in-RequiredOptional
 any_scorer::seek_other-returns-in-RequiredOptional g t c =
     let node = c.in-RequiredOptional.node in
     let lent = rw (c.in-RequiredOptional.is, outs-RequiredOptional node) at c.deref_mut-in-RequiredOptional.ensures.value in
     let below = c.seek_tree-in-RequiredOptional.new.scorer in
-    let moved = moved-RequiredOptional g.S.DocSet c.args.target node below lent (subst (IsTree g.S.DocSet) c.in-RequiredOptional.is c.requires.valid) c.seek_tree-in-RequiredOptional.ensures.entries c.seek_tree-in-RequiredOptional.ensures.valid c.seek_tree-in-RequiredOptional.ensures.depth in
-    sought-as g.S.DocSet c.args.target c.seek_tree-in-RequiredOptional.result (RequiredOptional node) (RequiredOptional (record node { value = record c.deref_mut-in-RequiredOptional.result.now { required = below } })) c.in-RequiredOptional.is (rw (c.in-RequiredOptional.is, outs-RequiredOptional node) refl) moved (head-rescored g.S.DocSet (added g.S.DocSet c.deref_mut-in-RequiredOptional.result.now.optional) (tree_entries g.S.DocSet below) c.seek_tree-in-RequiredOptional.ensures.head) c.seek_tree-in-RequiredOptional.ensures.placed
+    let moved = moved-RequiredOptional g.S.DocSet c.args.target node below lent (subst (IsTree g.S.DocSet) c.in-RequiredOptional.is c.requires.valid)
+    c.seek_tree-in-RequiredOptional.ensures.entries c.seek_tree-in-RequiredOptional.ensures.valid c.seek_tree-in-RequiredOptional.ensures.depth in
+    sought-as g.S.DocSet c.args.target c.seek_tree-in-RequiredOptional.result (RequiredOptional node)
+    (RequiredOptional (record node { value = record c.deref_mut-in-RequiredOptional.result.now { required = below } })) c.in-RequiredOptional.is
+    (rw (c.in-RequiredOptional.is, outs-RequiredOptional node) refl) moved
+    (head-rescored g.S.DocSet (added g.S.DocSet c.deref_mut-in-RequiredOptional.result.now.optional)
+    (tree_entries g.S.DocSet below) c.seek_tree-in-RequiredOptional.ensures.head) c.seek_tree-in-RequiredOptional.ensures.placed
 
 pub any_scorer::seek_other-returns-in-Exclude : goal.any_scorer::seek_other-returns-in-Exclude
 any_scorer::seek_other-returns-in-Exclude g t c =
     let node = c.in-Exclude.node in
     let lent = rw (c.in-Exclude.is, outs-Exclude node) at c.deref_mut-in-Exclude.ensures.value in
     let new = c.seek_exclude.new.node in
-    let moved = moved-Exclude g.S.DocSet c.args.target node new lent (subst (IsTree g.S.DocSet) c.in-Exclude.is c.requires.valid) c.seek_exclude.ensures.entries c.seek_exclude.ensures.inner c.seek_exclude.ensures.out c.seek_exclude.ensures.top c.seek_exclude.ensures.depth in
-    sought-as g.S.DocSet c.args.target c.seek_exclude.result (Exclude node) (Exclude (record node { value = new })) c.in-Exclude.is (rw (c.in-Exclude.is, outs-Exclude node) refl) moved c.seek_exclude.ensures.head (c.seek_exclude.ensures.placed, c.seek_exclude.ensures.kept)
+    let moved = moved-Exclude g.S.DocSet c.args.target node new lent (subst (IsTree g.S.DocSet) c.in-Exclude.is c.requires.valid)
+    c.seek_exclude.ensures.entries c.seek_exclude.ensures.inner c.seek_exclude.ensures.out c.seek_exclude.ensures.top c.seek_exclude.ensures.depth in
+    sought-as g.S.DocSet c.args.target c.seek_exclude.result (Exclude node) (Exclude (record node { value = new })) c.in-Exclude.is
+    (rw (c.in-Exclude.is, outs-Exclude node) refl) moved c.seek_exclude.ensures.head (c.seek_exclude.ensures.placed, c.seek_exclude.ensures.kept)
 
 pub any_scorer::seek_other-seek_group-requires : goal.any_scorer::seek_other-seek_group-requires
 any_scorer::seek_other-seek_group-requires g t c κs within =
     let node = c.in-Disjunction.node in
     let value = rw (c.in-Disjunction.is, outs-Disjunction c.in-Disjunction.node) at c.deref_mut-in-Disjunction.ensures.value in
-    let opened = subst (IsGroupNode g.S.DocSet) (sym value) (opened-Disjunction g.S.DocSet node (subst (IsTree g.S.DocSet) c.in-Disjunction.is c.requires.valid)) in
+    let opened =
+    subst (IsGroupNode g.S.DocSet) (sym value) (opened-Disjunction g.S.DocSet node (subst (IsTree g.S.DocSet) c.in-Disjunction.is c.requires.valid)) in
     (search (rules, aq.the_lemmas), (search rules, (opened, c.requires.target)))
 
 pub any_scorer::seek_other-returns-in-Disjunction : goal.any_scorer::seek_other-returns-in-Disjunction
@@ -1185,7 +1335,8 @@ any_scorer::seek_other-returns-in-Disjunction g t c =
     let node = c.in-Disjunction.node in
     let lent = rw (c.in-Disjunction.is, outs-Disjunction node) at c.deref_mut-in-Disjunction.ensures.value in
     let new = record node { value = c.seek_group.new.node } in
-    let moved = moved-Disjunction g.S.DocSet c.args.target node c.seek_group.new.node lent c.seek_group.ensures.entries c.seek_group.ensures.valid c.seek_group.ensures.shape c.seek_group.ensures.depth in
+    let moved = moved-Disjunction g.S.DocSet c.args.target node c.seek_group.new.node lent c.seek_group.ensures.entries
+    c.seek_group.ensures.valid c.seek_group.ensures.shape c.seek_group.ensures.depth in
     sought-as g.S.DocSet c.args.target c.seek_group.result (Disjunction node) (Disjunction new) c.in-Disjunction.is
     (rw (c.in-Disjunction.is, outs-Disjunction node) refl) moved
     (c.seek_group.ensures.head ∙ sym (ap head_document (entries-Disjunction g.S.DocSet new))) tt
@@ -1201,22 +1352,33 @@ any_scorer::seek_other-returns-in-Intersection g t c =
     let node = c.in-Intersection.node in
     let lent = rw (c.in-Intersection.is, outs-Intersection node) at c.deref_mut-in-Intersection.ensures.value in
     let new = c.seek_intersection.new.node in
-    let moved = moved-Intersection g.S.DocSet c.args.target node new c.in-Intersection.is lent c.requires.valid c.seek_intersection.ensures.entries c.seek_intersection.ensures.trees c.seek_intersection.ensures.top c.seek_intersection.ensures.depth in
-    sought-as g.S.DocSet c.args.target c.seek_intersection.result (Intersection node) (Intersection (record node { value = new })) c.in-Intersection.is (rw (c.in-Intersection.is, outs-Intersection node) refl) moved (left-document g.S.DocSet node new c.seek_intersection.ensures.head) (placed-Intersection g.S.DocSet (record node { value = new }) c.seek_intersection.ensures.placed)
+    let moved = moved-Intersection g.S.DocSet c.args.target node new c.in-Intersection.is lent c.requires.valid
+    c.seek_intersection.ensures.entries c.seek_intersection.ensures.trees c.seek_intersection.ensures.top c.seek_intersection.ensures.depth in
+    sought-as g.S.DocSet c.args.target c.seek_intersection.result (Intersection node) (Intersection (record node { value = new })) c.in-Intersection.is
+    (rw (c.in-Intersection.is, outs-Intersection node) refl) moved (left-document g.S.DocSet node new c.seek_intersection.ensures.head)
+    (placed-Intersection g.S.DocSet (record node { value = new }) c.seek_intersection.ensures.placed)
 
 pub any_scorer::danger_other-returns-in-Boost : goal.any_scorer::danger_other-returns-in-Boost
 any_scorer::danger_other-returns-in-Boost g t c =
     let node = c.in-Boost.node in
     let lent = rw (c.in-Boost.is, outs-Boost node) at c.deref_mut.ensures.value in
-    let moved = moved-Boost g.S.DocSet c.args.target node c.danger_tree.new.scorer lent (subst (IsTree g.S.DocSet) c.in-Boost.is c.requires.valid) c.danger_tree.ensures.entries c.danger_tree.ensures.valid c.danger_tree.ensures.depth in
-    answered-as g.S.DocSet c.args.target c.danger_tree.result (Boost node) (Boost (record node { value = record c.deref_mut.result.now { inner = c.danger_tree.new.scorer } })) c.in-Boost.is (rw (c.in-Boost.is, outs-Boost node) refl) moved (IsSeekAnswer-rescored (λ e. e.score * c.deref_mut.result.now.boost) c.args.target (tree_entries g.S.DocSet c.danger_tree.new.scorer) _ c.danger_tree.ensures.answer) c.danger_tree.ensures.placed
+    let moved = moved-Boost g.S.DocSet c.args.target node c.danger_tree.new.scorer lent
+    (subst (IsTree g.S.DocSet) c.in-Boost.is c.requires.valid) c.danger_tree.ensures.entries c.danger_tree.ensures.valid c.danger_tree.ensures.depth in
+    answered-as g.S.DocSet c.args.target c.danger_tree.result (Boost node)
+    (Boost (record node { value = record c.deref_mut.result.now { inner = c.danger_tree.new.scorer } })) c.in-Boost.is
+    (rw (c.in-Boost.is, outs-Boost node) refl) moved (IsSeekAnswer-rescored (λ e. e.score * c.deref_mut.result.now.boost) c.args.target
+    (tree_entries g.S.DocSet c.danger_tree.new.scorer) _ c.danger_tree.ensures.answer) c.danger_tree.ensures.placed
 
 pub any_scorer::danger_other-returns-in-Const : goal.any_scorer::danger_other-returns-in-Const
 any_scorer::danger_other-returns-in-Const g t c =
     let node = c.in-Const.node in
     let lent = rw (c.in-Const.is, outs-Const node) at c.deref_mut-in-Const.ensures.value in
-    let moved = moved-Const g.S.DocSet c.args.target node c.danger_tree-in-Const.new.scorer lent (subst (IsTree g.S.DocSet) c.in-Const.is c.requires.valid) c.danger_tree-in-Const.ensures.entries c.danger_tree-in-Const.ensures.valid c.danger_tree-in-Const.ensures.depth in
-    answered-as g.S.DocSet c.args.target c.danger_tree-in-Const.result (Const node) (Const (record node { value = record c.deref_mut-in-Const.result.now { inner = c.danger_tree-in-Const.new.scorer } })) c.in-Const.is (rw (c.in-Const.is, outs-Const node) refl) moved (IsSeekAnswer-rescored (λ _. c.deref_mut-in-Const.result.now.score) c.args.target (tree_entries g.S.DocSet c.danger_tree-in-Const.new.scorer) _ c.danger_tree-in-Const.ensures.answer) c.danger_tree-in-Const.ensures.placed
+    let moved = moved-Const g.S.DocSet c.args.target node c.danger_tree-in-Const.new.scorer lent (subst (IsTree g.S.DocSet) c.in-Const.is c.requires.valid)
+    c.danger_tree-in-Const.ensures.entries c.danger_tree-in-Const.ensures.valid c.danger_tree-in-Const.ensures.depth in
+    answered-as g.S.DocSet c.args.target c.danger_tree-in-Const.result (Const node)
+    (Const (record node { value = record c.deref_mut-in-Const.result.now { inner = c.danger_tree-in-Const.new.scorer } })) c.in-Const.is
+    (rw (c.in-Const.is, outs-Const node) refl) moved (IsSeekAnswer-rescored (λ _. c.deref_mut-in-Const.result.now.score) c.args.target
+    (tree_entries g.S.DocSet c.danger_tree-in-Const.new.scorer) _ c.danger_tree-in-Const.ensures.answer) c.danger_tree-in-Const.ensures.placed
 
 pub any_scorer::danger_other-returns-in-RequiredOptional : goal.any_scorer::danger_other-returns-in-RequiredOptional
 any_scorer::danger_other-returns-in-RequiredOptional g t c =
@@ -1224,22 +1386,31 @@ any_scorer::danger_other-returns-in-RequiredOptional g t c =
     let lent = rw (c.in-RequiredOptional.is, outs-RequiredOptional node) at c.deref_mut-in-RequiredOptional.ensures.value in
     let below = c.danger_tree-in-RequiredOptional.new.scorer in
     let is = c.danger_tree-in-RequiredOptional.ensures in
-    let moved = moved-RequiredOptional g.S.DocSet c.args.target node below lent (subst (IsTree g.S.DocSet) c.in-RequiredOptional.is c.requires.valid) is.entries is.valid is.depth in
-    answered-as g.S.DocSet c.args.target c.danger_tree-in-RequiredOptional.result (RequiredOptional node) (RequiredOptional (record node { value = record c.deref_mut-in-RequiredOptional.result.now { required = below } })) c.in-RequiredOptional.is (rw (c.in-RequiredOptional.is, outs-RequiredOptional node) refl) moved (IsSeekAnswer-rescored (added g.S.DocSet c.deref_mut-in-RequiredOptional.result.now.optional) c.args.target (tree_entries g.S.DocSet below) _ is.answer) is.placed
+    let moved = moved-RequiredOptional g.S.DocSet c.args.target node below lent
+    (subst (IsTree g.S.DocSet) c.in-RequiredOptional.is c.requires.valid) is.entries is.valid is.depth in
+    answered-as g.S.DocSet c.args.target c.danger_tree-in-RequiredOptional.result (RequiredOptional node)
+    (RequiredOptional (record node { value = record c.deref_mut-in-RequiredOptional.result.now { required = below } })) c.in-RequiredOptional.is
+    (rw (c.in-RequiredOptional.is, outs-RequiredOptional node) refl) moved (IsSeekAnswer-rescored
+    (added g.S.DocSet c.deref_mut-in-RequiredOptional.result.now.optional) c.args.target (tree_entries g.S.DocSet below) _ is.answer) is.placed
 
 pub any_scorer::danger_other-returns-in-Exclude : goal.any_scorer::danger_other-returns-in-Exclude
 any_scorer::danger_other-returns-in-Exclude g t c =
     let node = c.in-Exclude.node in
     let lent = rw (c.in-Exclude.is, outs-Exclude node) at c.deref_mut-in-Exclude.ensures.value in
     let new = c.danger_exclude.new.node in
-    let moved = moved-Exclude g.S.DocSet c.args.target node new lent (subst (IsTree g.S.DocSet) c.in-Exclude.is c.requires.valid) c.danger_exclude.ensures.entries c.danger_exclude.ensures.inner c.danger_exclude.ensures.out c.danger_exclude.ensures.top c.danger_exclude.ensures.depth in
-    answered-as g.S.DocSet c.args.target c.danger_exclude.result (Exclude node) (Exclude (record node { value = new })) c.in-Exclude.is (rw (c.in-Exclude.is, outs-Exclude node) refl) moved c.danger_exclude.ensures.answer (both_found _ _ c.danger_exclude.result c.danger_exclude.ensures.placed c.danger_exclude.ensures.kept)
+    let moved =
+    moved-Exclude g.S.DocSet c.args.target node new lent (subst (IsTree g.S.DocSet) c.in-Exclude.is c.requires.valid) c.danger_exclude.ensures.entries
+    c.danger_exclude.ensures.inner c.danger_exclude.ensures.out c.danger_exclude.ensures.top c.danger_exclude.ensures.depth in
+    answered-as g.S.DocSet c.args.target c.danger_exclude.result (Exclude node) (Exclude (record node { value = new })) c.in-Exclude.is
+    (rw (c.in-Exclude.is, outs-Exclude node) refl) moved c.danger_exclude.ensures.answer
+    (both_found _ _ c.danger_exclude.result c.danger_exclude.ensures.placed c.danger_exclude.ensures.kept)
 
 pub any_scorer::danger_other-danger_group-requires : goal.any_scorer::danger_other-danger_group-requires
 any_scorer::danger_other-danger_group-requires g t c κs within =
     let node = c.in-Disjunction.node in
     let value = rw (c.in-Disjunction.is, outs-Disjunction c.in-Disjunction.node) at c.deref_mut-in-Disjunction.ensures.value in
-    let opened = subst (IsGroupNode g.S.DocSet) (sym value) (opened-Disjunction g.S.DocSet node (subst (IsTree g.S.DocSet) c.in-Disjunction.is c.requires.valid)) in
+    let opened =
+    subst (IsGroupNode g.S.DocSet) (sym value) (opened-Disjunction g.S.DocSet node (subst (IsTree g.S.DocSet) c.in-Disjunction.is c.requires.valid)) in
     (search (rules, aq.the_lemmas), (search rules, (opened, c.requires.target)))
 
 pub any_scorer::danger_other-returns-in-Disjunction : goal.any_scorer::danger_other-returns-in-Disjunction
@@ -1247,7 +1418,8 @@ any_scorer::danger_other-returns-in-Disjunction g t c =
     let node = c.in-Disjunction.node in
     let lent = rw (c.in-Disjunction.is, outs-Disjunction node) at c.deref_mut-in-Disjunction.ensures.value in
     let new = record node { value = c.danger_group.new.node } in
-    let moved = moved-Disjunction g.S.DocSet c.args.target node c.danger_group.new.node lent c.danger_group.ensures.entries c.danger_group.ensures.valid c.danger_group.ensures.shape c.danger_group.ensures.depth in
+    let moved = moved-Disjunction g.S.DocSet c.args.target node c.danger_group.new.node lent c.danger_group.ensures.entries
+    c.danger_group.ensures.valid c.danger_group.ensures.shape c.danger_group.ensures.depth in
     answered-as g.S.DocSet c.args.target c.danger_group.result (Disjunction node) (Disjunction new) c.in-Disjunction.is
     (rw (c.in-Disjunction.is, outs-Disjunction node) refl) moved
     (subst (λ es. IsSeekAnswer c.args.target es c.danger_group.result) (sym (entries-Disjunction g.S.DocSet new)) c.danger_group.ensures.answer)
@@ -1264,8 +1436,12 @@ any_scorer::danger_other-returns-in-Intersection g t c =
     let node = c.in-Intersection.node in
     let lent = rw (c.in-Intersection.is, outs-Intersection node) at c.deref_mut-in-Intersection.ensures.value in
     let new = c.danger_intersection.new.node in
-    let moved = moved-Intersection g.S.DocSet c.args.target node new c.in-Intersection.is lent c.requires.valid c.danger_intersection.ensures.entries c.danger_intersection.ensures.trees c.danger_intersection.ensures.top c.danger_intersection.ensures.depth in
-    answered-as g.S.DocSet c.args.target c.danger_intersection.result (Intersection node) (Intersection (record node { value = new })) c.in-Intersection.is (rw (c.in-Intersection.is, outs-Intersection node) refl) moved (subst (λ es. IsSeekAnswer c.args.target es c.danger_intersection.result) (sym (entries-Intersection g.S.DocSet (record node { value = new }))) c.danger_intersection.ensures.answer) (still_found c.danger_intersection.result (placed-Intersection g.S.DocSet (record node { value = new })) c.danger_intersection.ensures.placed)
+    let moved = moved-Intersection g.S.DocSet c.args.target node new c.in-Intersection.is lent c.requires.valid c.danger_intersection.ensures.entries
+    c.danger_intersection.ensures.trees c.danger_intersection.ensures.top c.danger_intersection.ensures.depth in
+    answered-as g.S.DocSet c.args.target c.danger_intersection.result (Intersection node) (Intersection (record node { value = new })) c.in-Intersection.is
+    (rw (c.in-Intersection.is, outs-Intersection node) refl) moved (subst (λ es. IsSeekAnswer c.args.target es c.danger_intersection.result)
+    (sym (entries-Intersection g.S.DocSet (record node { value = new }))) c.danger_intersection.ensures.answer)
+    (still_found c.danger_intersection.result (placed-Intersection g.S.DocSet (record node { value = new })) c.danger_intersection.ensures.placed)
 
 -- ---- unions, as variants
 
@@ -1281,7 +1457,8 @@ any_scorer::seek_other-returns-in-Union g t c =
     let node = c.in-Union.node in
     let lent = rw (c.in-Union.is, outs-Union node) at c.deref_mut-in-Union.ensures.value in
     let new = record node { value = c.seek_union.new.node } in
-    let moved = moved-Union g.S.DocSet c.args.target node c.seek_union.new.node lent c.seek_union.ensures.entries c.seek_union.ensures.valid c.seek_union.ensures.top c.seek_union.ensures.depth in
+    let moved = moved-Union g.S.DocSet c.args.target node c.seek_union.new.node lent c.seek_union.ensures.entries
+    c.seek_union.ensures.valid c.seek_union.ensures.top c.seek_union.ensures.depth in
     sought-as g.S.DocSet c.args.target c.seek_union.result (Union node) (Union new) c.in-Union.is (rw (c.in-Union.is, outs-Union node) refl) moved
     (c.seek_union.ensures.head ∙ sym (ap head_document (entries-Union g.S.DocSet new))) tt
 
@@ -1297,7 +1474,8 @@ any_scorer::danger_other-returns-in-Union g t c =
     let node = c.in-Union.node in
     let lent = rw (c.in-Union.is, outs-Union node) at c.deref_mut-in-Union.ensures.value in
     let new = record node { value = c.danger_union.new.node } in
-    let moved = moved-Union g.S.DocSet c.args.target node c.danger_union.new.node lent c.danger_union.ensures.entries c.danger_union.ensures.valid c.danger_union.ensures.top c.danger_union.ensures.depth in
+    let moved = moved-Union g.S.DocSet c.args.target node c.danger_union.new.node lent c.danger_union.ensures.entries
+    c.danger_union.ensures.valid c.danger_union.ensures.top c.danger_union.ensures.depth in
     answered-as g.S.DocSet c.args.target c.danger_union.result (Union node) (Union new) c.in-Union.is (rw (c.in-Union.is, outs-Union node) refl) moved
     (subst (λ es. IsSeekAnswer c.args.target es c.danger_union.result) (sym (entries-Union g.S.DocSet new)) c.danger_union.ensures.answer)
     (on_found c.danger_union.result (λ _. tt))
@@ -1318,7 +1496,8 @@ boost_node::score_boost-returns-clause-score g t c =
 
 pub boost_node::score_boost-overflow_mul-result : goal.boost_node::score_boost-overflow_mul-result
 boost_node::score_boost-overflow_mul-result g t c =
-    let fits : c.score_tree.result * c.args.node.now.boost ≤ greatest_score = rw c.score_tree.ensures.score (boost-fits g.S.DocSet g.met.S.DocSet.ascending _ _ _ c.requires.valid c.requires.placed c.requires.here c.requires.bounded) in
+    let fits : c.score_tree.result * c.args.node.now.boost ≤ greatest_score = rw c.score_tree.ensures.score
+    (boost-fits g.S.DocSet g.met.S.DocSet.ascending _ _ _ c.requires.valid c.requires.placed c.requires.here c.requires.bounded) in
     omega (arith, fits)
 
 pub optional_node::score_at-returns-then-reach_tree-doc-clause-score : goal.optional_node::score_at-returns-then-reach_tree-doc-clause-score
@@ -1338,17 +1517,28 @@ optional_node::score_at-returns-else-reach_tree-doc-clause-score g t c =
     let there = ap head_document (sym c.reach_tree.ensures.entries) ∙ sym c.reach_tree.ensures.head in
     sym (ap sum (scores_at-passed d _ es c.requires.here (λ here. c.if-reach_tree-doc.false (sym there ∙ here)) ascends))
 
-together : (d : ℕ) (required optional : List Entry) → d ≡ head_document required → head_document required < TERMINATED → head_score required + sum (scores_at d (optional ∷ [])) ≡ head_score (with_optional sum required optional)
+together : (d : ℕ) (required optional : List Entry) → d ≡ head_document required → head_document required < TERMINATED →
+    head_score required + sum (scores_at d (optional ∷ [])) ≡ head_score (with_optional sum required optional)
 together d required optional is here =
     let own = head_score-rescored (λ e. sum (e.score ∷ scores_at e.document (optional ∷ []))) required here in
-    omega (arith, own, ap (λ x. sum (scores_at x (optional ∷ []))) is, sum_by-cons (λ n. n) (head_score required) (scores_at (head_document required) (optional ∷ [])))
+    omega (
+      arith,
+      own,
+      ap (λ x. sum (scores_at x (optional ∷ []))) is,
+      sum_by-cons (λ n. n) (head_score required) (scores_at (head_document required) (optional ∷ [])),
+    )
 
 pub optional_node::score_optional-returns-clause-score : goal.optional_node::score_optional-returns-clause-score
 optional_node::score_optional-returns-clause-score g t c =
     let rs = tree_entries g.S.DocSet c.args.node.now.required in
     let os = tree_entries g.S.DocSet c.args.node.now.optional in
     let is = c.doc_tree-doc.ensures ∙ tree-head g.S.DocSet g.met.S.DocSet.ascending _ c.requires.required c.requires.placed in
-    omega (arith, c.score_tree.ensures.score, c.score_at.ensures.score, together c.doc_tree-doc.result rs os is (tree-here g.S.DocSet g.met.S.DocSet.ascending _ c.requires.required c.requires.placed c.requires.here))
+    omega (
+      arith,
+      c.score_tree.ensures.score,
+      c.score_at.ensures.score,
+      together c.doc_tree-doc.result rs os is (tree-here g.S.DocSet g.met.S.DocSet.ascending _ c.requires.required c.requires.placed c.requires.here),
+    )
 
 pub optional_node::score_optional-returns-clause-fits : goal.optional_node::score_optional-returns-clause-fits
 optional_node::score_optional-returns-clause-fits g t c =
@@ -1406,19 +1596,23 @@ group_node::score_group-loop-i-preserved g t c =
           let still = map-set_same e xs i x old here same in
           let more = scores_at-more e _ xs i d item a c.index.ensures here (sym doc ∙ w.if-doc_tree-doc.true) c.requires.here in
           let added = ap (fold any_step start) more ∙ fold-append any_step start scores (head_score (e item) ∷ []) in
-          let smaller = subst (λ (y : AnyScorer g.row.S.Denot). size-AnyScorer g.row.S.Denot x ≤ size-AnyScorer g.row.S.Denot y) w.index_mut.ensures.value w.score_tree.ensures.depth in
+          let smaller = subst (λ (y : AnyScorer g.row.S.Denot). size-AnyScorer g.row.S.Denot x ≤ size-AnyScorer g.row.S.Denot y)
+          w.index_mut.ensures.value w.score_tree.ensures.depth in
           rw (w.node-is, w.combiner-is) (record {
             unvisited = search (rules, gq.the_lemmas);
             valid = All-set (IsTree D) xs i x w.score_tree.ensures.valid h.valid;
             placed = All-set (IsTreePlaced D) xs i x w.score_tree.ensures.placed h.placed;
             lists = still ∙ h.lists;
-            combined = w.take_score.ensures ∙ ap (λ s. any_step s w.score_tree.result) h.combined ∙ ap (any_step (fold any_step start scores)) (w.score_tree.ensures.score ∙ ap (λ m. head_score (e m)) was) ∙ sym added ∙ ap (λ r. fold any_step start (scores_at d (take (i + 1) r))) (sym still);
+            combined = w.take_score.ensures ∙ ap (λ s. any_step s w.score_tree.result) h.combined
+                ∙ ap (any_step (fold any_step start scores)) (w.score_tree.ensures.score ∙ ap (λ m. head_score (e m)) was)
+                ∙ sym added ∙ ap (λ r. fold any_step start (scores_at d (take (i + 1) r))) (sym still);
             shape = h.shape;
             current = h.current;
             depth = size-members c.loop-i.node _ _ (most-set (size-AnyScorer g.row.S.Denot) xs i x old here smaller) h.depth;
           })
       | group_node::score_group-else-doc_tree-doc w ↦
-          let past : d ≤ head_document (e item) = omega (arith, c.requires.valid.own.least, ap least_head h.lists, least_head-le e xs i item here, ap (λ m. head_document (e m)) c.index.ensures) in
+          let past : d ≤ head_document (e item) =
+          omega (arith, c.requires.valid.own.least, ap least_head h.lists, least_head-le e xs i item here, ap (λ m. head_document (e m)) c.index.ensures) in
           let same = scores_at-more_ahead e _ xs i d item a c.index.ensures here (omega (arith, doc, past, w.if-doc_tree-doc.false)) in
           rw (w.node-is, w.combiner-is) (record {
             unvisited = search (rules, gq.the_lemmas);
@@ -1447,7 +1641,8 @@ group_node::score_group-take_score-requires-clause-room g t c =
     let placed : IsTreePlaced D item = subst (IsTreePlaced D) (sym c.index.ensures) (All-get_or (IsTreePlaced D) xs i item here h.placed) in
     let a = tree-ascends D g.met.S.DocSet.ascending item valid in
     let doc : c.doc_tree.result ≡ head_document (e item) = c.doc_tree.ensures ∙ tree-head D g.met.S.DocSet.ascending item valid placed in
-    let was : c.index_mut.result.now ≡ item = get_or_read_under xs i (length xs) c.index_mut.result.now item c.index_mut.ensures.value here refl ∙ sym c.index.ensures in
+    let was : c.index_mut.result.now ≡ item = get_or_read_under xs i (length xs) c.index_mut.result.now item c.index_mut.ensures.value here refl
+    ∙ sym c.index.ensures in
     let room = subst (HasRoom start) (sym h.lists) c.requires.valid.own.room d in
     let next = room-next e _ xs i d item a c.index.ensures here (sym doc ∙ c.if-doc_tree-doc.true) c.requires.here in
     let score : c.score_tree.result ≡ head_score (e item) = c.score_tree.ensures.score ∙ ap (λ m. head_score (e m)) was in
@@ -1475,7 +1670,8 @@ group_node::score_group-returns-clause-score g t c =
     let h = c.loop-i.invariant in
     let node = c.args.node.now in
     let lists = map (tree_entries D) c.loop-i.node.members.items in
-    let long : length lists ≤ c.loop-i.i = omega (arith, length-map c.loop-i.node.members.items (tree_entries D), h.unvisited.0, c.loop-i-test.false, c.len-i-end.ensures, node.members.ok.0) in
+    let long : length lists ≤ c.loop-i.i =
+    omega (arith, length-map c.loop-i.node.members.items (tree_entries D), h.unvisited.0, c.loop-i-test.false, c.len-i-end.ensures, node.members.ok.0) in
     let all = h.combined ∙ ap (λ r. fold any_step (any_cleared node.shape.combiner) (scores_at node.current r)) (take_all c.loop-i.i lists long ∙ h.lists) in
     let value = group-score D g.met.S.DocSet.ascending node c.loop-i.combiner c.requires.valid c.requires.here all in
     score_cast c.score.result _ c.score.ensures c.score.type_inv ∙ value
@@ -1496,7 +1692,8 @@ intersection_node::score_intersection-loop-i-init g t c =
     let D = g.S.DocSet in
     let node = c.args.node.now in
     let is = c.as_mut_slice-others.ensures.value in
-    let below : head_document (tree_entries D node.leader) < TERMINATED = tree-here D g.met.S.DocSet.ascending node.leader c.requires.trees.leader c.requires.placed.leader c.requires.here in
+    let below : head_document (tree_entries D node.leader) < TERMINATED =
+    tree-here D g.met.S.DocSet.ascending node.leader c.requires.trees.leader c.requires.placed.leader c.requires.here in
     record {
       valid = subst (All (IsTree D)) (sym is) c.requires.trees.others;
       placed = subst (All (IsTreePlaced D)) (sym is) (λ k d less. (c.requires.placed.others below k d less).0);
@@ -1520,7 +1717,8 @@ intersection_node::score_intersection-loop-i-preserved g t c =
     let first = head_score (e c.args.node.now.leader) in
     let one = get_or-map-map head_score e xs i old 0 here in
     let more = sum_by_more (λ n. n) scores i 0 (omega (arith, here, length-map (map e xs) head_score, length-map xs e)) in
-    let added : c.min-sum.result ≡ min greatest_score (first + sum (take (i + 1) scores)) = omega (arith, one, more, c.score_tree.ensures.score, c.min-sum.ensures, h.summed) in
+    let added : c.min-sum.result ≡ min greatest_score (first + sum (take (i + 1) scores)) =
+    omega (arith, one, more, c.score_tree.ensures.score, c.min-sum.ensures, h.summed) in
     let smaller = most-set (size-AnyScorer g.row.S.Denot) xs i x old here c.score_tree.ensures.depth in
     record {
       valid = All-set (IsTree D) xs i x c.score_tree.ensures.valid h.valid;
@@ -1540,8 +1738,10 @@ intersection_node::score_intersection-score_tree-requires g t c κs within =
     let i = c.loop-i.i in
     let x = get_or xs i c.index-others-i.result in
     let here : i < length xs = omega (arith, c.loop-i.auto.others, c.loop-i-test.true) in
-    let below : head_document (tree_entries D node.leader) < TERMINATED = tree-here D g.met.S.DocSet.ascending node.leader c.requires.trees.leader c.requires.placed.leader c.requires.here in
-    let all = All-same_lists e (λ es. head_document es ≡ head_document (e node.leader)) node.others.items xs h.lists (λ k d less. (c.requires.placed.others below k d less).1) in
+    let below : head_document (tree_entries D node.leader) < TERMINATED =
+    tree-here D g.met.S.DocSet.ascending node.leader c.requires.trees.leader c.requires.placed.leader c.requires.here in
+    let all = All-same_lists e (λ es. head_document es ≡ head_document (e node.leader)) node.others.items xs h.lists
+    (λ k d less. (c.requires.placed.others below k d less).1) in
     let stands : head_document (e x) ≡ head_document (e node.leader) = all i _ here in
     let valid : IsTree D x = h.valid i _ here in
     let placed : IsTreePlaced D x = h.placed i _ here in
@@ -1558,8 +1758,10 @@ intersection_node::score_intersection-returns-clause-score g t c =
     let h = c.loop-i.invariant in
     let node = c.args.node.now in
     let xs = c.loop-i.others in
-    let below : head_document (tree_entries D node.leader) < TERMINATED = tree-here D g.met.S.DocSet.ascending node.leader c.requires.trees.leader c.requires.placed.leader c.requires.here in
-    let score = head_score-together (IsTree D) (tree_limits D) e law held_sum (IsTreePlaced D) _ (e node.leader) node.others.items (law node.leader c.requires.trees.leader) c.requires.trees.others below (c.requires.placed.others below) in
+    let below : head_document (tree_entries D node.leader) < TERMINATED =
+    tree-here D g.met.S.DocSet.ascending node.leader c.requires.trees.leader c.requires.placed.leader c.requires.here in
+    let score = head_score-together (IsTree D) (tree_limits D) e law held_sum (IsTreePlaced D) _ (e node.leader) node.others.items
+    (law node.leader c.requires.trees.leader) c.requires.trees.others below (c.requires.placed.others below) in
     let scores = map head_score (map e xs) in
     let long : length scores ≤ c.loop-i.i = omega (arith, length-map (map e xs) head_score, length-map xs e, c.loop-i.auto.others, c.loop-i-test.false) in
     let whole = ap sum (take_all c.loop-i.i scores long ∙ ap (map head_score) h.lists) in
@@ -1594,8 +1796,10 @@ intersection_node::score_intersection-returns-clause-placed g t c =
     let node = c.args.node.now in
     let xs = c.loop-i.others in
     let whole = with_items_is node.others xs (omega (arith, c.loop-i.auto.others, ap length c.as_mut_slice-others.ensures.value, node.others.ok.0)) in
-    let below : head_document (tree_entries D node.leader) < TERMINATED = tree-here D g.met.S.DocSet.ascending node.leader c.requires.trees.leader c.requires.placed.leader c.requires.here in
-    let all = All-same_lists e (λ es. head_document es ≡ head_document (e node.leader)) node.others.items xs h.lists (λ k d less. (c.requires.placed.others below k d less).1) in
+    let below : head_document (tree_entries D node.leader) < TERMINATED =
+    tree-here D g.met.S.DocSet.ascending node.leader c.requires.trees.leader c.requires.placed.leader c.requires.here in
+    let all = All-same_lists e (λ es. head_document es ≡ head_document (e node.leader)) node.others.items xs h.lists
+    (λ k d less. (c.requires.placed.others below k d less).1) in
     let leader = c.score_tree-sum.ensures.entries in
     record {
       leader = c.score_tree-sum.ensures.placed;
@@ -1617,56 +1821,70 @@ any_scorer::score_tree-returns-in-Term g t c =
     let leaf = c.in-Term.leaf in
     let scored = c.score in
     let score = score_cast scored.result _ scored.ensures.score scored.type_inv in
-    scored-leaf g.S.DocSet Term (λ s. scored_left s.value) (λ _. refl) (λ _. refl) (same-Term g.row.S.Denot) leaf scored.new.self c.in-Term.leaf-is c.in-Term.is c.requires.here score (score_fits _ _ scored.ensures.score scored.type_inv) scored.ensures.entries (ap (λ (l : Limits). l.top) scored.ensures.limits) scored.ensures.valid scored.ensures.placed (search rules)
+    scored-leaf g.S.DocSet Term (λ s. scored_left s.value) (λ _. refl) (λ _. refl) (same-Term g.row.S.Denot) leaf scored.new.self
+    c.in-Term.leaf-is c.in-Term.is c.requires.here score (score_fits _ _ scored.ensures.score scored.type_inv) scored.ensures.entries
+    (ap (λ (l : Limits). l.top) scored.ensures.limits) scored.ensures.valid scored.ensures.placed (search rules)
 
 pub any_scorer::score_other-returns-in-Empty : goal.any_scorer::score_other-returns-in-Empty
 any_scorer::score_other-returns-in-Empty g t c =
     let leaf = c.in-Empty.leaf in
     let scored = c.score in
     let score = score_cast scored.result _ scored.ensures scored.type_inv in
-    scored-leaf g.S.DocSet Empty (λ _. []) (λ _. sym bare-nil) (λ _. refl) (same-Empty g.row.S.Denot) leaf scored.new.self c.in-Empty.leaf-is c.in-Empty.is c.requires.here score (score_fits _ _ scored.ensures scored.type_inv) refl refl tt tt (search rules)
+    scored-leaf g.S.DocSet Empty (λ _. []) (λ _. sym bare-nil) (λ _. refl) (same-Empty g.row.S.Denot) leaf scored.new.self c.in-Empty.leaf-is
+    c.in-Empty.is c.requires.here score (score_fits _ _ scored.ensures scored.type_inv) refl refl tt tt (search rules)
 
 pub any_scorer::score_other-returns-in-All : goal.any_scorer::score_other-returns-in-All
 any_scorer::score_other-returns-in-All g t c =
     let leaf = c.in-All.leaf in
     let scored = c.score-in-All in
     let score = score_cast scored.result _ scored.ensures.score scored.type_inv in
-    scored-leaf g.S.DocSet Every all_left (λ _. refl) (λ _. refl) (same-All g.row.S.Denot) leaf scored.new.self c.in-All.leaf-is c.in-All.is c.requires.here score (score_fits _ _ scored.ensures.score scored.type_inv) scored.ensures.entries refl scored.ensures.valid scored.ensures.placed (search rules)
+    scored-leaf g.S.DocSet Every all_left (λ _. refl) (λ _. refl) (same-All g.row.S.Denot) leaf scored.new.self c.in-All.leaf-is c.in-All.is c.requires.here
+    score (score_fits _ _ scored.ensures.score scored.type_inv) scored.ensures.entries refl scored.ensures.valid scored.ensures.placed (search rules)
 
 pub any_scorer::score_other-returns-in-Own : goal.any_scorer::score_other-returns-in-Own
 any_scorer::score_other-returns-in-Own g t c =
     let leaf = c.in-Own.leaf in
     let scored = c.score-in-Own in
     let score = score_cast scored.result _ scored.ensures.score scored.type_inv in
-    scored-leaf g.S.DocSet Own g.S.DocSet.entries (λ _. refl) (λ _. refl) (same-Own g.row.S.Denot) leaf scored.new.self c.in-Own.leaf-is c.in-Own.is c.requires.here score (score_fits _ _ scored.ensures.score scored.type_inv) scored.ensures.entries (ap (λ (l : Limits). l.top) scored.ensures.limits) scored.ensures.valid scored.ensures.placed (search rules)
+    scored-leaf g.S.DocSet Own g.S.DocSet.entries (λ _. refl) (λ _. refl) (same-Own g.row.S.Denot) leaf scored.new.self
+    c.in-Own.leaf-is c.in-Own.is c.requires.here score (score_fits _ _ scored.ensures.score scored.type_inv) scored.ensures.entries
+    (ap (λ (l : Limits). l.top) scored.ensures.limits) scored.ensures.valid scored.ensures.placed (search rules)
 
 pub any_scorer::score_other-returns-in-Term : goal.any_scorer::score_other-returns-in-Term
 any_scorer::score_other-returns-in-Term g t c =
     let leaf = c.in-Term.leaf in
     let scored = c.score-in-Term in
     let score = score_cast scored.result _ scored.ensures.score scored.type_inv in
-    scored-leaf g.S.DocSet Term (λ s. scored_left s.value) (λ _. refl) (λ _. refl) (same-Term g.row.S.Denot) leaf scored.new.self c.in-Term.leaf-is c.in-Term.is c.requires.here score (score_fits _ _ scored.ensures.score scored.type_inv) scored.ensures.entries (ap (λ (l : Limits). l.top) scored.ensures.limits) scored.ensures.valid scored.ensures.placed (search rules)
+    scored-leaf g.S.DocSet Term (λ s. scored_left s.value) (λ _. refl) (λ _. refl) (same-Term g.row.S.Denot) leaf scored.new.self
+    c.in-Term.leaf-is c.in-Term.is c.requires.here score (score_fits _ _ scored.ensures.score scored.type_inv) scored.ensures.entries
+    (ap (λ (l : Limits). l.top) scored.ensures.limits) scored.ensures.valid scored.ensures.placed (search rules)
 
 pub any_scorer::score_other-returns-in-BitSet : goal.any_scorer::score_other-returns-in-BitSet
 any_scorer::score_other-returns-in-BitSet g t c =
     let leaf = c.in-BitSet.leaf in
     let scored = c.score-in-BitSet in
     let score = score_cast scored.result _ scored.ensures.score scored.type_inv in
-    scored-leaf g.S.DocSet BitSet (λ s. constant_left set_cursors s.value) (λ _. refl) (λ _. refl) (same-BitSet g.row.S.Denot) leaf scored.new.self c.in-BitSet.leaf-is c.in-BitSet.is c.requires.here score (score_fits _ _ scored.ensures.score scored.type_inv) scored.ensures.entries (ap (λ (l : Limits). l.top) scored.ensures.limits) scored.ensures.valid scored.ensures.placed (search rules)
+    scored-leaf g.S.DocSet BitSet (λ s. constant_left set_cursors s.value) (λ _. refl) (λ _. refl) (same-BitSet g.row.S.Denot) leaf scored.new.self
+    c.in-BitSet.leaf-is c.in-BitSet.is c.requires.here score (score_fits _ _ scored.ensures.score scored.type_inv) scored.ensures.entries
+    (ap (λ (l : Limits). l.top) scored.ensures.limits) scored.ensures.valid scored.ensures.placed (search rules)
 
 pub any_scorer::score_other-returns-in-Phrase : goal.any_scorer::score_other-returns-in-Phrase
 any_scorer::score_other-returns-in-Phrase g t c =
     let leaf = c.in-Phrase.leaf in
     let scored = c.score-in-Phrase in
     let score = score_cast scored.result _ scored.ensures.score scored.type_inv in
-    scored-leaf g.S.DocSet Phrase (λ s. phrase_left postings_cursors s.value) (λ _. refl) (λ _. refl) (same-Phrase g.row.S.Denot) leaf scored.new.self c.in-Phrase.leaf-is c.in-Phrase.is c.requires.here score (score_fits _ _ scored.ensures.score scored.type_inv) scored.ensures.entries (ap (λ (l : Limits). l.top) scored.ensures.limits) scored.ensures.valid scored.ensures.placed (search rules)
+    scored-leaf g.S.DocSet Phrase (λ s. phrase_left postings_cursors s.value) (λ _. refl) (λ _. refl) (same-Phrase g.row.S.Denot) leaf scored.new.self
+    c.in-Phrase.leaf-is c.in-Phrase.is c.requires.here score (score_fits _ _ scored.ensures.score scored.type_inv) scored.ensures.entries
+    (ap (λ (l : Limits). l.top) scored.ensures.limits) scored.ensures.valid scored.ensures.placed (search rules)
 
 pub any_scorer::score_other-returns-in-PhrasePrefix : goal.any_scorer::score_other-returns-in-PhrasePrefix
 any_scorer::score_other-returns-in-PhrasePrefix g t c =
     let leaf = c.in-PhrasePrefix.leaf in
     let scored = c.score-in-PhrasePrefix in
     let score = score_cast scored.result _ scored.ensures.score scored.type_inv in
-    scored-leaf g.S.DocSet PhrasePrefix (λ s. phrase_prefix_left postings_cursors s.value) (λ _. refl) (λ _. refl) (same-PhrasePrefix g.row.S.Denot) leaf scored.new.self c.in-PhrasePrefix.leaf-is c.in-PhrasePrefix.is c.requires.here score (score_fits _ _ scored.ensures.score scored.type_inv) scored.ensures.entries (ap (λ (l : Limits). l.top) scored.ensures.limits) scored.ensures.valid scored.ensures.placed (search rules)
+    scored-leaf g.S.DocSet PhrasePrefix (λ s. phrase_prefix_left postings_cursors s.value) (λ _. refl) (λ _. refl) (same-PhrasePrefix g.row.S.Denot)
+    leaf scored.new.self c.in-PhrasePrefix.leaf-is c.in-PhrasePrefix.is c.requires.here score (score_fits _ _ scored.ensures.score scored.type_inv)
+    scored.ensures.entries (ap (λ (l : Limits). l.top) scored.ensures.limits) scored.ensures.valid scored.ensures.placed (search rules)
 
 -- ---- the nodes of the enum
 
@@ -1679,8 +1897,10 @@ any_scorer::score_other-score_boost-requires g t c κs within =
 pub any_scorer::score_other-score_optional-requires : goal.any_scorer::score_other-score_optional-requires
 any_scorer::score_other-score_optional-requires g t c κs within =
     let node = c.in-RequiredOptional.node in
-    let lent = rw (c.in-RequiredOptional.is, outs-RequiredOptional node) at c.deref_mut-in-RequiredOptional.ensures.value in
-    (search (rules, aq.the_lemmas), (search rules, asked-RequiredOptional g.S.DocSet node c.in-RequiredOptional.is lent c.requires.valid c.requires.placed c.requires.here))
+    let lent = rw (c.in-RequiredOptional.is, outs-RequiredOptional node) at c.deref_mut-in-RequiredOptional.ensures.value in (
+      search (rules, aq.the_lemmas),
+      (search rules, asked-RequiredOptional g.S.DocSet node c.in-RequiredOptional.is lent c.requires.valid c.requires.placed c.requires.here),
+    )
 
 pub any_scorer::score_other-score_exclude-requires : goal.any_scorer::score_other-score_exclude-requires
 any_scorer::score_other-score_exclude-requires g t c κs within =
@@ -1702,7 +1922,8 @@ any_scorer::score_other-returns-in-Boost g t c =
     let lent = rw (c.in-Boost.is, outs-Boost node) at c.deref_mut.ensures.value in
     let new = c.score_boost.new.node in
     let is = c.score_boost.ensures in
-    scored-as D (Boost node) (Boost (record node { value = new })) c.in-Boost.is (rw (c.in-Boost.is, outs-Boost node) refl) (scored-Boost D node new lent (subst (IsTree D) c.in-Boost.is c.requires.valid) is.score is.fits is.entries is.valid is.placed is.head is.boost is.top is.depth)
+    scored-as D (Boost node) (Boost (record node { value = new })) c.in-Boost.is (rw (c.in-Boost.is, outs-Boost node) refl) (scored-Boost D node new lent
+    (subst (IsTree D) c.in-Boost.is c.requires.valid) is.score is.fits is.entries is.valid is.placed is.head is.boost is.top is.depth)
 
 pub any_scorer::score_other-returns-in-Const : goal.any_scorer::score_other-returns-in-Const
 any_scorer::score_other-returns-in-Const g t c =
@@ -1711,7 +1932,8 @@ any_scorer::score_other-returns-in-Const g t c =
     let lent = rw (c.in-Const.is, outs-Const node) at c.deref_mut-in-Const.ensures.value in
     let new = c.score_const.new.node in
     let is = c.score_const.ensures in
-    scored-as D (Const node) (Const (record node { value = new })) c.in-Const.is (rw (c.in-Const.is, outs-Const node) refl) (scored-Const D node new lent (subst (IsTree D) c.in-Const.is c.requires.valid) is.score is.fits is.entries is.valid is.placed is.head is.same is.depth)
+    scored-as D (Const node) (Const (record node { value = new })) c.in-Const.is (rw (c.in-Const.is, outs-Const node) refl)
+    (scored-Const D node new lent (subst (IsTree D) c.in-Const.is c.requires.valid) is.score is.fits is.entries is.valid is.placed is.head is.same is.depth)
 
 pub any_scorer::score_other-returns-in-RequiredOptional : goal.any_scorer::score_other-returns-in-RequiredOptional
 any_scorer::score_other-returns-in-RequiredOptional g t c =
@@ -1720,7 +1942,9 @@ any_scorer::score_other-returns-in-RequiredOptional g t c =
     let lent = rw (c.in-RequiredOptional.is, outs-RequiredOptional node) at c.deref_mut-in-RequiredOptional.ensures.value in
     let new = c.score_optional.new.node in
     let is = c.score_optional.ensures in
-    scored-as D (RequiredOptional node) (RequiredOptional (record node { value = new })) c.in-RequiredOptional.is (rw (c.in-RequiredOptional.is, outs-RequiredOptional node) refl) (scored-RequiredOptional D node new lent (subst (IsTree D) c.in-RequiredOptional.is c.requires.valid) is.score is.fits is.entries is.required is.placed is.optional is.stands is.head is.top is.depth)
+    scored-as D (RequiredOptional node) (RequiredOptional (record node { value = new })) c.in-RequiredOptional.is
+    (rw (c.in-RequiredOptional.is, outs-RequiredOptional node) refl) (scored-RequiredOptional D node new lent (subst
+    (IsTree D) c.in-RequiredOptional.is c.requires.valid) is.score is.fits is.entries is.required is.placed is.optional is.stands is.head is.top is.depth)
 
 pub any_scorer::score_other-returns-in-Exclude : goal.any_scorer::score_other-returns-in-Exclude
 any_scorer::score_other-returns-in-Exclude g t c =
@@ -1729,7 +1953,9 @@ any_scorer::score_other-returns-in-Exclude g t c =
     let lent = rw (c.in-Exclude.is, outs-Exclude node) at c.deref_mut-in-Exclude.ensures.value in
     let new = c.score_exclude.new.node in
     let is = c.score_exclude.ensures in
-    scored-as D (Exclude node) (Exclude (record node { value = new })) c.in-Exclude.is (rw (c.in-Exclude.is, outs-Exclude node) refl) (scored-Exclude D node new lent (subst (IsTree D) c.in-Exclude.is c.requires.valid) (subst (IsTreePlaced D) c.in-Exclude.is c.requires.placed) is.score is.fits is.entries is.inner is.placed is.head is.out is.top is.depth)
+    scored-as D (Exclude node) (Exclude (record node { value = new })) c.in-Exclude.is (rw (c.in-Exclude.is, outs-Exclude node) refl)
+    (scored-Exclude D node new lent (subst (IsTree D) c.in-Exclude.is c.requires.valid)
+    (subst (IsTreePlaced D) c.in-Exclude.is c.requires.placed) is.score is.fits is.entries is.inner is.placed is.head is.out is.top is.depth)
 
 pub any_scorer::score_other-score_group-requires : goal.any_scorer::score_other-score_group-requires
 any_scorer::score_other-score_group-requires g t c κs within =
@@ -1737,7 +1963,8 @@ any_scorer::score_other-score_group-requires g t c κs within =
     let node = c.in-Disjunction.node in
     let value = rw (c.in-Disjunction.is, outs-Disjunction c.in-Disjunction.node) at c.deref_mut-in-Disjunction.ensures.value in
     let opened = subst (IsGroupNode D) (sym value) (opened-Disjunction D node (subst (IsTree D) c.in-Disjunction.is c.requires.valid)) in
-    let here : c.deref_mut-in-Disjunction.result.now.current < TERMINATED = omega (arith, c.requires.here, ap (tree_head D) c.in-Disjunction.is, ap (λ (n : GroupNode g.row.S.Denot). n.current) value) in
+    let here : c.deref_mut-in-Disjunction.result.now.current < TERMINATED =
+    omega (arith, c.requires.here, ap (tree_head D) c.in-Disjunction.is, ap (λ (n : GroupNode g.row.S.Denot). n.current) value) in
     (search (rules, aq.the_lemmas), (search rules, (opened, here)))
 
 pub any_scorer::score_other-score_intersection-requires : goal.any_scorer::score_other-score_intersection-requires
@@ -1745,8 +1972,13 @@ any_scorer::score_other-score_intersection-requires g t c κs within =
     let node = c.in-Intersection.node in
     let lent = rw (c.in-Intersection.is, outs-Intersection node) at c.deref_mut-in-Intersection.ensures.value in
     let is = c.in-Intersection.is in
-    let D = g.S.DocSet in
-    (search (rules, aq.the_lemmas), (search rules, (lent-trees D node is lent c.requires.valid, (lent-together D node is lent c.requires.placed, lent-here D node is lent c.requires.here))))
+    let D = g.S.DocSet in (
+      search (rules, aq.the_lemmas),
+      (
+        search rules,
+        (lent-trees D node is lent c.requires.valid, (lent-together D node is lent c.requires.placed, lent-here D node is lent c.requires.here)),
+      ),
+    )
 
 pub any_scorer::score_other-returns-in-Disjunction : goal.any_scorer::score_other-returns-in-Disjunction
 any_scorer::score_other-returns-in-Disjunction g t c =
@@ -1755,7 +1987,8 @@ any_scorer::score_other-returns-in-Disjunction g t c =
     let lent = rw (c.in-Disjunction.is, outs-Disjunction node) at c.deref_mut-in-Disjunction.ensures.value in
     let new = c.score_group.new.node in
     let is = c.score_group.ensures in
-    scored-as D (Disjunction node) (Disjunction (record node { value = new })) c.in-Disjunction.is (rw (c.in-Disjunction.is, outs-Disjunction node) refl) (scored-Disjunction D node new lent is.score is.fits is.lists is.valid is.shape is.current is.depth)
+    scored-as D (Disjunction node) (Disjunction (record node { value = new })) c.in-Disjunction.is (rw (c.in-Disjunction.is, outs-Disjunction node) refl)
+    (scored-Disjunction D node new lent is.score is.fits is.lists is.valid is.shape is.current is.depth)
 
 pub any_scorer::score_other-returns-in-Intersection : goal.any_scorer::score_other-returns-in-Intersection
 any_scorer::score_other-returns-in-Intersection g t c =
@@ -1764,7 +1997,8 @@ any_scorer::score_other-returns-in-Intersection g t c =
     let lent = rw (c.in-Intersection.is, outs-Intersection node) at c.deref_mut-in-Intersection.ensures.value in
     let new = c.score_intersection.new.node in
     let is = c.score_intersection.ensures in
-    scored-as D (Intersection node) (Intersection (record node { value = new })) c.in-Intersection.is (rw (c.in-Intersection.is, outs-Intersection node) refl) (scored-Intersection D node new c.in-Intersection.is lent c.requires.valid is.score is.fits is.entries is.trees is.placed is.head is.top is.depth)
+    scored-as D (Intersection node) (Intersection (record node { value = new })) c.in-Intersection.is (rw (c.in-Intersection.is, outs-Intersection node) refl)
+    (scored-Intersection D node new c.in-Intersection.is lent c.requires.valid is.score is.fits is.entries is.trees is.placed is.head is.top is.depth)
 
 -- ---- unions
 

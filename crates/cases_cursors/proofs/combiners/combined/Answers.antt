@@ -27,7 +27,8 @@ loop-call-preserved g c =
             stands = record {
               start = stands.start;
               scores = stands.scores ++ (x ∷ []);
-              is = w.update.ensures.state ∙ ap (step c.loop-call.combiner) w.scored.ensures.score ∙ ap (λ m. step m x) stands.is ∙ sym (fold-append step begun stands.scores (x ∷ []));
+              is = w.update.ensures.state ∙ ap (step c.loop-call.combiner) w.scored.ensures.score
+                  ∙ ap (λ m. step m x) stands.is ∙ sym (fold-append step begun stands.scores (x ∷ []));
               adds_up = sum_by-append (λ n. n) stands.scores (x ∷ []) ∙ omega (arith, stands.adds_up, sum_by-cons (λ n. n) x []);
             };
             fits = omega (arith, c.loop-call.invariant.fits, w.if-score-total.false);

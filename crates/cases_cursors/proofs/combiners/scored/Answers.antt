@@ -15,4 +15,5 @@ pub returns-clause-score : goal.returns-clause-score
 unfolding all_from rescored
 returns-clause-score c =
     let constant : nat_abs (to_z w64 c.args.score) ≡ c.args.score = omega (arith, ints) in
-    ap head_score c.new-2.ensures.cursor.entries ∙ ap (λ es. head_score (rescored (λ _. nat_abs (to_z w64 c.args.score)) es)) c.new.ensures.lists.entries ∙ constant
+    ap head_score c.new-2.ensures.cursor.entries
+    ∙ ap (λ es. head_score (rescored (λ _. nat_abs (to_z w64 c.args.score)) es)) c.new.ensures.lists.entries ∙ constant

@@ -7,4 +7,5 @@ use Rattle.cases_cursors.proofs.constants.add_constants.Goals as goal
 
 pub loop-end-preserved : goal.loop-end-preserved
 loop-end-preserved c =
-    rw c.in_ok-push.ensures.items (All-push (λ m. IsOverAll m.docset × (pos 0 ≤ℤ m.score)) c.loop-end.members.items _ c.loop-end.invariant c.new-in-loop-end.ensures.cursor.valid)
+    rw c.in_ok-push.ensures.items
+    (All-push (λ m. IsOverAll m.docset × (pos 0 ≤ℤ m.score)) c.loop-end.members.items _ c.loop-end.invariant c.new-in-loop-end.ensures.cursor.valid)

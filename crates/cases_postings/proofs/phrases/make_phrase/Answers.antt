@@ -7,6 +7,7 @@ use Rattle.cases_postings.proofs.phrases.make_phrase.Goals as goal
 
 pub new-made-requires-clause-covered : goal.new-made-requires-clause-covered
 new-made-requires-clause-covered g c = λ k d below. λ n e within.
-    let long : length (norm_ids c.constant-reader.result) ≡ c.args.num_docs = ap length c.constant-reader.ensures.ids ∙ length-replicate c.args.num_docs c.args.scoring.length_id in
+    let long : length (norm_ids c.constant-reader.result) ≡ c.args.num_docs = ap length c.constant-reader.ensures.ids
+    ∙ length-replicate c.args.num_docs c.args.scoring.length_id in
     let least = all-below_end 0 _ _ (g.met.P.DocSet.ascending _ (c.requires.valid k d below)) n e within in
     omega (arith, long, least, c.requires.all)

@@ -11,12 +11,16 @@ for_each-requires g c = record { allowed = λ es is. search (rules, MayCallEach-
 pub returns-else-collected : goal.returns-else-collected
 returns-else-collected g c =
     let es = c.in_ok-for_each.ensures.calls.0 in
-    let collected = CallsEach-keeps _ (λ first f xs. (f.0.now.refused ≡ false → f.0.now.found.items ++ pairs xs ≡ pairs es) × (f.0.ghost_name ≡ first.0.ghost_name)) _
+    let collected =
+    CallsEach-keeps _ (λ first f xs. (f.0.now.refused ≡ false → f.0.now.found.items ++ pairs xs ≡ pairs es) × (f.0.ghost_name ≡ first.0.ghost_name)) _
     (λ f h x xs kept made.
     let before : h.0.now.refused ≡ false → f.0.now.refused ≡ false = search rules in
     let found : h.0.now.refused ≡ false → h.0.now.found.items ≡ f.0.now.found.items ++ (x.document, pos x.score) ∷ [] = search rules in
-    let same : h.0.ghost_name ≡ f.0.ghost_name = search rules in
-    (λ ok. ap (λ v. v ++ pairs xs) (found ok) ∙ append_assoc f.0.now.found.items ((x.document, pos x.score) ∷ []) (pairs xs) ∙ kept.0 (before ok), same ∙ kept.1))
+    let same : h.0.ghost_name ≡ f.0.ghost_name = search rules in (
+      λ ok. ap (λ v. v ++ pairs xs) (found ok)
+          ∙ append_assoc f.0.now.found.items ((x.document, pos x.score) ∷ []) (pairs xs) ∙ kept.0 (before ok),
+      same ∙ kept.1,
+    ))
     es _ (λ _. ap (λ v. v ++ pairs es) c.new.ensures.items, refl) c.in_ok-for_each.ensures.calls.2 in
     let callback = c.for_each.new.callback in
     let all : callback.0.now.refused ≡ false → callback.0.now.found.items ≡ pairs es = λ ok. sym (append-nil callback.0.now.found.items) ∙ collected.0 ok in

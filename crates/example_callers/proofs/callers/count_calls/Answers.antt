@@ -13,5 +13,6 @@ for_each_scorer-requires-clause-allowed g c =
 pub returns : goal.returns
 returns g c =
     let es = g.S.DocSet.entries c.args.scorer.now in
-    let counted = CallsEach-keeps _ (λ first f xs. (f.0.now + length xs ≡ length es) × (f.0.ghost_name ≡ first.0.ghost_name)) _ (λ f h x xs kept made. search rules) es _ (omega arith, refl) c.for_each_scorer.ensures.calls in
+    let counted = CallsEach-keeps _ (λ first f xs. (f.0.now + length xs ≡ length es) × (f.0.ghost_name ≡ first.0.ghost_name)) _
+    (λ f h x xs kept made. search rules) es _ (omega arith, refl) c.for_each_scorer.ensures.calls in
     search rules

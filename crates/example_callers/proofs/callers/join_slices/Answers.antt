@@ -13,7 +13,8 @@ for_each_docset_buffered-requires-clause-allowed g c = search (rules, MayCallEac
 pub returns-else-joined : goal.returns-else-joined
 returns-else-joined g c =
     let ds = documents (g.D.DocSet.entries c.args.docset.now) in
-    let joined = CallsEach-keeps _ (λ first f left. (f.0.now.refused ≡ false → f.0.now.documents.items ++ concat left ≡ ds) × (f.0.ghost_name ≡ first.0.ghost_name)) _
+    let joined =
+    CallsEach-keeps _ (λ first f left. (f.0.now.refused ≡ false → f.0.now.documents.items ++ concat left ≡ ds) × (f.0.ghost_name ≡ first.0.ghost_name)) _
     (λ f h slice left kept made.
     let before : h.0.now.refused ≡ false → f.0.now.refused ≡ false = search rules in
     let documents_now : h.0.now.refused ≡ false → h.0.now.documents.items ≡ f.0.now.documents.items ++ slice = search rules in

@@ -20,7 +20,8 @@ returns-clause-scores c = λ exact on.
     let tree = tree_of c.args.weight.value in
     let k = nat_abs c.args.boost in
     let is = c.new-boosted.ensures in
-    let first = subst (λ w. IsTrue (is_scoring (tree_of w)) → c.in_ok-found.found.items ≡ pairs (list (tree_of w) 1 segment)) c.deref.ensures c.in_ok-found.ensures.scores on in
+    let first = subst (λ w. IsTrue (is_scoring (tree_of w)) → c.in_ok-found.found.items ≡ pairs (list (tree_of w) 1 segment))
+    c.deref.ensures c.in_ok-found.ensures.scores on in
     let second = c.in_ok-collect_matches.ensures.scores (subst (λ t. IsTrue (is_scoring t)) (sym is) on) in
     let same = ap (λ z. pairs (list (boost (nat_abs z) tree) 1 segment)) (to_z-of_z w64 c.args.boost c.ranges.boost) in
     second ∙ ap (λ t. pairs (list t 1 segment)) is ∙ same ∙ pairs-boost tree exact 1 k segment ∙ sym (ap (multiplied k) first)

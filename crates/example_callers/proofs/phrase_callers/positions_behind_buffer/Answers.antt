@@ -15,8 +15,10 @@ pub positions-requires-clause-sums : goal.positions-requires-clause-sums
 positions-requires-clause-sums g c =
     let same = (c.fill_buffer.ensures.kept c.args.postings.now (record { offset = refl; postings = λ p kept. kept })).offset in
     let fits : ℕ → Type 0 = λ p. p + offset_of c.args.postings.now ≤ 4294967295 in
-    let left = subst (All (λ (e : Entry). All fits e.positions)) (sym c.fill_buffer.ensures.entries) (All-drop (λ (e : Entry). All fits e.positions) 64 _ c.requires.sums) in
-    subst (λ n. All (λ p. p + n ≤ 4294967295) (head_positions (g.P.DocSet.entries (postings_of c.fill_buffer.new.self)))) (sym same) (All-head_positions fits _ left)
+    let left = subst (All (λ (e : Entry). All fits e.positions)) (sym c.fill_buffer.ensures.entries)
+    (All-drop (λ (e : Entry). All fits e.positions) 64 _ c.requires.sums) in
+    subst (λ n. All (λ p. p + n ≤ 4294967295) (head_positions (g.P.DocSet.entries (postings_of c.fill_buffer.new.self))))
+    (sym same) (All-head_positions fits _ left)
 
 pub returns-then-doc-lt-TERMINATED : goal.returns-then-doc-lt-TERMINATED
 returns-then-doc-lt-TERMINATED g c =

@@ -17,8 +17,10 @@ returns-else-best c =
     let es = scored_left c.args.scorer in
     let limit = c.args.limit in
     let run = c.block_wand_single_scorer.ensures.run in
-    let threshold = to_z-of_z w64 c.score_to_pass-threshold.result (record { sfits = c.score_to_pass-threshold.type_inv }) ∙ c.score_to_pass-threshold.ensures in
-    let kept_all = Plain-enters _ (λ first bar f ranked. (f.0.now.refused ≡ false → KeepsBest limit bar f.0.now.kept.items ranked) × (f.0.now.limit ≡ limit) × (f.0.ghost_name ≡ first.0.ghost_name))
+    let threshold = to_z-of_z w64 c.score_to_pass-threshold.result (record { sfits = c.score_to_pass-threshold.type_inv })
+    ∙ c.score_to_pass-threshold.ensures in
+    let kept_all = Plain-enters _ (λ first bar f ranked. (f.0.now.refused ≡ false → KeepsBest limit bar f.0.now.kept.items ranked) ×
+    (f.0.now.limit ≡ limit) × (f.0.ghost_name ≡ first.0.ghost_name))
     (λ ranked e. placed (e.document, pos e.score) ranked) _
     (λ bar after f h ranked e now above made.
     let before : h.0.now.refused ≡ false → f.0.now.refused ≡ false = search rules in
@@ -26,12 +28,15 @@ returns-else-best c =
     let kept : h.0.now.refused ≡ false → h.0.now.kept.items ≡ kept_with f.0.now.limit (e.document, pos e.score) f.0.now.kept.items = search rules in
     let answer : after ≡ score_to_pass h.0.now.limit h.0.now.kept.items = search rules in
     let same : h.0.ghost_name ≡ f.0.ghost_name = search rules in (
-      λ ok. KeepsBest-entered limit bar after (e.document, pos e.score) f.0.now.kept.items h.0.now.kept.items ranked (now.0 (before ok)) (kept ok ∙ ap (λ n. kept_with n (e.document, pos e.score) f.0.now.kept.items) now.1) (answer ∙ ap (λ n. score_to_pass n h.0.now.kept.items) (room ∙ now.1)),
+      λ ok. KeepsBest-entered limit bar after (e.document, pos e.score) f.0.now.kept.items h.0.now.kept.items ranked (now.0 (before ok)) (kept ok
+          ∙ ap (λ n. kept_with n (e.document, pos e.score) f.0.now.kept.items) now.1) (answer ∙ ap (λ n. score_to_pass n h.0.now.kept.items) (room ∙ now.1)),
       room ∙ now.1,
       same ∙ now.2,
     ))
-    (λ bar f ranked e now low. (λ ok. KeepsBest-passed limit bar (e.document, pos e.score) f.0.now.kept.items ranked (now.0 ok) (omega (arith, ints)) low, now.1, now.2))
+    (λ bar f ranked e now low.
+    (λ ok. KeepsBest-passed limit bar (e.document, pos e.score) f.0.now.kept.items ranked (now.0 ok) (omega (arith, ints)) low, now.1, now.2))
     es run.thresholds _ run.last _ [] (λ _. KeepsBest-none limit _ c.new.result.items c.new.ensures.items threshold, refl, refl) run.calls in
     let callback = c.block_wand_single_scorer.new.callback in
-    let best_kept : callback.0.now.refused ≡ false → callback.0.now.kept.items ≡ best limit (pairs es) = λ ok. (kept_all.0 ok).kept ∙ ap (take limit) (by_score-pairs es) in
+    let best_kept : callback.0.now.refused ≡ false → callback.0.now.kept.items ≡ best limit (pairs es) = λ ok. (kept_all.0 ok).kept
+    ∙ ap (take limit) (by_score-pairs es) in
     search rules

@@ -11,7 +11,8 @@ returns-clause-none g c =
     let searcher = c.args.searcher.now in
     let query = g.Q.Query.query c.args.query.now in
     let found = c.in_ok-found.found.items in
-    let top : AreTopDocs ghosts searcher query 1 found = subst (λ k. AreTopDocs ghosts searcher query k found) c.with_limit.ensures c.in_ok-found.ensures.best in
+    let top : AreTopDocs ghosts searcher query 1 found =
+    subst (λ k. AreTopDocs ghosts searcher query k found) c.with_limit.ensures c.in_ok-found.ensures.best in
     let is : c.copied.result ≡ slice_get found 0 = search rules in
     none_found (all_found ghosts searcher query) c.copied.result found is (top_docs-others ghosts searcher query 1 found top)
 
@@ -20,6 +21,8 @@ returns-clause-best g c =
     let searcher = c.args.searcher.now in
     let query = g.Q.Query.query c.args.query.now in
     let found = c.in_ok-found.found.items in
-    let top : AreTopDocs ghosts searcher query 1 found = subst (λ k. AreTopDocs ghosts searcher query k found) c.with_limit.ensures c.in_ok-found.ensures.best in
+    let top : AreTopDocs ghosts searcher query 1 found =
+    subst (λ k. AreTopDocs ghosts searcher query k found) c.with_limit.ensures c.in_ok-found.ensures.best in
     let is : c.copied.result ≡ slice_get found 0 = search rules in
-    best_found (all_found ghosts searcher query) c.copied.result found is (omega (arith, top_docs-length ghosts searcher query 1 found top)) (top_docs-others ghosts searcher query 1 found top)
+    best_found (all_found ghosts searcher query) c.copied.result found is
+    (omega (arith, top_docs-length ghosts searcher query 1 found top)) (top_docs-others ghosts searcher query 1 found top)

@@ -14,7 +14,8 @@ returns-clause-page g c =
     let query = g.Q.Query.query c.args.query.now in
     let size = c.args.size in
     let found = c.in_ok-found.found.items in
-    let top : AreTopDocs ghosts searcher query (size + 1) found = subst (λ k. AreTopDocs ghosts searcher query k found) c.with_limit.ensures c.in_ok-found.ensures.best in
+    let top : AreTopDocs ghosts searcher query (size + 1) found =
+    subst (λ k. AreTopDocs ghosts searcher query k found) c.with_limit.ensures c.in_ok-found.ensures.best in
     let page : AreTopDocs ghosts searcher query size (take size found) = top_docs-fewer ghosts searcher query (size + 1) found top size (omega arith) in
     subst (AreTopDocs ghosts searcher query size) (sym c.truncate.ensures.items) page
 
@@ -24,7 +25,8 @@ returns-clause-more g c =
     let query = g.Q.Query.query c.args.query.now in
     let size = c.args.size in
     let found = c.in_ok-found.found.items in
-    let top : AreTopDocs ghosts searcher query (size + 1) found = subst (λ k. AreTopDocs ghosts searcher query k found) c.with_limit.ensures c.in_ok-found.ensures.best in
+    let top : AreTopDocs ghosts searcher query (size + 1) found =
+    subst (λ k. AreTopDocs ghosts searcher query k found) c.with_limit.ensures c.in_ok-found.ensures.best in
     let count = count_in (query_tree ghosts (with_scores searcher) query) searcher.segments in
     let long : c.len.result ≡ length found = search rules in
     ap (nat_lt size) (long ∙ top_docs-length ghosts searcher query (size + 1) found top) ∙ more_found size count

@@ -15,13 +15,18 @@ returns-else-joined g c =
     let tree = g.W.Weight.tree c.args.weight.now in
     let segment = c.args.reader.now.segment in
     let ds = matching tree segment in
-    let joined = CallsEach-keeps _ (λ first f left. (f.0.now.refused ≡ false → f.0.now.documents.items ++ concat left ≡ ds) × (f.0.ghost_name ≡ first.0.ghost_name)) _
+    let joined =
+    CallsEach-keeps _ (λ first f left. (f.0.now.refused ≡ false → f.0.now.documents.items ++ concat left ≡ ds) × (f.0.ghost_name ≡ first.0.ghost_name)) _
     (λ f h slice left kept made.
     let before : h.0.now.refused ≡ false → f.0.now.refused ≡ false = search rules in
     let documents_now : h.0.now.refused ≡ false → h.0.now.documents.items ≡ f.0.now.documents.items ++ slice = search rules in
     let same : h.0.ghost_name ≡ f.0.ghost_name = search rules in
     (λ ok. ap (λ v. v ++ concat left) (documents_now ok) ∙ append_assoc f.0.now.documents.items slice (concat left) ∙ kept.0 (before ok), same ∙ kept.1))
-    (tree_slices tree segment) _ (λ _. ap (λ v. v ++ concat (tree_slices tree segment)) c.new.ensures.items ∙ concat-tree_slices tree segment, refl) c.in_ok-for_each_no_score.ensures.calls in
+    (tree_slices tree segment) _ (
+      λ _. ap (λ v. v ++ concat (tree_slices tree segment)) c.new.ensures.items
+          ∙ concat-tree_slices tree segment,
+      refl,
+    ) c.in_ok-for_each_no_score.ensures.calls in
     let callback = c.for_each_no_score.new.callback in
     let all : callback.0.now.refused ≡ false → callback.0.now.documents.items ≡ ds = λ ok. sym (append-nil callback.0.now.documents.items) ∙ joined.0 ok in
     search rules

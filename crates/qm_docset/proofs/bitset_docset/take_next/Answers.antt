@@ -8,8 +8,10 @@ use Rattle.qm_docset.proofs.bitset_docset.take_next.Goals.{In-Some, In_err-bucke
 
 -- the word has a member
 popped : (c : In-Some) → (Some (64 * c.args.bucket.now + c.in-Some.lowest) ≡ slice_get (members_left c.args.docs.now c.args.bucket.now c.args.word.now) 0)
-    × (members_left c.args.docs.now c.args.bucket.now c.pop_lowest.new.self ≡ drop 1 (members_left c.args.docs.now c.args.bucket.now c.args.word.now)) × (c.in-Some.lowest < 64)
-popped c = left-pop c.args.docs.now c.args.bucket.now c.args.word.now c.pop_lowest.new.self c.pop_lowest.ensures.members c.in-Some.lowest c.in-Some.ensures.lowest
+    × (members_left c.args.docs.now c.args.bucket.now c.pop_lowest.new.self ≡ drop 1 (members_left c.args.docs.now c.args.bucket.now c.args.word.now)) ×
+    (c.in-Some.lowest < 64)
+popped c =
+    left-pop c.args.docs.now c.args.bucket.now c.args.word.now c.pop_lowest.new.self c.pop_lowest.ensures.members c.in-Some.lowest c.in-Some.ensures.lowest
 
 pub overflow_add-result : goal.overflow_add-result
 overflow_add-result c = omega (arith, (popped (goal.at.overflow_add-result c).In-Some).2)
@@ -24,7 +26,8 @@ returns-in-Some-clause-left c = (popped (goal.at.returns-in-Some-clause-left c).
 none_left : (c : In_err-bucket) → (None ≡ slice_get (members_left c.args.docs.now c.args.bucket.now c.args.word.now) 0)
     × (members_left c.args.docs.now c.args.bucket.now c.pop_lowest.new.self ≡ drop 1 (members_left c.args.docs.now c.args.bucket.now c.args.word.now))
 none_left c =
-    left-none c.args.docs.now c.args.bucket.now c.args.word.now c.pop_lowest.new.self c.pop_lowest.ensures.members c.in_default.ensures.lowest c.in_err-bucket.ensures
+    left-none c.args.docs.now c.args.bucket.now c.args.word.now c.pop_lowest.new.self
+    c.pop_lowest.ensures.members c.in_default.ensures.lowest c.in_err-bucket.ensures
 
 pub returns-in_err-bucket-clause-next : goal.returns-in_err-bucket-clause-next
 returns-in_err-bucket-clause-next c = c.from_residual.ensures ∙ (none_left (goal.at.returns-in_err-bucket-clause-next c).In_err-bucket).0
@@ -36,12 +39,16 @@ returns-in_err-bucket-clause-left c = (none_left (goal.at.returns-in_err-bucket-
 later : (c : After-tinyset) → (64 * c.in_ok-bucket.field-0 < set_max_value c.args.docs.now) × ((None ≡ slice_get (tiny_members c.tinyset.result) 0) → ⊥)
     × (members_left c.args.docs.now c.in_ok-bucket.field-0 c.tinyset.result ≡ members_left c.args.docs.now c.args.bucket.now c.args.word.now)
 later c =
-    left-next c.args.docs.now c.args.bucket.now c.args.word.now c.pop_lowest.new.self c.pop_lowest.ensures.members c.in_default.ensures.lowest c.in_ok-bucket.field-0 c.tinyset.result c.in_ok-bucket.ensures c.tinyset.ensures
+    left-next c.args.docs.now c.args.bucket.now c.args.word.now c.pop_lowest.new.self c.pop_lowest.ensures.members
+    c.in_default.ensures.lowest c.in_ok-bucket.field-0 c.tinyset.result c.in_ok-bucket.ensures c.tinyset.ensures
 
-popped_later : (c : After-unwrap-lowest) → (Some (64 * c.in_ok-bucket.field-0 + c.unwrap-lowest.result) ≡ slice_get (members_left c.args.docs.now c.in_ok-bucket.field-0 c.tinyset.result) 0)
-    × (members_left c.args.docs.now c.in_ok-bucket.field-0 c.pop_lowest-2.new.self ≡ drop 1 (members_left c.args.docs.now c.in_ok-bucket.field-0 c.tinyset.result)) × (c.unwrap-lowest.result < 64)
+popped_later : (c : After-unwrap-lowest) →
+    (Some (64 * c.in_ok-bucket.field-0 + c.unwrap-lowest.result) ≡ slice_get (members_left c.args.docs.now c.in_ok-bucket.field-0 c.tinyset.result) 0)
+    × (members_left c.args.docs.now c.in_ok-bucket.field-0 c.pop_lowest-2.new.self
+    ≡ drop 1 (members_left c.args.docs.now c.in_ok-bucket.field-0 c.tinyset.result)) × (c.unwrap-lowest.result < 64)
 popped_later c =
-    left-pop c.args.docs.now c.in_ok-bucket.field-0 c.tinyset.result c.pop_lowest-2.new.self c.pop_lowest-2.ensures.members c.unwrap-lowest.result (sym c.unwrap-lowest.ensures ∙ c.pop_lowest-2.ensures.lowest)
+    left-pop c.args.docs.now c.in_ok-bucket.field-0 c.tinyset.result c.pop_lowest-2.new.self c.pop_lowest-2.ensures.members c.unwrap-lowest.result
+    (sym c.unwrap-lowest.ensures ∙ c.pop_lowest-2.ensures.lowest)
 
 pub unwrap-lowest-requires : goal.unwrap-lowest-requires
 unwrap-lowest-requires c =
@@ -53,7 +60,12 @@ overflow_mul-result-2 c = omega (arith, c.requires.documents, (later (goal.at.ov
 
 pub overflow_add-result-2 : goal.overflow_add-result-2
 overflow_add-result-2 c =
-    omega (arith, c.requires.documents, (later (goal.at.overflow_add-result-2 c).After-tinyset).0, (popped_later (goal.at.overflow_add-result-2 c).After-unwrap-lowest).2)
+    omega (
+      arith,
+      c.requires.documents,
+      (later (goal.at.overflow_add-result-2 c).After-tinyset).0,
+      (popped_later (goal.at.overflow_add-result-2 c).After-unwrap-lowest).2,
+    )
 
 pub returns-clause-next : goal.returns-clause-next
 returns-clause-next c =

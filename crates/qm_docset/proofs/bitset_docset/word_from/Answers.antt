@@ -5,7 +5,8 @@ use Rattle.qm_docset.proofs.BitSetLemmas.{word_members_from}
 use Rattle.qm_docset.proofs.bitset_docset.word_from.Goals as goal
 use Rattle.qm_docset.proofs.bitset_docset.word_from.Goals.{After-intersect}
 
-both : (c : After-intersect) (x : ℕ) → tiny_has c.intersect.result x ≡ ((nat_lt x 64 && set_has c.args.docs.now (64 * (c.args.doc / 64) + x)) && (nat_le (c.args.doc % 64) x && nat_lt x 64))
+both : (c : After-intersect) (x : ℕ) →
+    tiny_has c.intersect.result x ≡ ((nat_lt x 64 && set_has c.args.docs.now (64 * (c.args.doc / 64) + x)) && (nat_le (c.args.doc % 64) x && nat_lt x 64))
 both c x = c.intersect.ensures x ∙ ap₂ (λ a b. a && b) (c.tinyset.ensures x) (c.range_greater_or_equal.ensures x)
 
 pub returns-clause-has : goal.returns-clause-has

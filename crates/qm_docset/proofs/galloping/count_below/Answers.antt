@@ -22,12 +22,18 @@ loop-doc-preserved c =
           ] in
           rw w.below-is (record {
             short = omega arith;
-            passed = λ k l. elim (cases_lt k c.loop-doc.below) [ inl before ↦ known.passed k before | inr last ↦ let here : k ≡ c.loop-doc.doc-index = omega arith in rw here w.if-doc-target.true ];
+            passed = λ k l. elim (cases_lt k c.loop-doc.below) [
+              | inl before ↦ known.passed k before
+              | inr last ↦ let here : k ≡ c.loop-doc.doc-index = omega arith in rw here w.if-doc-target.true
+            ];
             reached = λ k l h. absurd (omega arith);
           })
       | else-doc-target w ↦ rw w.below-is (record {
         short = omega arith;
         passed = known.passed;
-        reached = λ k l h. elim (cases_lt k c.loop-doc.doc-index) [ inl before ↦ known.reached k l before | inr last ↦ let here : k ≡ c.loop-doc.doc-index = omega arith in rw here w.if-doc-target.false ];
+        reached = λ k l h. elim (cases_lt k c.loop-doc.doc-index) [
+          | inl before ↦ known.reached k l before
+          | inr last ↦ let here : k ≡ c.loop-doc.doc-index = omega arith in rw here w.if-doc-target.false
+        ];
       })
     ]

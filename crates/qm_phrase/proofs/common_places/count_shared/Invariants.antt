@@ -7,7 +7,8 @@ abbrev pub invariant-loop-count : goal.invariant-loop-count
 invariant-loop-count l = record {
   rows : All (Ascends 0) (places_left l.row ∷ places_left l.common ∷ []);
   within : l.count ≤ 4294967295;
-  counted : min 4294967295 (l.count + starts 0 (places_left l.row ∷ places_left l.common ∷ [])) ≡ min 4294967295 (starts 0 (places_left l.fn.row ∷ places_of l.fn.common ∷ []));
+  counted : min 4294967295 (l.count + starts 0 (places_left l.row ∷ places_left l.common ∷ []))
+      ≡ min 4294967295 (starts 0 (places_left l.fn.row ∷ places_of l.fn.common ∷ []));
   all : places_of l.common ≡ places_of l.fn.common;
   common_shift : shift_of l.common ≡ shift_of l.fn.common;
   common_room : room_of l.common ≡ room_of l.fn.common;

@@ -12,6 +12,20 @@ loop-row-preserved c =
     let more = take-map_more places_left rows i c.row-item.result c.row-item.is (omega arith) in
     let sets = take i (map places_left rows) in
     record {
-      least = omega (arith, ap least_first more, least_first-push sets (places_left c.row-item.result), c.loop-row.invariant.least, c.first-place.ensures, c.min-least.ensures);
-      greatest = omega (arith, ap greatest_first more, greatest_first-push sets (places_left c.row-item.result), c.loop-row.invariant.greatest, c.first-place.ensures, c.max-greatest.ensures);
+      least = omega (
+        arith,
+        ap least_first more,
+        least_first-push sets (places_left c.row-item.result),
+        c.loop-row.invariant.least,
+        c.first-place.ensures,
+        c.min-least.ensures,
+      );
+      greatest = omega (
+        arith,
+        ap greatest_first more,
+        greatest_first-push sets (places_left c.row-item.result),
+        c.loop-row.invariant.greatest,
+        c.first-place.ensures,
+        c.max-greatest.ensures,
+      );
     }

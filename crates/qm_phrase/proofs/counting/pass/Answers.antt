@@ -13,7 +13,8 @@ loop-row-preserved c =
     let row = c.pass.new.self in
     let was = c.row-item.result in
     record {
-      passed = each_more places_left (past c.args.place) rows (map places_left c.args.rows.now) i row was (omega arith) c.loop-row.invariant.passed (cc c.pass.ensures.left);
+      passed = each_more places_left (past c.args.place) rows (map places_left c.args.rows.now) i row was
+          (omega arith) c.loop-row.invariant.passed (cc c.pass.ensures.left);
       shifts = map-set_same shift_of rows i row was (omega arith) (cc c.pass.ensures.shift) ∙ c.loop-row.invariant.shifts;
       room = map-set_same room_of rows i row was (omega arith) (cc c.pass.ensures.room) ∙ c.loop-row.invariant.room;
     }

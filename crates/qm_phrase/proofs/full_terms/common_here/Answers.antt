@@ -13,18 +13,22 @@ pub collect_common-requires-clause-rows : goal.collect_common-requires-clause-ro
 collect_common-requires-clause-rows g c =
     let members = c.args.members.now in
     let positions = All-head_positions g.P.DocSet.valid g.P.DocSet.entries g.met.P.Postings.ordered members c.requires.valid.valid in
-    subst (All (Ascends 0)) (sym c.read_places.ensures.sets) (All-shifted_each (map shift_of c.args.places.now) (map head_positions (lists g.P.DocSet members)) c.requires.valid.shifts positions)
+    subst (All (Ascends 0)) (sym c.read_places.ensures.sets)
+    (All-shifted_each (map shift_of c.args.places.now) (map head_positions (lists g.P.DocSet members)) c.requires.valid.shifts positions)
 
 pub collect_common-requires-clause-room : goal.collect_common-requires-clause-room
 collect_common-requires-clause-room g c =
     let members = c.args.members.now in
     let places = c.args.places.now in
-    let fits = first-fits g.P.DocSet g.met.P.DocSet.ascending (map shift_of places) members c.requires.valid.some (paired g.P.DocSet members places c.requires.valid) c.requires.valid.valid in
+    let fits = first-fits g.P.DocSet g.met.P.DocSet.ascending (map shift_of places) members c.requires.valid.some
+    (paired g.P.DocSet members places c.requires.valid) c.requires.valid.valid in
     omega (arith, ap (λ r. length (get_or r 0 [])) c.read_places.ensures.sets, fits, c.requires.common.room)
 
 pub returns-clause-buffer : goal.returns-clause-buffer
 returns-clause-buffer g c =
-    IsCommonBuffer-kept g.P.DocSet c.args.members.now c.read_places.new.members c.args.places.now c.collect_common.new.rows c.args.common.now c.collect_common.new.common c.requires.common c.read_places.ensures.limits (c.collect_common.ensures.shifts ∙ c.read_places.ensures.shifts) c.collect_common.ensures.shift c.collect_common.ensures.room
+    IsCommonBuffer-kept g.P.DocSet c.args.members.now c.read_places.new.members c.args.places.now c.collect_common.new.rows
+    c.args.common.now c.collect_common.new.common c.requires.common c.read_places.ensures.limits
+    (c.collect_common.ensures.shifts ∙ c.read_places.ensures.shifts) c.collect_common.ensures.shift c.collect_common.ensures.room
 
 pub collect_common-requires-clause-some : goal.collect_common-requires-clause-some
 collect_common-requires-clause-some g c = grind (arith, common_steps)

@@ -33,20 +33,26 @@ returns-in-SeekLowerBound-clause-answer g c =
     let new = c.seek_each.new.members in
     let places = c.args.places.now in
     let shared = c.in-SeekLowerBound.ensures.answer in
-    let terms = AreTerms-moved D old new places c.requires.valid c.seek_each.ensures.valid c.seek_each.ensures.limits in
-    (shared.0, shared.1, λ d low high. sym (starts_at-from 0 c.args.doc d (map shift_of places) (lists D new) (lists D old) low c.seek_each.ensures.entries) ∙ behind D g.met.P.DocSet.ascending 0 d c.in-SeekLowerBound.bound new places terms shared.2 high)
+    let terms = AreTerms-moved D old new places c.requires.valid c.seek_each.ensures.valid c.seek_each.ensures.limits in (
+      shared.0,
+      shared.1,
+      λ d low high. sym (starts_at-from 0 c.args.doc d (map shift_of places) (lists D new) (lists D old) low c.seek_each.ensures.entries)
+          ∙ behind D g.met.P.DocSet.ascending 0 d c.in-SeekLowerBound.bound new places terms shared.2 high,
+    )
 
 pub returns-in-SeekLowerBound-clause-buffer : goal.returns-in-SeekLowerBound-clause-buffer
 returns-in-SeekLowerBound-clause-buffer g c =
     let places = c.args.places.now in
     let common = c.args.common.now in
-    IsCommonBuffer-kept g.P.DocSet c.args.members.now c.seek_each.new.members places places common common c.requires.common c.seek_each.ensures.limits refl refl (omega arith)
+    IsCommonBuffer-kept g.P.DocSet c.args.members.now c.seek_each.new.members places places common common c.requires.common c.seek_each.ensures.limits refl refl
+    (omega arith)
 
 pub common_here-requires-clause-common : goal.common_here-requires-clause-common
 common_here-requires-clause-common g c =
     let places = c.args.places.now in
     let common = c.args.common.now in
-    IsCommonBuffer-kept g.P.DocSet c.args.members.now c.seek_each.new.members places places common common c.requires.common c.seek_each.ensures.limits refl refl (omega arith)
+    IsCommonBuffer-kept g.P.DocSet c.args.members.now c.seek_each.new.members places places common common c.requires.common c.seek_each.ensures.limits refl refl
+    (omega arith)
 
 pub returns-in-0-clause-moved : goal.returns-in-0-clause-moved
 returns-in-0-clause-moved g c =
@@ -58,7 +64,9 @@ returns-in-0-clause-moved g c =
       valid = c.common_here.ensures.valid;
       shifts = c.common_here.ensures.shifts;
       lists = ap (map (from c.args.doc)) c.common_here.ensures.entries ∙ c.seek_each.ensures.entries;
-      behind = λ d h. term_starts-same D 0 d sought c.common_here.new.members places c.common_here.new.places c.common_here.ensures.shifts c.common_here.ensures.entries ∙ behind D g.met.P.DocSet.ascending 0 d c.args.doc sought places terms (first_stands D.placed D.entries c.args.doc sought terms.some c.in_default.ensures.answer) h;
+      behind = λ d h. term_starts-same D 0 d sought c.common_here.new.members places c.common_here.new.places c.common_here.ensures.shifts
+          c.common_here.ensures.entries ∙ behind D g.met.P.DocSet.ascending 0 d c.args.doc sought places terms
+          (first_stands D.placed D.entries c.args.doc sought terms.some c.in_default.ensures.answer) h;
     }
 
 pub returns-in_default-common_here-clause-moved : goal.returns-in_default-common_here-clause-moved
@@ -71,7 +79,9 @@ returns-in_default-common_here-clause-moved g c =
       valid = c.common_here.ensures.valid;
       shifts = c.common_here.ensures.shifts;
       lists = ap (map (from c.args.doc)) c.common_here.ensures.entries ∙ c.seek_each.ensures.entries;
-      behind = λ d h. term_starts-same D 0 d sought c.common_here.new.members places c.common_here.new.places c.common_here.ensures.shifts c.common_here.ensures.entries ∙ behind D g.met.P.DocSet.ascending 0 d c.args.doc sought places terms (first_stands D.placed D.entries c.args.doc sought terms.some c.in_default.ensures.answer) h;
+      behind = λ d h. term_starts-same D 0 d sought c.common_here.new.members places c.common_here.new.places c.common_here.ensures.shifts
+          c.common_here.ensures.entries ∙ behind D g.met.P.DocSet.ascending 0 d c.args.doc sought places terms
+          (first_stands D.placed D.entries c.args.doc sought terms.some c.in_default.ensures.answer) h;
     }
 
 pub returns-in-0-clause-answer : goal.returns-in-0-clause-answer
@@ -81,7 +91,8 @@ returns-in-0-clause-answer g c =
     let sought = c.seek_each.new.members in
     let places = c.args.places.now in
     let doc = c.args.doc in
-    let here = starts_at-here D.valid D.placed D.limits D.entries g.met.P.DocSet.ascending 0 doc (map shift_of places) sought c.requires.doc c.seek_each.ensures.valid c.in_default.ensures.answer in
+    let here = starts_at-here D.valid D.placed D.limits D.entries g.met.P.DocSet.ascending 0 doc
+    (map shift_of places) sought c.requires.doc c.seek_each.ensures.valid c.in_default.ensures.answer in
     let same = starts_at-from 0 doc doc (map shift_of places) (lists D sought) (lists D old) (omega arith) c.seek_each.ensures.entries in
     let terms = AreTerms-moved D old sought places c.requires.valid c.seek_each.ensures.valid c.seek_each.ensures.limits in
     let read = common-starts (shifted_each (map shift_of places) (map head_positions (lists D sought))) (some-sets D sought places terms) in
@@ -95,7 +106,8 @@ returns-in_default-common_here-clause-answer g c =
     let sought = c.seek_each.new.members in
     let places = c.args.places.now in
     let doc = c.args.doc in
-    let here = starts_at-here D.valid D.placed D.limits D.entries g.met.P.DocSet.ascending 0 doc (map shift_of places) sought c.requires.doc c.seek_each.ensures.valid c.in_default.ensures.answer in
+    let here = starts_at-here D.valid D.placed D.limits D.entries g.met.P.DocSet.ascending 0 doc
+    (map shift_of places) sought c.requires.doc c.seek_each.ensures.valid c.in_default.ensures.answer in
     let same = starts_at-from 0 doc doc (map shift_of places) (lists D sought) (lists D old) (omega arith) c.seek_each.ensures.entries in
     let terms = AreTerms-moved D old sought places c.requires.valid c.seek_each.ensures.valid c.seek_each.ensures.limits in
     let read = common-starts (shifted_each (map shift_of places) (map head_positions (lists D sought))) (some-sets D sought places terms) in
@@ -108,6 +120,7 @@ returns-in_default-common_here-clause-common g c =
     let sought = c.seek_each.new.members in
     let shifts = map shift_of c.args.places.now in
     let doc = c.args.doc in
-    let here = sets_at-here D.valid D.placed D.limits D.entries g.met.P.DocSet.ascending doc shifts sought c.requires.doc c.seek_each.ensures.valid c.in_default.ensures.answer in
+    let here = sets_at-here D.valid D.placed D.limits D.entries g.met.P.DocSet.ascending doc
+    shifts sought c.requires.doc c.seek_each.ensures.valid c.in_default.ensures.answer in
     let same = sets_at-from doc doc shifts (lists D sought) (lists D old) (omega arith) c.seek_each.ensures.entries in
     subst (λ sets. IsCommonOf sets (places_of c.common_here.new.common)) (sym here ∙ same) c.common_here.ensures.common

@@ -15,7 +15,8 @@ pub count_shared-requires-clause-row : goal.count_shared-requires-clause-row
 count_shared-requires-clause-row g c =
     let suffix = c.seek_danger.new.self in
     let positions = head_positions (g.P.DocSet.entries suffix) in
-    subst (Ascends 0) (sym c.read.ensures.left) (Ascends-zero (shift_of c.args.row.now) positions c.requires.shift (ArePositions-head (g.P.DocSet.entries suffix) (g.met.P.Postings.ordered suffix c.seek_danger.ensures.valid)))
+    subst (Ascends 0) (sym c.read.ensures.left) (Ascends-zero (shift_of c.args.row.now) positions c.requires.shift
+    (ArePositions-head (g.P.DocSet.entries suffix) (g.met.P.Postings.ordered suffix c.seek_danger.ensures.valid)))
 
 pub returns-in-Found-clause-count : goal.returns-in-Found-clause-count
 returns-in-Found-clause-count g c =
@@ -23,8 +24,10 @@ returns-in-Found-clause-count g c =
     let old = g.P.DocSet.entries c.args.suffix.now in
     let new = g.P.DocSet.entries suffix in
     let law = g.met.P.DocSet.ascending suffix c.seek_danger.ensures.valid in
-    let here = positions_at-found c.args.doc (g.P.DocSet.limits suffix) old new law c.seek_danger.ensures.entries c.in-Found.ensures.answer.here c.requires.doc in
-    c.count_shared.ensures.count ∙ ap (λ s. min 4294967295 (common_count (s ∷ places_of c.args.common.now ∷ []))) (c.read.ensures.left ∙ ap (shifted (shift_of c.args.row.now)) here)
+    let here =
+    positions_at-found c.args.doc (g.P.DocSet.limits suffix) old new law c.seek_danger.ensures.entries c.in-Found.ensures.answer.here c.requires.doc in
+    c.count_shared.ensures.count
+    ∙ ap (λ s. min 4294967295 (common_count (s ∷ places_of c.args.common.now ∷ []))) (c.read.ensures.left ∙ ap (shifted (shift_of c.args.row.now)) here)
 
 pub returns-in-SeekLowerBound-clause-count : goal.returns-in-SeekLowerBound-clause-count
 returns-in-SeekLowerBound-clause-count g c =
@@ -33,7 +36,8 @@ returns-in-SeekLowerBound-clause-count g c =
     let new = g.P.DocSet.entries suffix in
     let law = g.met.P.DocSet.ascending suffix c.seek_danger.ensures.valid in
     let answer = c.in-SeekLowerBound.ensures.answer in
-    let lacks = positions_at-lacks c.args.doc (g.P.DocSet.limits suffix) old new law c.seek_danger.ensures.entries (omega (arith, answer.before_all, answer.past c.requires.doc)) in
+    let lacks = positions_at-lacks c.args.doc (g.P.DocSet.limits suffix) old new law c.seek_danger.ensures.entries
+    (omega (arith, answer.before_all, answer.past c.requires.doc)) in
     none-shared (shift_of c.args.row.now) (positions_at c.args.doc old) (places_of c.args.common.now) lacks
 
 pub returns-in-Found-clause-entries : goal.returns-in-Found-clause-entries

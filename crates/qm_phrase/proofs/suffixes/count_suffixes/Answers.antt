@@ -13,7 +13,8 @@ use Rattle.qm_phrase.proofs.suffixes.count_suffixes.Goals as goal
 
 pub count_suffix-requires-clause-room : goal.count_suffix-requires-clause-room
 count_suffix-requires-clause-room g c =
-    FitIn-kept g.P.DocSet c.args.suffixes.now c.loop-suffix.suffixes c.args.row.now c.loop-suffix.row c.requires.fit c.loop-suffix.invariant.limits c.loop-suffix.invariant.room c.loop-suffix.suffix-index c.suffix-item.result (omega arith)
+    FitIn-kept g.P.DocSet c.args.suffixes.now c.loop-suffix.suffixes c.args.row.now c.loop-suffix.row c.requires.fit
+    c.loop-suffix.invariant.limits c.loop-suffix.invariant.room c.loop-suffix.suffix-index c.suffix-item.result (omega arith)
 
 pub loop-suffix-preserved : goal.loop-suffix-preserved
 loop-suffix-preserved g c =
@@ -27,11 +28,15 @@ loop-suffix-preserved g c =
     let common = places_of c.args.common.now in
     let below : i < length members = omega arith in
     let long = length-map c.args.suffixes.now D.entries in
-    let here : get_or all i [] ≡ D.entries (get_or members i member) = sym (each_next (from c.args.doc) all i []) ∙ ap (λ r. get_or r i []) (sym c.loop-suffix.invariant.entries) ∙ get_or-map D.entries members i member [] below in
+    let here : get_or all i [] ≡ D.entries (get_or members i member) = sym (each_next (from c.args.doc) all i [])
+    ∙ ap (λ r. get_or r i []) (sym c.loop-suffix.invariant.entries) ∙ get_or-map D.entries members i member [] below in
     let es = D.entries (get_or members i member) in
-    let one : c.count_suffix.result ≡ min 4294967295 (shared_with shift common c.args.doc es) = c.count_suffix.ensures.count ∙ ap (λ n. min 4294967295 (shared_with n (places_of c.loop-suffix.common) c.args.doc es)) c.loop-suffix.invariant.shift ∙ ap (λ places. min 4294967295 (shared_with shift places c.args.doc es)) c.loop-suffix.invariant.common in
+    let one : c.count_suffix.result ≡ min 4294967295 (shared_with shift common c.args.doc es) = c.count_suffix.ensures.count
+    ∙ ap (λ n. min 4294967295 (shared_with n (places_of c.loop-suffix.common) c.args.doc es)) c.loop-suffix.invariant.shift
+    ∙ ap (λ places. min 4294967295 (shared_with shift places c.args.doc es)) c.loop-suffix.invariant.common in
     record {
-      counted = counted-more shift c.args.doc i c.loop-suffix.count c.count_suffix.result c.saturating_add-count.result common all es (omega arith) here c.loop-suffix.invariant.counted one (omega (arith, c.saturating_add-count.ensures));
+      counted = counted-more shift c.args.doc i c.loop-suffix.count c.count_suffix.result c.saturating_add-count.result common all es
+          (omega arith) here c.loop-suffix.invariant.counted one (omega (arith, c.saturating_add-count.ensures));
       entries = each_more D.entries (from c.args.doc) members all i moved member below c.loop-suffix.invariant.entries c.count_suffix.ensures.entries;
       limits = map-set_same D.limits members i moved member below c.count_suffix.ensures.limits ∙ c.loop-suffix.invariant.limits;
       valid = All-set D.valid members i moved c.count_suffix.ensures.valid c.loop-suffix.invariant.valid;
@@ -44,7 +49,8 @@ loop-suffix-preserved g c =
 
 pub returns-clause-fit : goal.returns-clause-fit
 returns-clause-fit g c =
-    FitIn-kept g.P.DocSet c.args.suffixes.now c.loop-suffix.suffixes c.args.row.now c.loop-suffix.row c.requires.fit c.loop-suffix.invariant.limits c.loop-suffix.invariant.room
+    FitIn-kept g.P.DocSet c.args.suffixes.now c.loop-suffix.suffixes c.args.row.now
+    c.loop-suffix.row c.requires.fit c.loop-suffix.invariant.limits c.loop-suffix.invariant.room
 
 pub returns-clause-count : goal.returns-clause-count
 returns-clause-count g c = grind (arith, common_steps)

@@ -10,8 +10,10 @@ use Rattle.qm_phrase.proofs.suffixes.count_suffixes.Given as goal
 
 abbrev pub invariant-loop-suffix : goal.invariant-loop-suffix
 invariant-loop-suffix g l = record {
-  counted : l.count ≡ min 4294967295 (sum_by (λ es. common_count (shifted (shift_of l.fn.row) (positions_at l.doc es) ∷ places_of l.fn.common ∷ [])) (take l.suffix-index (lists g.P.DocSet l.fn.suffixes)));
-  entries : lists g.P.DocSet l.suffixes ≡ map (from l.doc) (take l.suffix-index (lists g.P.DocSet l.fn.suffixes)) ++ drop l.suffix-index (lists g.P.DocSet l.fn.suffixes);
+  counted : l.count ≡ min 4294967295 (sum_by (λ es. common_count (shifted (shift_of l.fn.row) (positions_at l.doc es) ∷ places_of l.fn.common ∷ []))
+      (take l.suffix-index (lists g.P.DocSet l.fn.suffixes)));
+  entries : lists g.P.DocSet l.suffixes
+      ≡ map (from l.doc) (take l.suffix-index (lists g.P.DocSet l.fn.suffixes)) ++ drop l.suffix-index (lists g.P.DocSet l.fn.suffixes);
   limits : bounds g.P.DocSet l.suffixes ≡ bounds g.P.DocSet l.fn.suffixes;
   valid : All g.P.DocSet.valid l.suffixes;
   shift : shift_of l.row ≡ shift_of l.fn.row;

@@ -18,7 +18,12 @@ loop-i-init g c =
     let members = c.args.members.now in
     let places = c.args.places.now in
     record {
-      paired = omega (arith, length-roomy (bounds g.P.DocSet members) (map room_of places) c.requires.roomy, length-map members g.P.DocSet.limits, length-map places room_of);
+      paired = omega (
+        arith,
+        length-roomy (bounds g.P.DocSet members) (map room_of places) c.requires.roomy,
+        length-map members g.P.DocSet.limits,
+        length-map places room_of,
+      );
       sets = refl;
       shifts = refl;
       roomy = c.requires.roomy;
@@ -34,7 +39,8 @@ read-requires-clause-room g c =
     let members = c.loop-i.members in
     let member = c.index-members-i.result in
     let row = c.index-places-i.result in
-    let room = room_at (bounds g.P.DocSet members) (map room_of c.loop-i.places) i (g.P.DocSet.limits member) (room_of row) c.loop-i.invariant.roomy (omega (arith, length-map members g.P.DocSet.limits)) in
+    let room = room_at (bounds g.P.DocSet members) (map room_of c.loop-i.places) i (g.P.DocSet.limits member)
+    (room_of row) c.loop-i.invariant.roomy (omega (arith, length-map members g.P.DocSet.limits)) in
     let limits = get_or-map g.P.DocSet.limits members i member (g.P.DocSet.limits member) (omega arith) in
     let buffer = get_or-map room_of c.loop-i.places i row (room_of row) (omega arith) in
     omega (arith, room, ap (λ (l : Limits). l.room) limits, buffer)
@@ -63,16 +69,21 @@ loop-i-preserved g c =
     let long_rows = length-map rows places_left in
     let same_length = ap length same_lists in
     let same_width = ap length c.loop-i.invariant.shifts in
-    let at_positions : get_or positions i [] ≡ head_positions (g.P.DocSet.entries (get_or members i member)) = ap (λ r. get_or (map head_positions r) i []) (sym same_lists) ∙ get_or-map-map head_positions g.P.DocSet.entries members i member [] below in
-    let at_shift : get_or shifts i 0 ≡ shift_of (get_or places i row) = ap (λ r. get_or r i 0) (sym c.loop-i.invariant.shifts) ∙ get_or-map shift_of places i row 0 under in
+    let at_positions : get_or positions i [] ≡ head_positions (g.P.DocSet.entries (get_or members i member)) =
+    ap (λ r. get_or (map head_positions r) i []) (sym same_lists) ∙ get_or-map-map head_positions g.P.DocSet.entries members i member [] below in
+    let at_shift : get_or shifts i 0 ≡ shift_of (get_or places i row) = ap (λ r. get_or r i 0) (sym c.loop-i.invariant.shifts)
+    ∙ get_or-map shift_of places i row 0 under in
     let at_both = get_or-shifted_each shifts positions i 0 [] [] (omega arith) (omega arith) in
-    let left : places_left read ≡ get_or (shifted_each shifts positions) i [] = c.read.ensures.left ∙ sym (at_both ∙ ap (λ n. shifted n (get_or positions i [])) at_shift ∙ ap (shifted (shift_of (get_or places i row))) at_positions) in
+    let left : places_left read ≡ get_or (shifted_each shifts positions) i [] = c.read.ensures.left
+    ∙ sym (at_both ∙ ap (λ n. shifted n (get_or positions i [])) at_shift ∙ ap (shifted (shift_of (get_or places i row))) at_positions) in
     let Here : g.row.P.Denot → Type 0 = λ m. g.P.DocSet.placed m × (head_document (g.P.DocSet.entries m) < TERMINATED) in
-    let still : head_document (g.P.DocSet.entries moved) < TERMINATED = omega (arith, ap head_document c.read.ensures.entries, (c.loop-i.invariant.here i member below).1) in
+    let still : head_document (g.P.DocSet.entries moved) < TERMINATED =
+    omega (arith, ap head_document c.read.ensures.entries, (c.loop-i.invariant.here i member below).1) in
     let bounds_same = map-set_same g.P.DocSet.limits members i moved member below c.read.ensures.limits in
     record {
       paired = omega (arith, length-set members i moved, length-set places i read);
-      sets = each_set places_left places (shifted_each shifts positions) (map places_left rows) i read [] under (omega (arith, length-shifted_each shifts positions (omega arith))) (omega arith) c.loop-i.invariant.sets left;
+      sets = each_set places_left places (shifted_each shifts positions) (map places_left rows) i read [] under
+          (omega (arith, length-shifted_each shifts positions (omega arith))) (omega arith) c.loop-i.invariant.sets left;
       shifts = map-set_same shift_of places i read row under c.read.ensures.shift ∙ c.loop-i.invariant.shifts;
       roomy = rw bounds_same (AreRoomy-set room_of (bounds g.P.DocSet members) places i read row under c.read.ensures.room c.loop-i.invariant.roomy);
       entries = map-set_same g.P.DocSet.entries members i moved member below c.read.ensures.entries ∙ same_lists;

@@ -10,7 +10,8 @@ use Rattle.qm_phrase.proofs.terms.read_places.Given as goal
 abbrev pub invariant-loop-i : goal.invariant-loop-i
 invariant-loop-i g l = record {
   paired : length l.members ≡ length l.places;
-  sets : map places_left l.places ≡ take l.i (shifted_each (map shift_of l.fn.places) (map head_positions (lists g.P.DocSet l.fn.members))) ++ drop l.i (map places_left l.fn.places);
+  sets : map places_left l.places
+      ≡ take l.i (shifted_each (map shift_of l.fn.places) (map head_positions (lists g.P.DocSet l.fn.members))) ++ drop l.i (map places_left l.fn.places);
   shifts : map shift_of l.places ≡ map shift_of l.fn.places;
   roomy : AreRoomy (bounds g.P.DocSet l.members) (map room_of l.places);
   entries : lists g.P.DocSet l.members ≡ lists g.P.DocSet l.fn.members;

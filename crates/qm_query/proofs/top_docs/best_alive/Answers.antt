@@ -19,7 +19,8 @@ loop-reader-preserved c =
     let inside : i < length segments = search rules in
     let here : get_or segments i reader ≡ reader = search rules in
     let before = alive_matches_from 0 tree (take i segments) in
-    let number : 0 + length (take i segments) ≡ c.loop-reader.segment_ord = omega (arith, length-take-le i segments (omega (arith, inside)), c.loop-reader.invariant.number) in
+    let number : 0 + length (take i segments) ≡ c.loop-reader.segment_ord =
+    omega (arith, length-take-le i segments (omega (arith, inside)), c.loop-reader.invariant.number) in
     let more : alive_matches_from 0 tree (take (i + 1) segments) ≡ before ++ alive_matches c.loop-reader.segment_ord tree reader.segment =
     ap (alive_matches_from 0 tree) (take_more segments i reader inside ∙ ap (λ r. take i segments ++ r ∷ []) here)
     ∙ alive_matches_from-push 0 tree (take i segments) reader ∙ ap (λ n. before ++ alive_matches n tree reader.segment) number in
@@ -39,4 +40,5 @@ returns-clause-best c =
     let all : take c.loop-reader.reader-index segments ≡ segments = take_all c.loop-reader.reader-index segments (search rules) in
     let best : IsTrue (is_scoring tree) → AreBest c.loop-reader.kept (alive_matches_from 0 tree segments) =
     λ on. subst (λ l. AreBest c.loop-reader.kept (alive_matches_from 0 tree l)) all (c.loop-reader.invariant.best on) in
-    AreBestOf-kept (λ v. v.items) c.loop-reader.kept c.args.limit tree segments c.loop-reader.invariant.limit best c.into_best.result c.into_best.ensures.best c.into_best.ensures.complete
+    AreBestOf-kept (λ v. v.items) c.loop-reader.kept c.args.limit tree segments c.loop-reader.invariant.limit
+    best c.into_best.result c.into_best.ensures.best c.into_best.ensures.complete

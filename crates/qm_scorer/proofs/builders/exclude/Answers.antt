@@ -33,14 +33,16 @@ returns-in_default-clause-lists g c =
 
 pub exclude_one-requires-clause-other : goal.exclude_one-requires-clause-other
 exclude_one-requires-clause-other g c =
-    let one = single_from c.args.excluded.items c.pop.new.self.items c.in-Some.out c.in-Some.ensures.items (omega (arith, c.len.ensures, c.if-len-lt2.true, c.args.excluded.ok.0)) in
+    let one = single_from c.args.excluded.items c.pop.new.self.items c.in-Some.out c.in-Some.ensures.items
+    (omega (arith, c.len.ensures, c.if-len-lt2.true, c.args.excluded.ok.0)) in
     All-head (IsTree g.S.DocSet) c.in-Some.out [] (subst (All (IsTree g.S.DocSet)) one c.requires.others.valid)
 
 pub returns-then-len-lt2-clause-lists : goal.returns-then-len-lt2-clause-lists
 returns-then-len-lt2-clause-lists g c =
     let D = g.S.DocSet in
     let entries = tree_entries D in
-    let one = single_from c.args.excluded.items c.pop.new.self.items c.in-Some.out c.in-Some.ensures.items (omega (arith, c.len.ensures, c.if-len-lt2.true, c.args.excluded.ok.0)) in
+    let one = single_from c.args.excluded.items c.pop.new.self.items c.in-Some.out c.in-Some.ensures.items
+    (omega (arith, c.len.ensures, c.if-len-lt2.true, c.args.excluded.ok.0)) in
     let ascends = tree-ascends D g.met.S.DocSet.ascending c.args.scorer c.requires.placed.valid in
     let left = without-below (has_document (entries c.in-Some.out)) (some_has_document (map entries c.args.excluded.items)) 0 _ (entries c.args.scorer) ascends
     (λ d below. sym (ap (λ l. some_has_document (map entries l) d) one ∙ some_has_document-one (entries c.in-Some.out) d)) in

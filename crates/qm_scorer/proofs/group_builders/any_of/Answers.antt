@@ -23,7 +23,8 @@ returns-clause-valid g c =
     record {
       members = record { valid = made.members.valid; placed = made.members.placed };
       own = record {
-        bounded = subst (λ (s : Shape). IsBounded s.top (group_entries D new)) (sym made.shape) (IsBounded-sought 1 0 _ (group_entries D new) made.entries bounded);
+        bounded =
+            subst (λ (s : Shape). IsBounded s.top (group_entries D new)) (sym made.shape) (IsBounded-sought 1 0 _ (group_entries D new) made.entries bounded);
         some = subst (λ (s : Shape). 1 ≤ s.minimum) (sym made.shape) (omega arith);
         first = made.head;
         least = made.least;

@@ -20,4 +20,5 @@ returns-in-Some-ListAbove c =
     let same : to_z w64 (of_z w64 threshold) ≡ threshold = first_of (search rules, search (rules, to_z-of_z w64), grind (arith, common_steps)) in
     let answer = subst (λ t. IfOk c.list_above.result (λ a. ListsAbove t query s a text)) same c.list_above.ensures.answer in
     let step = both (λ a. ListsAbove threshold query s a text) (state c.list_above.new.corpus ≡ s) c.list_above.result answer c.list_above.ensures.unchanged in
-    subst (λ command. IfOk c.list_above.result (λ a. Step s command a text (state c.list_above.new.corpus))) (sym (c.in-Some-ListAbove.is ∙ ap (λ x. Some x) c.in-Some-ListAbove.field-0-is)) step
+    subst (λ command. IfOk c.list_above.result (λ a. Step s command a text (state c.list_above.new.corpus)))
+    (sym (c.in-Some-ListAbove.is ∙ ap (λ x. Some x) c.in-Some-ListAbove.field-0-is)) step

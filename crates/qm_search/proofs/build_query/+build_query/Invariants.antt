@@ -11,7 +11,9 @@ abbrev pub decreases-build_query : goal.decreases-build_query
 decreases-build_query l = goal.size-build_query l
 
 abbrev pub invariant-loop-occur : goal.invariant-loop-occur
-invariant-loop-occur l = with_front (map built_clause l.built.items) (clauses_asked (clauses_of (drop l.occur-index (map clause_of l.occur-items)))) ≡ clauses_asked (clauses_of (map clause_of l.occur-items))
+invariant-loop-occur l = with_front (map built_clause l.built.items) (clauses_asked (clauses_of (drop l.occur-index (map clause_of l.occur-items))))
+    ≡ clauses_asked (clauses_of (map clause_of l.occur-items))
 
 abbrev pub invariant-loop-inner : goal.invariant-loop-inner
-invariant-loop-inner l = with_front (map (λ b. built_query b.value) l.built.items) (disjuncts_asked (queries_of (drop l.inner-index (map query_of l.inner-items)))) ≡ disjuncts_asked (queries_of (map query_of l.inner-items))
+invariant-loop-inner l = with_front (map (λ b. built_query b.value) l.built.items)
+    (disjuncts_asked (queries_of (drop l.inner-index (map query_of l.inner-items)))) ≡ disjuncts_asked (queries_of (map query_of l.inner-items))

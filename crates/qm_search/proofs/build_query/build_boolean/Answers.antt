@@ -8,4 +8,5 @@ by : (a b c : Query) → a ≡ b → b ≡ c → a ≡ c
 by a b c first second = first ∙ second
 
 pub returns : goal.returns
-returns c = by _ (boolean_of c.with_minimum_required_clauses-query.result) _ (search (rules, q.the_lemmas, row_subqueries-items)) c.with_minimum_required_clauses-query.ensures
+returns c = by _ (boolean_of c.with_minimum_required_clauses-query.result) _
+    (search (rules, q.the_lemmas, row_subqueries-items)) c.with_minimum_required_clauses-query.ensures

@@ -7,5 +7,6 @@ use Rattle.qm_search.proofs.build_query.build_disjunction_max.Goals as goal
 
 pub returns : goal.returns
 returns c =
-    let few = within-tie_breaker c.args.tie_breaker (disjuncts_of c.args.disjuncts.items) (λ over. let e = c.in_ok-query.ensures.refused.1 over in absurd (cc)) in
+    let few =
+    within-tie_breaker c.args.tie_breaker (disjuncts_of c.args.disjuncts.items) (λ over. let e = c.in_ok-query.ensures.refused.1 over in absurd (cc)) in
     through _ (disjunction_max_of c.in_ok-query.query) _ (rw c.in_ok-query.ensures.ok few) (search (rules, q.the_lemmas, row_disjuncts-items))

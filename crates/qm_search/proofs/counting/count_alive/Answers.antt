@@ -26,11 +26,14 @@ loop-doc-preserved g c =
     let below : head_document es < 2147483647 = omega arith in
     let left = ap (λ rest. alive_count deleted (left_items c.args.first rest)) c.advance-doc.ensures.entries in
     let number : c.args.first + c.from.result ≡ c.args.first + head_document es = ap (λ n. c.args.first + n) (c.from.ensures ∙ c.loop-doc.invariant.here) in
-    let at_head : c.contains.result ≡ is_in (c.args.first + head_document es) deleted = c.contains.ensures ∙ in-set (c.args.first + c.from.result) deleted ∙ ap (λ n. is_in n deleted) number in
+    let at_head : c.contains.result ≡ is_in (c.args.first + head_document es) deleted = c.contains.ensures
+    ∙ in-set (c.args.first + c.from.result) deleted ∙ ap (λ n. is_in n deleted) number in
     record {
       counted = elim c.if-not-contains.branch [
-        | then-not-contains w ↦ omega (arith, left, alive_first deleted c.args.first es below (sym at_head ∙ w.if-not-contains.true), c.loop-doc.invariant.counted)
-        | else-not-contains w ↦ omega (arith, left, deleted_first deleted c.args.first es below (sym at_head ∙ w.if-not-contains.false), c.loop-doc.invariant.counted)
+        | then-not-contains w ↦
+            omega (arith, left, alive_first deleted c.args.first es below (sym at_head ∙ w.if-not-contains.true), c.loop-doc.invariant.counted)
+        | else-not-contains w ↦
+            omega (arith, left, deleted_first deleted c.args.first es below (sym at_head ∙ w.if-not-contains.false), c.loop-doc.invariant.counted)
       ];
       here = c.advance-doc.ensures.head;
       valid = c.advance-doc.ensures.valid;

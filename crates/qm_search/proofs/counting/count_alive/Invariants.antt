@@ -6,7 +6,8 @@ use Rattle.qm_search.proofs.counting.count_alive.Given as goal
 
 abbrev pub invariant-loop-doc : goal.invariant-loop-doc
 invariant-loop-doc g l = record {
-  counted : l.count + alive_count l.deleted.keys (left_items l.first (g.D.DocSet.entries l.docset)) ≡ alive_count l.deleted.keys (left_items l.first (g.D.DocSet.entries l.fn.docset));
+  counted : l.count + alive_count l.deleted.keys (left_items l.first (g.D.DocSet.entries l.docset))
+      ≡ alive_count l.deleted.keys (left_items l.first (g.D.DocSet.entries l.fn.docset));
   here : l.doc ≡ head_document (g.D.DocSet.entries l.docset);
   valid : g.D.DocSet.valid l.docset;
   placed : g.D.DocSet.placed l.docset;

@@ -34,5 +34,6 @@ overflow_add-count c =
     let item = c.segment-item.result in
     let first = c.loop-segment.first in
     let few = alive-few c.args.deleted.now.keys tree first item.segment in
-    let room = count-next false tree c.args.segments.now c.loop-segment.segment-index item c.loop-segment-test.true c.segment-item.is first (length item.segment.documents) refl c.loop-segment.invariant.room in
+    let room = count-next false tree c.args.segments.now c.loop-segment.segment-index item c.loop-segment-test.true c.segment-item.is first
+    (length item.segment.documents) refl c.loop-segment.invariant.room in
     omega (arith, c.requires.few, c.loop-segment.invariant.few, few, room, c.in_ok-count.ensures.count)

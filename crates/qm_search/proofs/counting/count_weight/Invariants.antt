@@ -9,5 +9,6 @@ abbrev pub invariant-loop-segment : goal.invariant-loop-segment
 invariant-loop-segment l = record {
   room : l.first + document_count (map (λ r. r.segment) (drop l.segment-index l.segments)) ≡ document_count (map (λ r. r.segment) l.segments);
   few : l.count ≤ l.first;
-  counted : l.count + alive_count l.deleted.keys (listed_from false (tree_of l.weight) l.first (map (λ r. r.segment) (drop l.segment-index l.segments))) ≡ alive_count l.deleted.keys (all_listed false (tree_of l.weight) (map (λ r. r.segment) l.segments));
+  counted : l.count + alive_count l.deleted.keys (listed_from false (tree_of l.weight) l.first (map (λ r. r.segment) (drop l.segment-index l.segments)))
+      ≡ alive_count l.deleted.keys (all_listed false (tree_of l.weight) (map (λ r. r.segment) l.segments));
 }

@@ -9,7 +9,9 @@ abbrev pub decreases-has_prefix : goal.decreases-has_prefix
 decreases-has_prefix l = goal.size-has_prefix l
 
 abbrev pub invariant-loop-inner : goal.invariant-loop-inner
-invariant-loop-inner l = have_clauses_prefix (clauses_of (drop l.inner-index (map clause_of l.inner-items))) ≡ have_clauses_prefix (clauses_of (map clause_of l.inner-items))
+invariant-loop-inner l =
+    have_clauses_prefix (clauses_of (drop l.inner-index (map clause_of l.inner-items))) ≡ have_clauses_prefix (clauses_of (map clause_of l.inner-items))
 
 abbrev pub invariant-loop-inner-2 : goal.invariant-loop-inner-2
-invariant-loop-inner-2 l = have_queries_prefix (queries_of (drop l.inner-index (map query_of l.inner-items))) ≡ have_queries_prefix (queries_of (map query_of l.inner-items))
+invariant-loop-inner-2 l =
+    have_queries_prefix (queries_of (drop l.inner-index (map query_of l.inner-items))) ≡ have_queries_prefix (queries_of (map query_of l.inner-items))

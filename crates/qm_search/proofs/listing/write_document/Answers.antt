@@ -18,8 +18,10 @@ returns c = λ items is.
     elim c.if-not-is_empty.branch [
       | then-not-is_empty+in_ok-push w ↦
           let some = some-by_test (length c.as_str.result.now) c.is_empty.result c.is_empty.ensures w.if-not-is_empty.true in
-          IsListing-next items old new item is (omega arith) (written ∙ ap (λ t. string_bytes t ++ item_text item) w.text-is ∙ ap (λ bs. bs ++ item_text item) (w.in_ok-push.ensures.bytes ∙ ap (λ bs. old ++ bs) (w.in_ok-push.ensures.ascii (lit< tt))))
+          IsListing-next items old new item is (omega arith) (written ∙ ap (λ t. string_bytes t ++ item_text item) w.text-is
+          ∙ ap (λ bs. bs ++ item_text item) (w.in_ok-push.ensures.bytes ∙ ap (λ bs. old ++ bs) (w.in_ok-push.ensures.ascii (lit< tt))))
       | else-not-is_empty w ↦
           let none = none-by_test (length c.as_str.result.now) c.is_empty.result c.is_empty.ensures w.if-not-is_empty.false in
-          IsListing-first items old new item is (omega arith) (omega (arith, c.ranges.document.fits)) (written ∙ ap (λ t. string_bytes t ++ item_text item) w.text-is)
+          IsListing-first items old new item is (omega arith) (omega (arith, c.ranges.document.fits))
+          (written ∙ ap (λ t. string_bytes t ++ item_text item) w.text-is)
     ]) c.write.ensures.bytes

@@ -4,4 +4,5 @@ use Rattle.qm_search.specs.Text.{IsListing}
 use Rattle.qm_search.proofs.listing.write_documents.Given as goal
 
 abbrev pub invariant-loop-document : goal.invariant-loop-document
-invariant-loop-document l = (items : List (ℕ × Option ℤ)) → IsListing items (string_bytes l.fn.text) → IsListing (items ++ numbered l.first (map (λ d. (d, None)) (take l.document-index l.found))) (string_bytes l.text)
+invariant-loop-document l = (items : List (ℕ × Option ℤ)) → IsListing items (string_bytes l.fn.text) →
+    IsListing (items ++ numbered l.first (map (λ d. (d, None)) (take l.document-index l.found))) (string_bytes l.text)

@@ -15,6 +15,12 @@ loop-segment-preserved c =
     let found = listed c.args.is_scored tree first item.segment in
     let number = c.from-first.ensures ∙ c.max_doc.ensures.number in
     record {
-      room = count-next c.args.is_scored tree readers i item c.loop-segment-test.true c.segment-item.is first c.from-first.result number c.loop-segment.invariant.room;
-      listed = (so_far.0 ++ found, c.in_ok-write_segment.ensures.listed so_far.0 so_far.1, listed-next c.args.is_scored tree readers i item c.loop-segment-test.true c.segment-item.is so_far.0 (all_listed c.args.is_scored tree (map (λ r. r.segment) readers)) first c.from-first.result number so_far.2);
+      room = count-next c.args.is_scored tree readers i item c.loop-segment-test.true
+          c.segment-item.is first c.from-first.result number c.loop-segment.invariant.room;
+      listed = (
+        so_far.0 ++ found,
+        c.in_ok-write_segment.ensures.listed so_far.0 so_far.1,
+        listed-next c.args.is_scored tree readers i item c.loop-segment-test.true
+            c.segment-item.is so_far.0 (all_listed c.args.is_scored tree (map (λ r. r.segment) readers)) first c.from-first.result number so_far.2,
+      );
     }

@@ -8,5 +8,6 @@ use Rattle.qm_search.proofs.listing.write_listing.Given as goal
 abbrev pub invariant-loop-segment : goal.invariant-loop-segment
 invariant-loop-segment l = record {
   room : l.first + document_count (map (λ r. r.segment) (drop l.segment-index l.segments)) ≡ document_count (map (λ r. r.segment) l.segments);
-  listed : (items : List (ℕ × Option ℤ)) × IsListing items (string_bytes l.text) × (items ++ listed_from l.is_scored (tree_of l.weight) l.first (map (λ r. r.segment) (drop l.segment-index l.segments)) ≡ all_listed l.is_scored (tree_of l.weight) (map (λ r. r.segment) l.segments));
+  listed : (items : List (ℕ × Option ℤ)) × IsListing items (string_bytes l.text) × (items ++ listed_from l.is_scored (tree_of l.weight) l.first
+      (map (λ r. r.segment) (drop l.segment-index l.segments)) ≡ all_listed l.is_scored (tree_of l.weight) (map (λ r. r.segment) l.segments));
 }

@@ -20,7 +20,8 @@ returns-else-rising-clause-found c =
     let es = run.0 in
     let threshold = to_z w64 (of_z w64 c.args.threshold) in
     let all = rising threshold (map entry_item es) in
-    let kept_all = Plain-keeps _ (λ first bar f left. (f.0.now.is_refused ≡ false → map pair_item f.0.now.found.items ++ rising bar (map entry_item left) ≡ all) × (f.0.ghost_name ≡ first.0.ghost_name)) _
+    let kept_all = Plain-keeps _ (λ first bar f left.
+    (f.0.now.is_refused ≡ false → map pair_item f.0.now.found.items ++ rising bar (map entry_item left) ≡ all) × (f.0.ghost_name ≡ first.0.ghost_name)) _
     (λ bar after f h e left now turn. by_lt_z bar (pos e.score)
     (λ above.
     let made = turn.called above in
@@ -44,7 +45,10 @@ returns-else-rising-clause-found c =
     )))
     es run.2 _ run.3 _ (λ _. ap (λ ps. map pair_item ps ++ all) c.new.ensures.items, refl) run.4 in
     let callback = c.for_each_pruning.new.callback in
-    let found_all : callback.0.now.is_refused ≡ false → map pair_item callback.0.now.found.items ≡ all = λ ok. sym (append-nil (map pair_item callback.0.now.found.items)) ∙ kept_all.0 ok in
+    let found_all : callback.0.now.is_refused ≡ false →
+    map pair_item callback.0.now.found.items ≡ all = λ ok. sym (append-nil (map pair_item callback.0.now.found.items)) ∙ kept_all.0 ok in
     let same = to_z-of_z w64 c.args.threshold c.ranges.threshold in
-    let listed : callback.0.now.is_refused ≡ false → map pair_item callback.0.now.found.items ≡ rising c.args.threshold (map entry_item (list (tree_of c.args.weight.now) 1 c.args.segment.now.segment)) = λ ok. found_all ok ∙ ap (λ t. rising t (map entry_item es)) same ∙ ap (λ l. rising c.args.threshold (map entry_item l)) (run.1.scores c.requires) in
+    let listed : callback.0.now.is_refused ≡ false →
+    map pair_item callback.0.now.found.items ≡ rising c.args.threshold (map entry_item (list (tree_of c.args.weight.now) 1 c.args.segment.now.segment)) =
+    λ ok. found_all ok ∙ ap (λ t. rising t (map entry_item es)) same ∙ ap (λ l. rising c.args.threshold (map entry_item l)) (run.1.scores c.requires) in
     search rules

@@ -22,13 +22,17 @@ loop-part-preserved c =
     let here = rising threshold (listed true tree first item.segment) in
     let told = c.in_ok-left.ensures in
     let number = c.from-next.ensures ∙ c.max_doc.ensures.number in
-    let same : to_z w64 (of_z w64 c.in_ok-left.left) ≡ c.in_ok-left.left = first_of (search rules, search (rules, to_z-of_z w64), grind (arith, common_steps)) in
+    let same : to_z w64 (of_z w64 c.in_ok-left.left) ≡ c.in_ok-left.left =
+    first_of (search rules, search (rules, to_z-of_z w64), grind (arith, common_steps)) in
     record {
-      room = count-on true tree readers i item c.loop-part-test.true c.part-item.is first c.from-next.result (c.args.first + document_count (map (λ r. r.segment) readers)) number c.loop-part.invariant.room;
+      room = count-on true tree readers i item c.loop-part-test.true c.part-item.is first c.from-next.result
+          (c.args.first + document_count (map (λ r. r.segment) readers)) number c.loop-part.invariant.room;
       listed = (
         so_far.0 ++ here,
-        λ items is. subst (λ l. IsListing l (string_bytes c.write_run.new.text)) (append_assoc items so_far.0 here) (told.listed (items ++ so_far.0) (so_far.1 items is)),
+        λ items is. subst (λ l. IsListing l (string_bytes c.write_run.new.text))
+            (append_assoc items so_far.0 here) (told.listed (items ++ so_far.0) (so_far.1 items is)),
         ap (λ t. (so_far.0 ++ here) ++ parts_pruned t tree (first + c.from-next.result) (map (λ r. r.segment) (drop (i + 1) readers))) (same ∙ told.left)
-            ∙ part-next threshold tree readers i item c.loop-part-test.true c.part-item.is so_far.0 (parts_pruned (to_z w64 (of_z w64 c.args.threshold)) tree c.args.first (map (λ r. r.segment) readers)) first c.from-next.result number so_far.2,
+            ∙ part-next threshold tree readers i item c.loop-part-test.true c.part-item.is so_far.0
+            (parts_pruned (to_z w64 (of_z w64 c.args.threshold)) tree c.args.first (map (λ r. r.segment) readers)) first c.from-next.result number so_far.2,
       );
     }

@@ -8,5 +8,7 @@ use Rattle.qm_search.proofs.pruning.write_parts.Given as goal
 abbrev pub invariant-loop-part : goal.invariant-loop-part
 invariant-loop-part l = record {
   room : l.next + document_count (map (λ r. r.segment) (drop l.part-index l.parts)) ≡ l.first + document_count (map (λ r. r.segment) l.parts);
-  listed : (found : List (ℕ × Option ℤ)) × ((items : List (ℕ × Option ℤ)) → IsListing items (string_bytes l.fn.text) → IsListing (items ++ found) (string_bytes l.text)) × (found ++ parts_pruned l.left (tree_of l.weight) l.next (map (λ r. r.segment) (drop l.part-index l.parts)) ≡ parts_pruned l.threshold (tree_of l.weight) l.first (map (λ r. r.segment) l.parts));
+  listed : (found : List (ℕ × Option ℤ)) × ((items : List (ℕ × Option ℤ)) → IsListing items (string_bytes l.fn.text) →
+      IsListing (items ++ found) (string_bytes l.text)) × (found ++ parts_pruned l.left (tree_of l.weight) l.next
+      (map (λ r. r.segment) (drop l.part-index l.parts)) ≡ parts_pruned l.threshold (tree_of l.weight) l.first (map (λ r. r.segment) l.parts));
 }

@@ -43,5 +43,6 @@ returns-clause-listed c =
     let back = ap segments_of (rest-taken ended readers) ∙ sym (drop-map (λ (r : SegmentReader). r.segment) ended readers) in
     let items = all_pruned (to_z w64 (of_z w64 c.args.threshold)) (tree_of c.deref.result.now) (segments_of (take ended readers)) in
     let listed = c.in_ok-write_parts.ensures.listed items c.in_ok-first.ensures.listed in
-    let written = subst (λ l. IsListing l (string_bytes c.write_parts.new.text)) (λ i. all_pruned (same i) (one i) (front i) ++ parts_pruned (same i) (other i) (number i) (back i)) listed in
+    let written = subst (λ l. IsListing l (string_bytes c.write_parts.new.text))
+    (λ i. all_pruned (same i) (one i) (front i) ++ parts_pruned (same i) (other i) (number i) (back i)) listed in
     grind (arith, written)

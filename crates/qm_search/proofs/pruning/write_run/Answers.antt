@@ -16,7 +16,8 @@ returns-in-Some-clause-left c =
     let s = c.args.segment.now.segment in
     let threshold = c.args.threshold in
     let found = c.as_slice-2.result.now in
-    let lines = run-listed threshold tree c.args.first s found (ap (map pair_item) c.as_slice-2.ensures.value ∙ c.in_ok-found.ensures.found ∙ ap (λ t. rising t (map entry_item (list tree 1 s))) (to_z-of_z w64 threshold c.ranges.threshold)) in
+    let lines = run-listed threshold tree c.args.first s found (ap (map pair_item) c.as_slice-2.ensures.value ∙ c.in_ok-found.ensures.found
+    ∙ ap (λ t. rising t (map entry_item (list tree 1 s))) (to_z-of_z w64 threshold c.ranges.threshold)) in
     let last = c.in-Some.field-0.now in
     let here : slice_get found (length found - 1) ≡ Some last = sym c.in-Some.ensures.value in
     let same : to_z w64 (of_z w64 last.1) ≡ last.1 = first_of (search rules, search (rules, to_z-of_z w64), grind (arith, common_steps)) in
@@ -27,7 +28,8 @@ returns-in-Some-clause-listed c = λ items is.
     let tree = tree_of c.args.weight.now in
     let s = c.args.segment.now.segment in
     let threshold = c.args.threshold in
-    let lines = run-listed threshold tree c.args.first s c.as_slice.result.now (ap (map pair_item) c.as_slice.ensures.value ∙ c.in_ok-found.ensures.found ∙ ap (λ t. rising t (map entry_item (list tree 1 s))) (to_z-of_z w64 threshold c.ranges.threshold)) in
+    let lines = run-listed threshold tree c.args.first s c.as_slice.result.now (ap (map pair_item) c.as_slice.ensures.value
+    ∙ c.in_ok-found.ensures.found ∙ ap (λ t. rising t (map entry_item (list tree 1 s))) (to_z-of_z w64 threshold c.ranges.threshold)) in
     subst (λ l. IsListing (items ++ l) (string_bytes c.write_scores.new.text)) lines (c.in_ok-write_scores.ensures items is)
 
 pub returns-clause-left : goal.returns-clause-left
@@ -37,7 +39,8 @@ returns-clause-left c =
     let threshold = c.args.threshold in
     let found = c.as_slice-2.result.now in
     let same = to_z-of_z w64 threshold c.ranges.threshold in
-    let lines = run-listed threshold tree c.args.first s found (ap (map pair_item) c.as_slice-2.ensures.value ∙ c.in_ok-found.ensures.found ∙ ap (λ t. rising t (map entry_item (list tree 1 s))) same) in
+    let lines = run-listed threshold tree c.args.first s found
+    (ap (map pair_item) c.as_slice-2.ensures.value ∙ c.in_ok-found.ensures.found ∙ ap (λ t. rising t (map entry_item (list tree 1 s))) same) in
     same ∙ threshold-kept c.args.first threshold found _ lines (sym c.in-None.ensures.value)
 
 pub returns-clause-listed : goal.returns-clause-listed
@@ -45,5 +48,6 @@ returns-clause-listed c = λ items is.
     let tree = tree_of c.args.weight.now in
     let s = c.args.segment.now.segment in
     let threshold = c.args.threshold in
-    let lines = run-listed threshold tree c.args.first s c.as_slice.result.now (ap (map pair_item) c.as_slice.ensures.value ∙ c.in_ok-found.ensures.found ∙ ap (λ t. rising t (map entry_item (list tree 1 s))) (to_z-of_z w64 threshold c.ranges.threshold)) in
+    let lines = run-listed threshold tree c.args.first s c.as_slice.result.now (ap (map pair_item) c.as_slice.ensures.value
+    ∙ c.in_ok-found.ensures.found ∙ ap (λ t. rising t (map entry_item (list tree 1 s))) (to_z-of_z w64 threshold c.ranges.threshold)) in
     subst (λ l. IsListing (items ++ l) (string_bytes c.write_scores.new.text)) lines (c.in_ok-write_scores.ensures items is)

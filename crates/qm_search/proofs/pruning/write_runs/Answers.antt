@@ -19,5 +19,10 @@ loop-segment-preserved c =
     let number = c.from-first.ensures ∙ c.max_doc.ensures.number in
     record {
       room = count-next true tree readers i item c.loop-segment-test.true c.segment-item.is first c.from-first.result number c.loop-segment.invariant.room;
-      listed = (so_far.0 ++ found, c.in_ok-write_run.ensures.listed so_far.0 so_far.1, pruned-next threshold tree readers i item c.loop-segment-test.true c.segment-item.is so_far.0 (all_pruned threshold tree (map (λ r. r.segment) readers)) first c.from-first.result number so_far.2);
+      listed = (
+        so_far.0 ++ found,
+        c.in_ok-write_run.ensures.listed so_far.0 so_far.1,
+        pruned-next threshold tree readers i item c.loop-segment-test.true
+            c.segment-item.is so_far.0 (all_pruned threshold tree (map (λ r. r.segment) readers)) first c.from-first.result number so_far.2,
+      );
     }

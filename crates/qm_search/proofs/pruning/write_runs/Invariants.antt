@@ -8,5 +8,6 @@ use Rattle.qm_search.proofs.pruning.write_runs.Given as goal
 abbrev pub invariant-loop-segment : goal.invariant-loop-segment
 invariant-loop-segment l = record {
   room : l.first + document_count (map (λ r. r.segment) (drop l.segment-index l.segments)) ≡ document_count (map (λ r. r.segment) l.segments);
-  listed : (items : List (ℕ × Option ℤ)) × IsListing items (string_bytes l.text) × (items ++ pruned_from l.threshold (tree_of l.weight) l.first (map (λ r. r.segment) (drop l.segment-index l.segments)) ≡ all_pruned l.threshold (tree_of l.weight) (map (λ r. r.segment) l.segments));
+  listed : (items : List (ℕ × Option ℤ)) × IsListing items (string_bytes l.text) × (items ++ pruned_from l.threshold (tree_of l.weight) l.first
+      (map (λ r. r.segment) (drop l.segment-index l.segments)) ≡ all_pruned l.threshold (tree_of l.weight) (map (λ r. r.segment) l.segments));
 }

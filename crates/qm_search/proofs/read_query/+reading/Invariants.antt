@@ -37,7 +37,9 @@ abbrev pub decreases-read_clause : goal.decreases-read_clause
 decreases-read_clause l = 6 * l.depth + 1
 
 abbrev pub invariant-read_clauses-loop : goal.invariant-read_clauses-loop
-invariant-read_clauses-loop l = with_front (map clause_of l.clauses.items) (many_at (clause_at (query_at l.depth)) (l.count - l.counter) (words_left l.words)) ≡ many_at (clause_at (query_at l.depth)) l.count (words_left l.initial.words)
+invariant-read_clauses-loop l = with_front (map clause_of l.clauses.items) (many_at (clause_at (query_at l.depth)) (l.count - l.counter) (words_left l.words))
+    ≡ many_at (clause_at (query_at l.depth)) l.count (words_left l.initial.words)
 
 abbrev pub invariant-read_disjuncts-loop : goal.invariant-read_disjuncts-loop
-invariant-read_disjuncts-loop l = with_front (map query_of l.disjuncts.items) (many_at (query_at l.depth) (l.count - l.counter) (words_left l.words)) ≡ many_at (query_at l.depth) l.count (words_left l.initial.words)
+invariant-read_disjuncts-loop l = with_front (map query_of l.disjuncts.items) (many_at (query_at l.depth) (l.count - l.counter) (words_left l.words))
+    ≡ many_at (query_at l.depth) l.count (words_left l.initial.words)

@@ -9,7 +9,8 @@ use Rattle.qm_search.proofs.run.answer_lines.Goals.{then-not-has_line+in_ok-flus
 
 pub loop-number-init : goal.loop-number-init
 loop-number-init g c = record {
-  under_way = rw (is_state c.in-Ok.corpus _ _ c.in-Ok.ensures.documents c.in-Ok.ensures.weights) (run-begun start_state c.new-lines.result _ _ c.new-lines.ensures);
+  under_way =
+      rw (is_state c.in-Ok.corpus _ _ c.in-Ok.ensures.documents c.in-Ok.ensures.weights) (run-begun start_state c.new-lines.result _ _ c.new-lines.ensures);
   least = omega arith;
 }
 
@@ -32,6 +33,8 @@ loop-number-preserved g c =
     ] in
     let some = rw c.if-not-branch.false at c.in_ok-next_line.ensures.answer in
     record {
-      under_way = IfSome_then _ c.loop-number.invariant.under_way (λ bytes w. run-more (omega arith) (omega (arith, c.max-status.ensures)) some c.in_ok-next_line.ensures.line c.in_ok-next_line.ensures.left (rw c.as_slice.ensures.value at c.in_ok-made.ensures.answer) (rw c.as_str.ensures.value at c.in_ok-write_text.ensures) (run-kept _ _ flushed w));
+      under_way = IfSome_then _ c.loop-number.invariant.under_way
+          (λ bytes w. run-more (omega arith) (omega (arith, c.max-status.ensures)) some c.in_ok-next_line.ensures.line c.in_ok-next_line.ensures.left
+          (rw c.as_slice.ensures.value at c.in_ok-made.ensures.answer) (rw c.as_str.ensures.value at c.in_ok-write_text.ensures) (run-kept _ _ flushed w));
       least = omega (arith, c.max-status.ensures, c.in_ok-made.ensures.status, c.loop-number.invariant.least);
     }

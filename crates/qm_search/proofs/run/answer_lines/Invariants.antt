@@ -6,6 +6,7 @@ use Rattle.qm_search.proofs.run.answer_lines.Given as goal
 
 abbrev pub invariant-loop-number : goal.invariant-loop-number
 invariant-loop-number g l = record {
-  under_way : IfSome (g.R.Read.remaining l.fn.input) (λ bytes. IsUnderWay start_state bytes (state l.corpus) l.number (pending l.lines (g.R.Read.remaining l.input)) l.status (g.W.Write.contents l.fn.output) (g.W.Write.contents l.output));
+  under_way : IfSome (g.R.Read.remaining l.fn.input) (λ bytes. IsUnderWay start_state bytes (state l.corpus) l.number
+      (pending l.lines (g.R.Read.remaining l.input)) l.status (g.W.Write.contents l.fn.output) (g.W.Write.contents l.output));
   least : l.status ≤ 2;
 }

@@ -13,7 +13,8 @@ returns-then-eq-clause-answer c =
     let ascends = AreEntries-documents c.args.self.now.docs.cursor c.args.self.now.docs.docs.items c.requires.valid.documents in
     let bounds = head_document-bounds c.args.target _ _ c.requires.target (AreEntries-from c.args.target 0 _ _ ascends) in
     let past = rw (← c.seek-doc.ensures.left.entries) at bounds in
-    IsSeekAnswer-rescored _ c.args.target (remaining_documents c.seek-doc.new.self) (SeekLowerBound c.seek-doc.result) (record { before_all = omega arith; past = λ below. omega arith; at_end = λ ended. omega arith })
+    IsSeekAnswer-rescored _ c.args.target (remaining_documents c.seek-doc.new.self) (SeekLowerBound c.seek-doc.result)
+    (record { before_all = omega arith; past = λ below. omega arith; at_end = λ ended. omega arith })
 
 pub returns-then-target-eq-TERMINATED-clause-answer :
     goal.returns-then-target-eq-TERMINATED-clause-answer
@@ -21,11 +22,13 @@ returns-then-target-eq-TERMINATED-clause-answer c =
     let ascends = AreEntries-documents c.args.self.now.docs.cursor c.args.self.now.docs.docs.items c.requires.valid.documents in
     let bounds = head_document-bounds c.args.target _ _ c.requires.target (AreEntries-from c.args.target 0 _ _ ascends) in
     let past = rw (← c.seek-doc.ensures.left.entries) at bounds in
-    IsSeekAnswer-rescored _ c.args.target (remaining_documents c.seek-doc.new.self) (SeekLowerBound TERMINATED) (record { before_all = omega arith; past = λ below. omega arith; at_end = λ ended. omega arith })
+    IsSeekAnswer-rescored _ c.args.target (remaining_documents c.seek-doc.new.self) (SeekLowerBound TERMINATED)
+    (record { before_all = omega arith; past = λ below. omega arith; at_end = λ ended. omega arith })
 
 pub returns-clause-answer : goal.returns-clause-answer
 returns-clause-answer c =
     let ascends = AreEntries-documents c.args.self.now.docs.cursor c.args.self.now.docs.docs.items c.requires.valid.documents in
     let bounds = head_document-bounds c.args.target _ _ c.requires.target (AreEntries-from c.args.target 0 _ _ ascends) in
     let past = rw (← c.seek-doc.ensures.left.entries) at bounds in
-    IsSeekAnswer-rescored _ c.args.target (remaining_documents c.seek-doc.new.self) (SeekLowerBound (c.args.target + 1)) (record { before_all = omega arith; past = λ below. omega arith; at_end = λ ended. omega arith })
+    IsSeekAnswer-rescored _ c.args.target (remaining_documents c.seek-doc.new.self) (SeekLowerBound (c.args.target + 1))
+    (record { before_all = omega arith; past = λ below. omega arith; at_end = λ ended. omega arith })

@@ -18,7 +18,8 @@ abbrev left : OwnPostings → List Entry
 left s = described (made s) (remaining_documents s.documents)
 
 positions : (s : OwnPostings) → head_document (left s) < TERMINATED → head_positions (left s) ≡ s.positions.items
-positions s here = head_positions-described (made s) (λ d. refl) (remaining_documents s.documents) (omega (arith, here, head_document-described (made s) (λ d. refl) (remaining_documents s.documents)))
+positions s here = head_positions-described (made s) (λ d. refl) (remaining_documents s.documents)
+    (omega (arith, here, head_document-described (made s) (λ d. refl) (remaining_documents s.documents)))
 
 pub overflow_add-position : goal.overflow_add-position
 overflow_add-position c =
@@ -35,7 +36,8 @@ returns-clause-members c =
     let i = c.loop-position.position-index in
     let old = c.args.output.now.items in
     let here = head_positions (left self) in
-    let all : c.loop-position.output.items ≡ old ++ shifted c.args.offset here = c.loop-position.invariant.items ∙ ap (λ r. old ++ shifted c.args.offset r) (take_all i self.positions.items (omega (arith, ap length c.deref-position-items.ensures.value)) ∙ sym (positions self c.requires.here)) in
+    let all : c.loop-position.output.items ≡ old ++ shifted c.args.offset here = c.loop-position.invariant.items ∙ ap (λ r. old ++ shifted c.args.offset r)
+    (take_all i self.positions.items (omega (arith, ap length c.deref-position-items.ensures.value)) ∙ sym (positions self c.requires.here)) in
     λ x. ap (is_in x) all ∙ HasAdded-append (shifted c.args.offset here) old x
 
 pub returns-clause-alone : goal.returns-clause-alone
@@ -44,4 +46,5 @@ returns-clause-alone c = λ none.
     let i = c.loop-position.position-index in
     let old = c.args.output.now.items in
     let here = head_positions (left self) in
-    c.loop-position.invariant.items ∙ ap (λ r. old ++ shifted c.args.offset r) (take_all i self.positions.items (omega (arith, ap length c.deref-position-items.ensures.value)) ∙ sym (positions self c.requires.here)) ∙ ap (λ r. r ++ shifted c.args.offset here) none
+    c.loop-position.invariant.items ∙ ap (λ r. old ++ shifted c.args.offset r) (take_all i self.positions.items
+    (omega (arith, ap length c.deref-position-items.ensures.value)) ∙ sym (positions self c.requires.here)) ∙ ap (λ r. r ++ shifted c.args.offset here) none

@@ -15,7 +15,8 @@ loop-index-preserved c =
     let words = c.args.self.now.words.items in
     let inside : c.loop-index.index < length words = omega (arith, c.args.self.now.words.ok.0) in
     record {
-      none = HasNone-more words (64 * c.args.bucket) c.loop-index.index c.index.result.now inside c.index.ensures (c.is_empty.ensures.0 c.if-not-is_empty.false) c.loop-index.invariant.none;
+      none = HasNone-more words (64 * c.args.bucket) c.loop-index.index c.index.result.now inside c.index.ensures
+          (c.is_empty.ensures.0 c.if-not-is_empty.false) c.loop-index.invariant.none;
     }
 
 pub returns-then-not-is_empty : goal.returns-then-not-is_empty

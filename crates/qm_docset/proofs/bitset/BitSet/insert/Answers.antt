@@ -27,8 +27,13 @@ invariant_of-self c =
     let more = words_have-insert set.words.items c.args.el c.index.result.now c.insert.result inside c.index.ensures c.insert.ensures in
     record {
       covers = set.covers;
-      within = insert_within set.words.items c.args.el c.index.result.now c.insert.result inside c.index.ensures c.insert.ensures set.max_value c.requires set.within;
-      counted = omega (arith, set.counted, length-members_between_insert (words_have set.words.items) _ c.args.el 0 set.max_value (omega arith) c.requires lacks more);
+      within = insert_within set.words.items c.args.el c.index.result.now c.insert.result
+          inside c.index.ensures c.insert.ensures set.max_value c.requires set.within;
+      counted = omega (
+        arith,
+        set.counted,
+        length-members_between_insert (words_have set.words.items) _ c.args.el 0 set.max_value (omega arith) c.requires lacks more,
+      );
     }
 
 -- it is there already

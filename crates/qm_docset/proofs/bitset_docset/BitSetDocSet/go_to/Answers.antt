@@ -7,12 +7,14 @@ use Rattle.qm_docset.proofs.bitset_docset.BitSetDocSet.go_to.Goals as goal
 use Rattle.qm_docset.proofs.bitset_docset.BitSetDocSet.go_to.Goals.{After-unwrap_or-self}
 
 -- all members from the target on were left
-left : (c : After-unwrap_or-self) → members_left c.args.self.now.docs (c.args.target / 64) c.word_from-self.result ≡ set_members_from c.args.self.now.docs c.args.target
+left : (c : After-unwrap_or-self) →
+    members_left c.args.self.now.docs (c.args.target / 64) c.word_from-self.result ≡ set_members_from c.args.self.now.docs c.args.target
 left c = left-from c.args.self.now.docs c.args.target c.word_from-self.result c.word_from-self.ensures.members
 
 landed : (c : After-unwrap_or-self) → Lands c.args.self.now.docs c.args.target c.unwrap_or-self.result
 landed c =
-    rw c.unwrap_or-self.ensures (lands_on_first c.args.self.now.docs c.requires.documents c.args.target (c.args.target / 64) c.word_from-self.result (left c) c.take_next.result c.take_next.ensures.next)
+    rw c.unwrap_or-self.ensures (lands_on_first c.args.self.now.docs c.requires.documents c.args.target
+    (c.args.target / 64) c.word_from-self.result (left c) c.take_next.result c.take_next.ensures.next)
 
 pub returns-clause-entries : goal.returns-clause-entries
 returns-clause-entries c = (landed (goal.at.returns-clause-entries c).After-unwrap_or-self).entries
@@ -25,6 +27,7 @@ returns-clause-placed c =
     let at = (goal.at.returns-clause-placed c).After-unwrap_or-self in
     record {
       here = (landed at).placed;
-      behind = behind_first c.args.self.now.docs c.requires.documents c.args.target (c.args.target / 64) c.word_from-self.result (left at) c.unwrap_or-self.result c.take_next.new.bucket c.take_next.new.word (landed at) c.take_next.ensures.left;
+      behind = behind_first c.args.self.now.docs c.requires.documents c.args.target (c.args.target / 64) c.word_from-self.result
+          (left at) c.unwrap_or-self.result c.take_next.new.bucket c.take_next.new.word (landed at) c.take_next.ensures.left;
       bucket = c.take_next.ensures.bucket;
     }

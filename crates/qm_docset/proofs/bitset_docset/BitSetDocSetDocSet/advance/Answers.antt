@@ -13,7 +13,8 @@ use Rattle.qm_docset.proofs.bitset_docset.BitSetDocSetDocSet.advance.Goals.{Afte
 next : (c : After-unwrap_or-self) → c.unwrap_or-self.result ≡ head_document (drop 1 (remaining_members c.args.self.now))
 next c =
     let self = c.args.self.now in
-    c.unwrap_or-self.ensures ∙ head-of_entries (members_left self.docs self.bucket self.word) (drop 1 (remaining_members self)) c.take_next.result c.requires.placed.behind c.take_next.ensures.next
+    c.unwrap_or-self.ensures ∙ head-of_entries (members_left self.docs self.bucket self.word)
+    (drop 1 (remaining_members self)) c.take_next.result c.requires.placed.behind c.take_next.ensures.next
 
 left : (c : After-unwrap_or-self) → map plain (set_members_from c.args.self.now.docs c.unwrap_or-self.result) ≡ drop 1 (remaining_members c.args.self.now)
 left c = rw (next c) (members-drop c.args.self.now.docs c.args.self.now.doc 1 c.requires.valid.documents)
@@ -40,6 +41,7 @@ returns-clause-placed c =
     let at = (goal.at.returns-clause-placed c).After-unwrap_or-self in
     record {
       here = here at;
-      behind = ap (map plain) c.take_next.ensures.left ∙ sym (drop-map plain 1 (members_left self.docs self.bucket self.word)) ∙ ap (drop 1) (c.requires.placed.behind ∙ sym (left at));
+      behind = ap (map plain) c.take_next.ensures.left ∙ sym (drop-map plain 1 (members_left self.docs self.bucket self.word))
+          ∙ ap (drop 1) (c.requires.placed.behind ∙ sym (left at));
       bucket = c.take_next.ensures.bucket;
     }

@@ -12,14 +12,17 @@ pub loop-bucket-init : goal.loop-bucket-init
 loop-bucket-init c =
     let set = c.args.self.now in
     c.len-count.ensures
-    ∙ length-both_from set.docs (alive_docs c.args.alive.now) set.doc c.intersect.result (λ x. c.intersect.ensures x ∙ ap₂ (λ a b. a && b) (c.word_from.ensures.has x) (c.tinyset.ensures x))
+    ∙ length-both_from set.docs (alive_docs c.args.alive.now) set.doc c.intersect.result
+    (λ x. c.intersect.ensures x ∙ ap₂ (λ a b. a && b) (c.word_from.ensures.has x) (c.tinyset.ensures x))
 
-more : (c : After-len-count-in-loop-bucket) → c.loop-bucket.count + c.len-count-in-loop-bucket.result ≡ length (members_between (both_have c.args.self.now.docs (alive_docs c.args.alive.now)) c.args.self.now.doc (64 * (c.loop-bucket.bucket + 1)))
+more : (c : After-len-count-in-loop-bucket) → c.loop-bucket.count + c.len-count-in-loop-bucket.result
+    ≡ length (members_between (both_have c.args.self.now.docs (alive_docs c.args.alive.now)) c.args.self.now.doc (64 * (c.loop-bucket.bucket + 1)))
 more c =
     let set = c.args.self.now in
     let alive = alive_docs c.args.alive.now in
     let next = length-word_more (both_have set.docs alive) c.intersect-in-loop-bucket.result set.doc c.loop-bucket.bucket (omega arith)
-    (λ x. c.intersect-in-loop-bucket.ensures x ∙ ap₂ (λ a b. a && b) (c.tinyset-in-loop-bucket.ensures x) (c.tinyset-in-loop-bucket-2.ensures x) ∙ both-word set.docs alive c.loop-bucket.bucket x) in
+    (λ x. c.intersect-in-loop-bucket.ensures x ∙ ap₂ (λ a b. a && b) (c.tinyset-in-loop-bucket.ensures x) (c.tinyset-in-loop-bucket-2.ensures x)
+    ∙ both-word set.docs alive c.loop-bucket.bucket x) in
     omega arith
 
 pub overflow_add-count : goal.overflow_add-count

@@ -10,7 +10,8 @@ use Rattle.qm_docset.proofs.bitset_docset.BitSetDocSetDocSet.count_including_del
 pub loop-bucket-init : goal.loop-bucket-init
 loop-bucket-init c = c.len-count.ensures ∙ length-from c.args.self.now.docs c.args.self.now.doc c.word_from.result c.word_from.ensures.members
 
-more : (c : After-len-count-in-loop-bucket) → c.loop-bucket.count + c.len-count-in-loop-bucket.result ≡ length (members_between (set_has c.args.self.now.docs) c.args.self.now.doc (64 * (c.loop-bucket.bucket + 1)))
+more : (c : After-len-count-in-loop-bucket) → c.loop-bucket.count + c.len-count-in-loop-bucket.result
+    ≡ length (members_between (set_has c.args.self.now.docs) c.args.self.now.doc (64 * (c.loop-bucket.bucket + 1)))
 more c =
     let set = c.args.self.now in
     let next = length-word_more (set_has set.docs) c.tinyset.result set.doc c.loop-bucket.bucket (omega arith) c.tinyset.ensures in

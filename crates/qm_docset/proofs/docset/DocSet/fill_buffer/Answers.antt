@@ -20,7 +20,8 @@ pub returns-then-doc-eq-TERMINATED-clause-documents :
     goal.returns-then-doc-eq-TERMINATED-clause-documents
 returns-then-doc-eq-TERMINATED-clause-documents g c =
     let all = ended g c in
-    take-set _ c.loop-taken.taken _ ∙ c.loop-taken.invariant.filled ∙ ap documents (take_all c.loop-taken.taken _ (omega arith) ∙ sym (take_all 64 _ (omega arith)))
+    take-set _ c.loop-taken.taken _ ∙ c.loop-taken.invariant.filled
+    ∙ ap documents (take_all c.loop-taken.taken _ (omega arith) ∙ sym (take_all 64 _ (omega arith)))
 
 pub returns-then-doc-eq-TERMINATED-clause-entries :
     goal.returns-then-doc-eq-TERMINATED-clause-entries

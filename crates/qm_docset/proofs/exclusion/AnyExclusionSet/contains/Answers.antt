@@ -7,11 +7,13 @@ use Rattle.qm_docset.proofs.exclusion.AnyExclusionSet.contains.Goals as goal
 use Rattle.qm_docset.proofs.exclusion.AnyExclusionSet.contains.Goals.{After-seek_danger}
 use Rattle.qm_docset.proofs.exclusion.AnyExclusionSet.contains.Given.{Over}
 
-kept : (g : Over) (c : After-seek_danger g) (d : ℕ) → c.args.doc ≤ d → has_document (g.T.DocSet.entries c.seek_danger.new.self) d ≡ has_document (g.T.DocSet.entries c.args.self.now) d
+kept : (g : Over) (c : After-seek_danger g) (d : ℕ) → c.args.doc ≤ d →
+    has_document (g.T.DocSet.entries c.seek_danger.new.self) d ≡ has_document (g.T.DocSet.entries c.args.self.now) d
 kept g c d above =
     ap (λ es. has_document es d) c.seek_danger.ensures.entries ∙ has_document-from c.args.doc d (g.T.DocSet.entries c.args.self.now) above
 
-none_added : (g : Over) (c : After-seek_danger g) (d : ℕ) → IsTrue (has_document (g.T.DocSet.entries c.seek_danger.new.self) d) → IsTrue (has_document (g.T.DocSet.entries c.args.self.now) d)
+none_added : (g : Over) (c : After-seek_danger g) (d : ℕ) → IsTrue (has_document (g.T.DocSet.entries c.seek_danger.new.self) d) →
+    IsTrue (has_document (g.T.DocSet.entries c.args.self.now) d)
 none_added g c d member =
     has_document-added c.args.doc d (g.T.DocSet.entries c.args.self.now) (rw c.seek_danger.ensures.entries at member)
 

@@ -14,8 +14,10 @@ use Rattle.qm_docset.proofs.exclusion.VecExclusionSet.contains.Given.{Over}
 -- the cursors after one more was asked
 pub record Asked (g : Over) (c : After-contains g) : Type 0 where
   usable : All g.T.DocSet.valid (set c.loop-set.set-items c.loop-set.set-index c.contains.new.self)
-  kept : (d : ℕ) → c.args.doc ≤ d → some_has_document (map g.T.DocSet.entries (set c.loop-set.set-items c.loop-set.set-index c.contains.new.self)) d ≡ some_has_document (map g.T.DocSet.entries c.args.self.now.items) d
-  none_added : (d : ℕ) → IsTrue (some_has_document (map g.T.DocSet.entries (set c.loop-set.set-items c.loop-set.set-index c.contains.new.self)) d) → IsTrue (some_has_document (map g.T.DocSet.entries c.args.self.now.items) d)
+  kept : (d : ℕ) → c.args.doc ≤ d → some_has_document (map g.T.DocSet.entries (set c.loop-set.set-items c.loop-set.set-index c.contains.new.self)) d
+      ≡ some_has_document (map g.T.DocSet.entries c.args.self.now.items) d
+  none_added : (d : ℕ) → IsTrue (some_has_document (map g.T.DocSet.entries (set c.loop-set.set-items c.loop-set.set-index c.contains.new.self)) d) →
+      IsTrue (some_has_document (map g.T.DocSet.entries c.args.self.now.items) d)
 
 asked : (g : Over) (c : After-contains g) → Asked g c
 asked g c =
@@ -23,15 +25,19 @@ asked g c =
     let within : c.loop-set.set-index < length items = omega arith in
     record {
       usable = All-set g.T.DocSet.valid items c.loop-set.set-index c.contains.new.self c.contains.ensures.usable c.loop-set.invariant.usable;
-      kept = λ d above. some_has_document-set g.T.DocSet.entries items c.loop-set.set-index c.contains.new.self c.set-item.result within d (c.contains.ensures.kept d above) ∙ c.loop-set.invariant.kept d above;
-      none_added = λ d member. c.loop-set.invariant.none_added d (some_has_document-set_added g.T.DocSet.entries items c.loop-set.set-index c.contains.new.self c.set-item.result within d (c.contains.ensures.none_added d) member);
+      kept = λ d above. some_has_document-set g.T.DocSet.entries items c.loop-set.set-index c.contains.new.self c.set-item.result within d
+          (c.contains.ensures.kept d above) ∙ c.loop-set.invariant.kept d above;
+      none_added = λ d member. c.loop-set.invariant.none_added d (some_has_document-set_added g.T.DocSet.entries items
+          c.loop-set.set-index c.contains.new.self c.set-item.result within d (c.contains.ensures.none_added d) member);
     }
 
 -- the answer is that of the cursor as it was
-answered : (g : Over) (c : After-contains g) → c.contains.result ≡ has_document (g.T.DocSet.entries (get_or c.args.self.now.items c.loop-set.set-index c.set-item.result)) c.args.doc
+answered : (g : Over) (c : After-contains g) →
+    c.contains.result ≡ has_document (g.T.DocSet.entries (get_or c.args.self.now.items c.loop-set.set-index c.set-item.result)) c.args.doc
 answered g c =
     c.contains.ensures.member
-    ∙ ap (λ docs. has_document (g.T.DocSet.entries docs) c.args.doc) (same_at c.loop-set.set-items c.args.self.now.items c.loop-set.set-index c.set-item.result c.loop-set.invariant.not_asked)
+    ∙ ap (λ docs. has_document (g.T.DocSet.entries docs) c.args.doc)
+    (same_at c.loop-set.set-items c.args.self.now.items c.loop-set.set-index c.set-item.result c.loop-set.invariant.not_asked)
 
 pub contains-requires-clause-usable : goal.contains-requires-clause-usable
 contains-requires-clause-usable g c = c.loop-set.invariant.usable c.loop-set.set-index c.set-item.result (omega arith)
@@ -46,8 +52,10 @@ loop-set-preserved g c =
       usable = a.usable;
       kept = a.kept;
       none_added = a.none_added;
-      not_asked = drop-set-lt (c.loop-set.set-index + 1) c.loop-set.set-items c.loop-set.set-index c.contains.new.self (omega arith) ∙ drop_more_same c.loop-set.set-items old c.loop-set.set-index c.loop-set.invariant.not_asked;
-      lacked = lacks_more (λ docs. has_document (g.T.DocSet.entries docs) c.args.doc) old c.loop-set.set-index c.set-item.result within c.loop-set.invariant.lacked lacks;
+      not_asked = drop-set-lt (c.loop-set.set-index + 1) c.loop-set.set-items c.loop-set.set-index c.contains.new.self (omega arith)
+          ∙ drop_more_same c.loop-set.set-items old c.loop-set.set-index c.loop-set.invariant.not_asked;
+      lacked = lacks_more
+          (λ docs. has_document (g.T.DocSet.entries docs) c.args.doc) old c.loop-set.set-index c.set-item.result within c.loop-set.invariant.lacked lacks;
     }
 
 pub returns-then-contains-clause-member : goal.returns-then-contains-clause-member
@@ -55,10 +63,12 @@ returns-then-contains-clause-member g c =
     let old = c.args.self.now.items in
     let there = sym (answered g (goal.at.returns-then-contains-clause-member g c).After-contains) ∙ c.if-contains.true in
     let within : c.loop-set.set-index < length old = omega (arith, ap length c.deref_mut-set-items.ensures.value) in
-    sym (some_has_document-map g.T.DocSet.entries old c.args.doc ∙ list_any_at (λ docs. has_document (g.T.DocSet.entries docs) c.args.doc) old c.loop-set.set-index c.set-item.result within there)
+    sym (some_has_document-map g.T.DocSet.entries old c.args.doc
+    ∙ list_any_at (λ docs. has_document (g.T.DocSet.entries docs) c.args.doc) old c.loop-set.set-index c.set-item.result within there)
 
 -- the vector has the cursors as they are now
-lent : (g : Over) (c : After-contains g) → take c.args.self.now.len (set c.loop-set.set-items c.loop-set.set-index c.contains.new.self ++ drop (length (set c.loop-set.set-items c.loop-set.set-index c.contains.new.self)) c.args.self.now.items) ≡ set c.loop-set.set-items c.loop-set.set-index c.contains.new.self
+lent : (g : Over) (c : After-contains g) → take c.args.self.now.len (set c.loop-set.set-items c.loop-set.set-index c.contains.new.self ++ drop (length (set
+    c.loop-set.set-items c.loop-set.set-index c.contains.new.self)) c.args.self.now.items) ≡ set c.loop-set.set-items c.loop-set.set-index c.contains.new.self
 lent g c =
     let long : length (set c.loop-set.set-items c.loop-set.set-index c.contains.new.self) ≡ c.args.self.now.len =
     length-set c.loop-set.set-items c.loop-set.set-index c.contains.new.self ∙ c.loop-set.auto.set-items ∙ c.deref_mut-set-items.ensures.len in

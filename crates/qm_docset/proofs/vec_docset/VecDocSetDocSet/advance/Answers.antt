@@ -12,7 +12,8 @@ returns-clause-left c =
     let at = c.args.self.now.cursor in
     let long = c.args.self.now.docs.ok.0 in
     elim c.if-self-len.branch [
-      | then-self-len w ↦ rw w.self-is (record { entries = left_on 1 at docs; valid = record { within = omega arith; documents = c.requires.documents }; len = refl })
+      | then-self-len w ↦
+          rw w.self-is (record { entries = left_on 1 at docs; valid = record { within = omega arith; documents = c.requires.documents }; len = refl })
       | else-self-len w ↦
           let ended = drop_all at docs (omega (arith, long)) in
           rw w.self-is (record { entries = ap (map plain) ended ∙ sym (ap (λ es. drop 1 (map plain es)) ended); valid = c.requires; len = refl })

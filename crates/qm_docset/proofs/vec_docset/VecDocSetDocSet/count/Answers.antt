@@ -9,9 +9,11 @@ use Rattle.qm_docset.proofs.vec_docset.VecDocSetDocSet.count.Goals as goal
 use Rattle.qm_docset.proofs.vec_docset.VecDocSetDocSet.count.Goals.{After-deref, then-is_alive, else-is_alive}
 
 -- what is looked at is what is left of the list
-left : (c : After-deref) → take (length c.deref.result.now - c.args.self.now.cursor) (drop c.args.self.now.cursor c.deref.result.now) ≡ drop c.args.self.now.cursor c.args.self.now.docs.items
+left : (c : After-deref) → take (length c.deref.result.now - c.args.self.now.cursor) (drop c.args.self.now.cursor c.deref.result.now)
+    ≡ drop c.args.self.now.cursor c.args.self.now.docs.items
 left c =
-    take_all (length c.deref.result.now - c.args.self.now.cursor) (drop c.args.self.now.cursor c.deref.result.now) (omega (arith, length-drop c.args.self.now.cursor c.deref.result.now))
+    take_all (length c.deref.result.now - c.args.self.now.cursor) (drop c.args.self.now.cursor c.deref.result.now)
+    (omega (arith, length-drop c.args.self.now.cursor c.deref.result.now))
     ∙ ap (drop c.args.self.now.cursor) c.deref.ensures.value
 
 pub loop-doc-init : goal.loop-doc-init
@@ -45,6 +47,7 @@ returns-clause-count c =
     let at = c.args.self.now.cursor in
     let items : List ℕ = take (length c.deref.result.now - at) (drop at c.deref.result.now) in
     let none = drop_all c.loop-doc.doc-index items c.loop-doc-test.false in
-    let nothing : length (alive_entries c.args.alive.now (map plain (drop c.loop-doc.doc-index items))) ≡ 0 = ap (λ xs. length (alive_entries c.args.alive.now (map plain xs))) none ∙ ap length (alive_entries-nil c.args.alive.now) in
+    let nothing : length (alive_entries c.args.alive.now (map plain (drop c.loop-doc.doc-index items))) ≡ 0 =
+    ap (λ xs. length (alive_entries c.args.alive.now (map plain xs))) none ∙ ap length (alive_entries-nil c.args.alive.now) in
     let all = ap (λ xs. length (alive_entries c.args.alive.now (map plain xs))) (left (goal.at.returns-clause-count c).After-deref) in
     omega (arith, c.loop-doc.invariant)

@@ -11,7 +11,8 @@ returns-clause-documents c =
     let count = c.min-count.result in
     let copy = c.copy_from_slice.new.self in
     let width : at + count - at ≡ count = omega arith in
-    let part : copy ≡ take count (drop at docs) = c.copy_from_slice.ensures.after ∙ ap (λ n. take n (drop at c.deref.result.now)) width ∙ ap (λ ds. take count (drop at ds)) c.deref.ensures.value in
+    let part : copy ≡ take count (drop at docs) = c.copy_from_slice.ensures.after
+    ∙ ap (λ n. take n (drop at c.deref.result.now)) width ∙ ap (λ ds. take count (drop at ds)) c.deref.ensures.value in
     let long : length copy ≡ count = ap length part ∙ length-take count (drop at docs) ∙ omega (arith, length-drop at docs, c.args.self.now.docs.ok.0) in
     take-append-le count copy _ (omega arith) ∙ take_all count copy (omega arith) ∙ part ∙ taken 64 at count docs (omega (arith, c.args.self.now.docs.ok.0))
 

@@ -8,5 +8,6 @@ use Rattle.qm_docset.proofs.vec_docset.VecDocSetDocSet.seek_danger.Goals as goal
 pub returns-else-doc-target-clause-answer : goal.returns-else-doc-target-clause-answer
 returns-else-doc-target-clause-answer c =
     let ascends = AreEntries-documents c.args.self.now.cursor c.args.self.now.docs.items c.requires.valid.documents in
-    let bound = IsLowerBound-reached c.args.target 0 _ _ c.requires.target ascends (λ below same. let doc = c.seek-doc.ensures.head ∙ ap head_document c.seek-doc.ensures.left.entries ∙ same in elim c.else-doc-target.either [ inl ended ↦ omega arith | inr other ↦ other doc ]) in
+    let bound = IsLowerBound-reached c.args.target 0 _ _ c.requires.target ascends (λ below same. let doc = c.seek-doc.ensures.head
+    ∙ ap head_document c.seek-doc.ensures.left.entries ∙ same in elim c.else-doc-target.either [ inl ended ↦ omega arith | inr other ↦ other doc ]) in
     rw (c.seek-doc.ensures.head, c.seek-doc.ensures.left.entries) bound

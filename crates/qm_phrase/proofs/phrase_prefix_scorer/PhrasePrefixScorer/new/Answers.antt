@@ -21,7 +21,8 @@ seek-requires-clause-valid g c =
     let few : 0 < length items = omega (arith, c.requires.some, c.args.term_postings.ok.0) in
     record {
       terms = c.in_ok-terms.ensures.valid;
-      covered = λ d some. prefix-covered g.P.DocSet (norm_ids c.args.fieldnorm_reader) d items c.args.suffix_pos c.args.suffixes.items few c.requires.covered (subst (λ t. 0 < prefix_count t d) c.in_ok-terms.ensures.lists some);
+      covered = λ d some. prefix-covered g.P.DocSet (norm_ids c.args.fieldnorm_reader) d items c.args.suffix_pos c.args.suffixes.items few c.requires.covered
+          (subst (λ t. 0 < prefix_count t d) c.in_ok-terms.ensures.lists some);
     }
 
 pub returns-clause-lists : goal.returns-clause-lists
@@ -30,7 +31,8 @@ returns-clause-lists g c =
     let ids = norm_ids c.args.fieldnorm_reader in
     let t = lists_of g.P.DocSet c.in_ok-terms.terms in
     record {
-      entries = c.seek.ensures.entries ∙ from-all 0 0 (prefix_limits weight (has_several t)) (prefix_entries weight ids t) (omega arith) (AreEntries-prefix weight ids t) ∙ ap (prefix_entries weight ids) c.in_ok-terms.ensures.lists;
+      entries = c.seek.ensures.entries ∙ from-all 0 0 (prefix_limits weight (has_several t)) (prefix_entries weight ids t)
+          (omega arith) (AreEntries-prefix weight ids t) ∙ ap (prefix_entries weight ids) c.in_ok-terms.ensures.lists;
       limits = c.seek.ensures.limits ∙ ap (λ u. prefix_limits weight (has_several u)) c.in_ok-terms.ensures.lists;
       valid = c.seek.ensures.valid;
       placed = c.seek.ensures.placed;

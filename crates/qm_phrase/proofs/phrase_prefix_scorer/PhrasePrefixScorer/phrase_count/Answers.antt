@@ -10,5 +10,6 @@ use Rattle.qm_phrase.proofs.phrase_prefix_scorer.PhrasePrefixScorer.phrase_count
 pub returns-clause-some : goal.returns-clause-some
 returns-clause-some g c =
     let self = c.args.self.now in
-    let stands = prefix-stands self.similarity_weight (norm_ids self.fieldnorm_reader) (lists_of g.P.DocSet self.terms) (head_document (phrase_prefix_left g.P.DocSet self)) refl c.requires.here in
+    let stands = prefix-stands self.similarity_weight (norm_ids self.fieldnorm_reader)
+    (lists_of g.P.DocSet self.terms) (head_document (phrase_prefix_left g.P.DocSet self)) refl c.requires.here in
     stands.0

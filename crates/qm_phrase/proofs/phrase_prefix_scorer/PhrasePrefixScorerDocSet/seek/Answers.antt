@@ -10,13 +10,15 @@ pub returns-clause-entries : goal.returns-clause-entries
 returns-clause-entries g c =
     let self = c.args.self.now in
     let step = c.seek-doc in
-    found-entries self.similarity_weight (norm_ids self.fieldnorm_reader) c.args.target step.result (lists_of g.P.DocSet self.terms) (lists_of g.P.DocSet step.new.self) step.ensures.found step.ensures.moved
+    found-entries self.similarity_weight (norm_ids self.fieldnorm_reader) c.args.target step.result
+    (lists_of g.P.DocSet self.terms) (lists_of g.P.DocSet step.new.self) step.ensures.found step.ensures.moved
 
 pub returns-clause-head : goal.returns-clause-head
 returns-clause-head g c =
     let self = c.args.self.now in
     let step = c.seek-doc in
-    found-head self.similarity_weight (norm_ids self.fieldnorm_reader) c.args.target step.result (lists_of g.P.DocSet self.terms) (lists_of g.P.DocSet step.new.self) step.ensures.found step.ensures.moved
+    found-head self.similarity_weight (norm_ids self.fieldnorm_reader) c.args.target step.result
+    (lists_of g.P.DocSet self.terms) (lists_of g.P.DocSet step.new.self) step.ensures.found step.ensures.moved
 
 pub returns-clause-valid : goal.returns-clause-valid
 returns-clause-valid g c =
@@ -24,7 +26,8 @@ returns-clause-valid g c =
     let step = c.seek-doc in
     record {
       terms = step.ensures.valid;
-      covered = λ d some. c.requires.valid.covered d (gone-some step.result.0 d (lists_of g.P.DocSet self.terms) (lists_of g.P.DocSet step.new.self) step.ensures.moved some);
+      covered = λ d some.
+          c.requires.valid.covered d (gone-some step.result.0 d (lists_of g.P.DocSet self.terms) (lists_of g.P.DocSet step.new.self) step.ensures.moved some);
     }
 
 pub returns-clause-placed : goal.returns-clause-placed
@@ -33,7 +36,8 @@ returns-clause-placed g c =
     let step = c.seek-doc in
     let doc = step.result.0 in
     record {
-      document = found-head self.similarity_weight (norm_ids self.fieldnorm_reader) c.args.target step.result (lists_of g.P.DocSet self.terms) (lists_of g.P.DocSet step.new.self) step.ensures.found step.ensures.moved;
+      document = found-head self.similarity_weight (norm_ids self.fieldnorm_reader) c.args.target step.result
+          (lists_of g.P.DocSet self.terms) (lists_of g.P.DocSet step.new.self) step.ensures.found step.ensures.moved;
       prefix = λ below. (step.ensures.found.here below).prefix ∙ ap held (sym (step.ensures.moved.counts doc (omega arith)));
       full = λ below. (step.ensures.found.here below).full ∙ ap held (sym (step.ensures.moved.full doc (omega arith)));
     }
@@ -43,4 +47,7 @@ returns-clause-kept g c = λ s k.
     let step = c.seek-doc in
     let old = lists_of g.P.DocSet c.args.self.now.terms in
     let new = lists_of g.P.DocSet step.new.self in
-    record { counts = λ d some. gone-same step.result.0 d old new step.ensures.moved some ∙ k.counts d (gone-some step.result.0 d old new step.ensures.moved some) }
+    record {
+      counts = λ d some. gone-same step.result.0 d old new step.ensures.moved some
+          ∙ k.counts d (gone-some step.result.0 d old new step.ensures.moved some);
+    }

@@ -23,13 +23,15 @@ pub returns-in-Ok-clause-answer : goal.returns-in-Ok-clause-answer
 returns-in-Ok-clause-answer g c =
     let self = c.args.self.now in
     let step = c.look_at in
-    let here = look-head self.similarity_weight (norm_ids self.fieldnorm_reader) c.args.target c.in-Ok.counts (lists_of g.P.DocSet self.terms) (lists_of g.P.DocSet step.new.self) (omega (arith, c.requires.target)) step.ensures.moved c.in-Ok.ensures.answer in
+    let here = look-head self.similarity_weight (norm_ids self.fieldnorm_reader) c.args.target c.in-Ok.counts (lists_of g.P.DocSet self.terms)
+    (lists_of g.P.DocSet step.new.self) (omega (arith, c.requires.target)) step.ensures.moved c.in-Ok.ensures.answer in
     record { below_end = omega (arith, c.requires.target); here = sym here }
 
 pub returns-in-Ok-clause-entries : goal.returns-in-Ok-clause-entries
 returns-in-Ok-clause-entries g c =
     let self = c.args.self.now in
-    look-entries self.similarity_weight (norm_ids self.fieldnorm_reader) c.args.target (lists_of g.P.DocSet self.terms) (lists_of g.P.DocSet c.look_at.new.self) c.look_at.ensures.moved
+    look-entries self.similarity_weight (norm_ids self.fieldnorm_reader) c.args.target
+    (lists_of g.P.DocSet self.terms) (lists_of g.P.DocSet c.look_at.new.self) c.look_at.ensures.moved
 
 pub returns-in-Ok-clause-valid : goal.returns-in-Ok-clause-valid
 returns-in-Ok-clause-valid g c =
@@ -37,7 +39,8 @@ returns-in-Ok-clause-valid g c =
     let step = c.look_at in
     record {
       terms = step.ensures.valid;
-      covered = λ d some. c.requires.valid.covered d (gone-some c.args.target d (lists_of g.P.DocSet self.terms) (lists_of g.P.DocSet step.new.self) step.ensures.moved some);
+      covered = λ d some.
+          c.requires.valid.covered d (gone-some c.args.target d (lists_of g.P.DocSet self.terms) (lists_of g.P.DocSet step.new.self) step.ensures.moved some);
     }
 
 pub returns-in-Ok-clause-placed : goal.returns-in-Ok-clause-placed
@@ -46,7 +49,8 @@ returns-in-Ok-clause-placed g c =
     let step = c.look_at in
     let answer = c.in-Ok.ensures.answer in
     record {
-      document = look-head self.similarity_weight (norm_ids self.fieldnorm_reader) c.args.target c.in-Ok.counts (lists_of g.P.DocSet self.terms) (lists_of g.P.DocSet step.new.self) (omega (arith, c.requires.target)) step.ensures.moved answer;
+      document = look-head self.similarity_weight (norm_ids self.fieldnorm_reader) c.args.target c.in-Ok.counts
+          (lists_of g.P.DocSet self.terms) (lists_of g.P.DocSet step.new.self) (omega (arith, c.requires.target)) step.ensures.moved answer;
       prefix = λ below. answer.prefix ∙ ap held (sym (step.ensures.moved.counts c.args.target (omega arith)));
       full = λ below. answer.full ∙ ap held (sym (step.ensures.moved.full c.args.target (omega arith)));
     }
@@ -57,7 +61,8 @@ returns-in-Err-clause-answer g c =
     let step = c.look_at in
     let look = c.in-Err.ensures.answer in
     record {
-      before_all = look-bound self.similarity_weight (norm_ids self.fieldnorm_reader) c.args.target c.in-Err.bound (lists_of g.P.DocSet self.terms) (lists_of g.P.DocSet step.new.self) step.ensures.moved look;
+      before_all = look-bound self.similarity_weight (norm_ids self.fieldnorm_reader) c.args.target c.in-Err.bound
+          (lists_of g.P.DocSet self.terms) (lists_of g.P.DocSet step.new.self) step.ensures.moved look;
       past = λ below. look.0;
       at_end = λ ended. absurd (omega arith);
     }
@@ -65,7 +70,8 @@ returns-in-Err-clause-answer g c =
 pub returns-in-Err-clause-entries : goal.returns-in-Err-clause-entries
 returns-in-Err-clause-entries g c =
     let self = c.args.self.now in
-    look-entries self.similarity_weight (norm_ids self.fieldnorm_reader) c.args.target (lists_of g.P.DocSet self.terms) (lists_of g.P.DocSet c.look_at.new.self) c.look_at.ensures.moved
+    look-entries self.similarity_weight (norm_ids self.fieldnorm_reader) c.args.target
+    (lists_of g.P.DocSet self.terms) (lists_of g.P.DocSet c.look_at.new.self) c.look_at.ensures.moved
 
 pub returns-in-Err-clause-valid : goal.returns-in-Err-clause-valid
 returns-in-Err-clause-valid g c =
@@ -73,7 +79,8 @@ returns-in-Err-clause-valid g c =
     let step = c.look_at in
     record {
       terms = step.ensures.valid;
-      covered = λ d some. c.requires.valid.covered d (gone-some c.args.target d (lists_of g.P.DocSet self.terms) (lists_of g.P.DocSet step.new.self) step.ensures.moved some);
+      covered = λ d some.
+          c.requires.valid.covered d (gone-some c.args.target d (lists_of g.P.DocSet self.terms) (lists_of g.P.DocSet step.new.self) step.ensures.moved some);
     }
 
 pub returns-in-Ok-clause-kept : goal.returns-in-Ok-clause-kept
@@ -81,11 +88,17 @@ returns-in-Ok-clause-kept g c = λ s k.
     let step = c.look_at in
     let old = lists_of g.P.DocSet c.args.self.now.terms in
     let new = lists_of g.P.DocSet step.new.self in
-    record { counts = λ d some. gone-same c.args.target d old new step.ensures.moved some ∙ k.counts d (gone-some c.args.target d old new step.ensures.moved some) }
+    record {
+      counts = λ d some. gone-same c.args.target d old new step.ensures.moved some
+          ∙ k.counts d (gone-some c.args.target d old new step.ensures.moved some);
+    }
 
 pub returns-in-Err-clause-kept : goal.returns-in-Err-clause-kept
 returns-in-Err-clause-kept g c = λ s k.
     let step = c.look_at in
     let old = lists_of g.P.DocSet c.args.self.now.terms in
     let new = lists_of g.P.DocSet step.new.self in
-    record { counts = λ d some. gone-same c.args.target d old new step.ensures.moved some ∙ k.counts d (gone-some c.args.target d old new step.ensures.moved some) }
+    record {
+      counts = λ d some. gone-same c.args.target d old new step.ensures.moved some
+          ∙ k.counts d (gone-some c.args.target d old new step.ensures.moved some);
+    }

@@ -20,7 +20,12 @@ pub split_terms-requires-clause-greatest : goal.split_terms-requires-clause-grea
 split_terms-requires-clause-greatest g c =
     let items = c.args.term_postings.items in
     let offset : ℕ × g.row.P.Denot → ℕ = λ pair. pair.0 in
-    omega (arith, c.greatest_offset-greatest.ensures, ap (λ r. fold max 0 (map offset r)) c.deref.ensures.value, greatest-le g.P.DocSet items c.requires.offsets)
+    omega (
+      arith,
+      c.greatest_offset-greatest.ensures,
+      ap (λ r. fold max 0 (map offset r)) c.deref.ensures.value,
+      greatest-le g.P.DocSet items c.requires.offsets,
+    )
 
 pub seek-requires-clause-valid : goal.seek-requires-clause-valid
 seek-requires-clause-valid g c =
@@ -29,12 +34,19 @@ seek-requires-clause-valid g c =
     let places = c.in_ok-members.places.items in
     let greatest = c.greatest_offset-greatest.result in
     let offset : ℕ × g.row.P.Denot → ℕ = λ pair. pair.0 in
-    let most : greatest ≤ 4294967295 = omega (arith, c.greatest_offset-greatest.ensures, ap (λ r. fold max 0 (map offset r)) c.deref.ensures.value, greatest-le g.P.DocSet items c.requires.offsets) in
+    let most : greatest ≤ 4294967295 = omega (
+      arith,
+      c.greatest_offset-greatest.ensures,
+      ap (λ r. fold max 0 (map offset r)) c.deref.ensures.value,
+      greatest-le g.P.DocSet items c.requires.offsets,
+    ) in
     let filled : 0 < length items = omega (arith, c.requires.two, c.args.term_postings.ok.0) in
-    let terms = AreTerms-split g.P.DocSet items members places greatest filled most c.requires.valid c.in_ok-members.ensures.members c.in_ok-members.ensures.shifts c.in_ok-members.ensures.roomy in
+    let terms = AreTerms-split g.P.DocSet items members places greatest filled most c.requires.valid
+    c.in_ok-members.ensures.members c.in_ok-members.ensures.shifts c.in_ok-members.ensures.roomy in
     record {
       terms = terms;
-      covered = λ d some. covered-split g.P.DocSet (norm_ids c.args.fieldnorm_reader) c.args.slop d items members places filled c.requires.covered c.in_ok-members.ensures.members terms some;
+      covered = λ d some. covered-split g.P.DocSet
+          (norm_ids c.args.fieldnorm_reader) c.args.slop d items members places filled c.requires.covered c.in_ok-members.ensures.members terms some;
     }
 
 pub returns-clause-lists : goal.returns-clause-lists
@@ -45,11 +57,14 @@ returns-clause-lists g c =
     let weight = c.args.similarity_weight in
     let ids = norm_ids c.args.fieldnorm_reader in
     let offset : ℕ × g.row.P.Denot → ℕ = λ pair. pair.0 in
-    let greatest : c.greatest_offset-greatest.result ≡ fold max 0 (map offset items) = c.greatest_offset-greatest.ensures ∙ ap (λ r. fold max 0 (map offset r)) c.deref.ensures.value in
+    let greatest : c.greatest_offset-greatest.result ≡ fold max 0 (map offset items) = c.greatest_offset-greatest.ensures
+    ∙ ap (λ r. fold max 0 (map offset r)) c.deref.ensures.value in
     let shifts = c.in_ok-members.ensures.shifts ∙ ap (λ n. map (λ (pair : ℕ × g.row.P.Denot). n - pair.0) items) greatest in
     let ascending = AreEntries-phrase weight ids c.args.slop (map shift_of places) (lists g.P.DocSet members) in
     record {
-      entries = c.seek.ensures.entries ∙ from-all 0 0 (phrase_limits weight) (phrase_entries (phrase_points weight ids) c.args.slop (map shift_of places) (lists g.P.DocSet members)) (omega arith) ascending ∙ entries-split g.P.DocSet (phrase_points weight ids) c.args.slop items members places c.in_ok-members.ensures.members shifts;
+      entries = c.seek.ensures.entries ∙ from-all 0 0 (phrase_limits weight)
+          (phrase_entries (phrase_points weight ids) c.args.slop (map shift_of places) (lists g.P.DocSet members)) (omega arith) ascending
+          ∙ entries-split g.P.DocSet (phrase_points weight ids) c.args.slop items members places c.in_ok-members.ensures.members shifts;
       limits = c.seek.ensures.limits;
       valid = c.seek.ensures.valid;
       placed = c.seek.ensures.placed;
@@ -64,7 +79,8 @@ returns-clause-counts g c =
     let members = c.in_ok-members.members.items in
     let places = c.in_ok-members.places.items in
     let offset : ℕ × g.row.P.Denot → ℕ = λ pair. pair.0 in
-    let greatest : c.greatest_offset-greatest.result ≡ fold max 0 (map offset items) = c.greatest_offset-greatest.ensures ∙ ap (λ r. fold max 0 (map offset r)) c.deref.ensures.value in
+    let greatest : c.greatest_offset-greatest.result ≡ fold max 0 (map offset items) = c.greatest_offset-greatest.ensures
+    ∙ ap (λ r. fold max 0 (map offset r)) c.deref.ensures.value in
     let shifts = c.in_ok-members.ensures.shifts ∙ ap (λ n. map (λ (pair : ℕ × g.row.P.Denot). n - pair.0) items) greatest in
     let kept = alike g.P.DocSet c.seek.ensures.kept in
     record {

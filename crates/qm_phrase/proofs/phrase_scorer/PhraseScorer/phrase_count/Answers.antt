@@ -12,6 +12,8 @@ use Rattle.qm_phrase.proofs.phrase_scorer.PhraseScorer.phrase_count.Goals as goa
 pub returns-clause-some : goal.returns-clause-some
 returns-clause-some g c =
     let self = c.args.self.now in
-    let ascending = AreEntries-phrase self.similarity_weight (norm_ids self.fieldnorm_reader) self.slop (map shift_of self.places.items) (lists g.P.DocSet self.members.items) in
-    let stands = by_counts-stands (phrase_limits self.similarity_weight) (phrase_points self.similarity_weight (norm_ids self.fieldnorm_reader)) self.doc (phrase_starts g.P.DocSet self) ascending c.requires.placed.document (omega (arith, c.requires.placed.document, c.requires.here)) in
+    let ascending = AreEntries-phrase self.similarity_weight (norm_ids self.fieldnorm_reader) self.slop
+    (map shift_of self.places.items) (lists g.P.DocSet self.members.items) in
+    let stands = by_counts-stands (phrase_limits self.similarity_weight) (phrase_points self.similarity_weight (norm_ids self.fieldnorm_reader)) self.doc
+    (phrase_starts g.P.DocSet self) ascending c.requires.placed.document (omega (arith, c.requires.placed.document, c.requires.here)) in
     subst (λ d. 0 < phrase_starts g.P.DocSet self d) c.requires.placed.document stands.0

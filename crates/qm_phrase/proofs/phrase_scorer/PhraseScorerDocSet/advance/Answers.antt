@@ -15,14 +15,16 @@ use Rattle.qm_docset.specs.Lists.{lists}
 pub overflow_add-self : goal.overflow_add-self
 overflow_add-self g c =
     let self = c.args.self.now in
-    let ascending = AreEntries-phrase self.similarity_weight (norm_ids self.fieldnorm_reader) self.slop (map shift_of self.places.items) (lists g.P.DocSet self.members.items) in
+    let ascending = AreEntries-phrase self.similarity_weight (norm_ids self.fieldnorm_reader) self.slop
+    (map shift_of self.places.items) (lists g.P.DocSet self.members.items) in
     let most = head_document-bounds 0 (phrase_limits self.similarity_weight) (phrase_left g.P.DocSet self) (omega arith) ascending in
     omega (arith, most, c.requires.placed.document)
 
 pub returns-clause-entries : goal.returns-clause-entries
 returns-clause-entries g c =
     let self = c.args.self.now in
-    let ascending = AreEntries-phrase self.similarity_weight (norm_ids self.fieldnorm_reader) self.slop (map shift_of self.places.items) (lists g.P.DocSet self.members.items) in
+    let ascending = AreEntries-phrase self.similarity_weight (norm_ids self.fieldnorm_reader) self.slop
+    (map shift_of self.places.items) (lists g.P.DocSet self.members.items) in
     let next = next_or_end (phrase_limits self.similarity_weight) (phrase_left g.P.DocSet self) ascending in
     let target : c.min.result ≡ min (head_document (phrase_left g.P.DocSet self) + 1) TERMINATED = omega (arith, c.requires.placed.document, c.min.ensures) in
     c.seek.ensures.entries ∙ ap (λ t. from t (phrase_left g.P.DocSet self)) target ∙ next

@@ -14,7 +14,8 @@ returns-clause-entries g c =
     let places = whole self.places.len step.new.places self.places.items (step.auto.places ∙ ap length c.deref_mut-2.ensures.value) self.places.ok.0 in
     let found = rw (c.deref_mut.ensures.value, c.deref_mut-2.ensures.value) at step.ensures.found in
     let moved = rw (c.deref_mut.ensures.value, c.deref_mut-2.ensures.value) at step.ensures.moved in
-    rw (members, places) (found-entries g.P.DocSet (phrase_points self.similarity_weight (norm_ids self.fieldnorm_reader)) self.slop c.most-most.result c.args.target step.result self.members.items self.places.items step.new.members step.new.places found moved)
+    rw (members, places) (found-entries g.P.DocSet (phrase_points self.similarity_weight (norm_ids self.fieldnorm_reader)) self.slop
+    c.most-most.result c.args.target step.result self.members.items self.places.items step.new.members step.new.places found moved)
 
 pub returns-clause-head : goal.returns-clause-head
 returns-clause-head g c =
@@ -22,7 +23,8 @@ returns-clause-head g c =
     let step = c.seek_start-doc in
     let members = whole self.members.len step.new.members self.members.items (step.auto.members ∙ ap length c.deref_mut.ensures.value) self.members.ok.0 in
     let places = whole self.places.len step.new.places self.places.items (step.auto.places ∙ ap length c.deref_mut-2.ensures.value) self.places.ok.0 in
-    rw (members, places) (found-head g.P.DocSet (phrase_points self.similarity_weight (norm_ids self.fieldnorm_reader)) self.slop c.most-most.result c.args.target step.result c.deref_mut.result.now c.deref_mut-2.result.now step.new.members step.new.places step.ensures.found step.ensures.moved)
+    rw (members, places) (found-head g.P.DocSet (phrase_points self.similarity_weight (norm_ids self.fieldnorm_reader)) self.slop c.most-most.result
+    c.args.target step.result c.deref_mut.result.now c.deref_mut-2.result.now step.new.members step.new.places step.ensures.found step.ensures.moved)
 
 pub returns-clause-valid : goal.returns-clause-valid
 returns-clause-valid g c =
@@ -33,7 +35,8 @@ returns-clause-valid g c =
     let moved = rw (c.deref_mut.ensures.value, c.deref_mut-2.ensures.value) at step.ensures.moved in
     record {
       terms = rw (members, places) moved.valid;
-      covered = λ d. rw (members, places) (λ some. c.requires.valid.covered d (moved-some g.P.DocSet self.slop step.result.0 self.members.items self.places.items step.new.members step.new.places moved d some));
+      covered = λ d. rw (members, places) (λ some. c.requires.valid.covered d
+          (moved-some g.P.DocSet self.slop step.result.0 self.members.items self.places.items step.new.members step.new.places moved d some));
     }
 
 pub returns-clause-placed : goal.returns-clause-placed
@@ -43,8 +46,11 @@ returns-clause-placed g c =
     let members = whole self.members.len step.new.members self.members.items (step.auto.members ∙ ap length c.deref_mut.ensures.value) self.members.ok.0 in
     let places = whole self.places.len step.new.places self.places.items (step.auto.places ∙ ap length c.deref_mut-2.ensures.value) self.places.ok.0 in
     record {
-      document = rw (members, places) (found-head g.P.DocSet (phrase_points self.similarity_weight (norm_ids self.fieldnorm_reader)) self.slop c.most-most.result c.args.target step.result c.deref_mut.result.now c.deref_mut-2.result.now step.new.members step.new.places step.ensures.found step.ensures.moved);
-      counted = rw (members, places, ← c.most-most.ensures) (found-count g.P.DocSet self.slop c.most-most.result c.args.target step.result c.deref_mut.result.now c.deref_mut-2.result.now step.new.members step.new.places step.ensures.found step.ensures.moved);
+      document =
+          rw (members, places) (found-head g.P.DocSet (phrase_points self.similarity_weight (norm_ids self.fieldnorm_reader)) self.slop c.most-most.result
+          c.args.target step.result c.deref_mut.result.now c.deref_mut-2.result.now step.new.members step.new.places step.ensures.found step.ensures.moved);
+      counted = rw (members, places, ← c.most-most.ensures) (found-count g.P.DocSet self.slop c.most-most.result c.args.target step.result
+          c.deref_mut.result.now c.deref_mut-2.result.now step.new.members step.new.places step.ensures.found step.ensures.moved);
     }
 
 pub returns-clause-kept : goal.returns-clause-kept
@@ -54,4 +60,9 @@ returns-clause-kept g c = λ s k.
     let members = whole self.members.len step.new.members self.members.items (step.auto.members ∙ ap length c.deref_mut.ensures.value) self.members.ok.0 in
     let places = whole self.places.len step.new.places self.places.items (step.auto.places ∙ ap length c.deref_mut-2.ensures.value) self.places.ok.0 in
     let moved = rw (c.deref_mut.ensures.value, c.deref_mut-2.ensures.value) at step.ensures.moved in
-    record { weighted = k.weighted; counts = λ d. rw (members, places) (λ some. moved-same g.P.DocSet self.slop step.result.0 self.members.items self.places.items step.new.members step.new.places moved d some ∙ k.counts d (moved-some g.P.DocSet self.slop step.result.0 self.members.items self.places.items step.new.members step.new.places moved d some)) }
+    record {
+      weighted = k.weighted;
+      counts = λ d. rw (members, places)
+          (λ some. moved-same g.P.DocSet self.slop step.result.0 self.members.items self.places.items step.new.members step.new.places moved d some
+          ∙ k.counts d (moved-some g.P.DocSet self.slop step.result.0 self.members.items self.places.items step.new.members step.new.places moved d some));
+    }

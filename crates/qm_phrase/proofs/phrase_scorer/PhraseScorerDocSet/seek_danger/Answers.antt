@@ -26,7 +26,9 @@ returns-in-Ok-clause-answer g c =
     let step = c.look_at in
     let members = whole self.members.len step.new.members self.members.items (step.auto.members ∙ ap length c.deref_mut.ensures.value) self.members.ok.0 in
     let places = whole self.places.len step.new.places self.places.items (step.auto.places ∙ ap length c.deref_mut-2.ensures.value) self.places.ok.0 in
-    let found = look-found g.P.DocSet (phrase_points self.similarity_weight (norm_ids self.fieldnorm_reader)) self.slop c.most-most.result c.args.target c.in-Ok.count c.deref_mut.result.now c.deref_mut-2.result.now step.new.members step.new.places (omega (arith, c.requires.target)) step.ensures.moved c.in-Ok.ensures.answer in
+    let found = look-found g.P.DocSet (phrase_points self.similarity_weight (norm_ids self.fieldnorm_reader)) self.slop
+    c.most-most.result c.args.target c.in-Ok.count c.deref_mut.result.now c.deref_mut-2.result.now step.new.members step.new.places
+    (omega (arith, c.requires.target)) step.ensures.moved c.in-Ok.ensures.answer in
     record { below_end = omega (arith, c.requires.target); here = rw (members, places) (sym found.0) }
 
 pub returns-in-Ok-clause-entries : goal.returns-in-Ok-clause-entries
@@ -36,7 +38,8 @@ returns-in-Ok-clause-entries g c =
     let members = whole self.members.len step.new.members self.members.items (step.auto.members ∙ ap length c.deref_mut.ensures.value) self.members.ok.0 in
     let places = whole self.places.len step.new.places self.places.items (step.auto.places ∙ ap length c.deref_mut-2.ensures.value) self.places.ok.0 in
     let moved = rw (c.deref_mut.ensures.value, c.deref_mut-2.ensures.value) at step.ensures.moved in
-    rw (members, places) (look-entries g.P.DocSet (phrase_points self.similarity_weight (norm_ids self.fieldnorm_reader)) self.slop c.args.target self.members.items self.places.items step.new.members step.new.places moved)
+    rw (members, places) (look-entries g.P.DocSet (phrase_points self.similarity_weight (norm_ids self.fieldnorm_reader))
+    self.slop c.args.target self.members.items self.places.items step.new.members step.new.places moved)
 
 pub returns-in-Ok-clause-valid : goal.returns-in-Ok-clause-valid
 returns-in-Ok-clause-valid g c =
@@ -47,7 +50,8 @@ returns-in-Ok-clause-valid g c =
     let moved = rw (c.deref_mut.ensures.value, c.deref_mut-2.ensures.value) at step.ensures.moved in
     record {
       terms = rw (members, places) moved.valid;
-      covered = λ d. rw (members, places) (λ some. c.requires.valid.covered d (moved-some g.P.DocSet self.slop c.args.target self.members.items self.places.items step.new.members step.new.places moved d some));
+      covered = λ d. rw (members, places) (λ some. c.requires.valid.covered d
+          (moved-some g.P.DocSet self.slop c.args.target self.members.items self.places.items step.new.members step.new.places moved d some));
     }
 
 pub returns-in-Ok-clause-placed : goal.returns-in-Ok-clause-placed
@@ -56,7 +60,9 @@ returns-in-Ok-clause-placed g c =
     let step = c.look_at in
     let members = whole self.members.len step.new.members self.members.items (step.auto.members ∙ ap length c.deref_mut.ensures.value) self.members.ok.0 in
     let places = whole self.places.len step.new.places self.places.items (step.auto.places ∙ ap length c.deref_mut-2.ensures.value) self.places.ok.0 in
-    let found = look-found g.P.DocSet (phrase_points self.similarity_weight (norm_ids self.fieldnorm_reader)) self.slop c.most-most.result c.args.target c.in-Ok.count c.deref_mut.result.now c.deref_mut-2.result.now step.new.members step.new.places (omega (arith, c.requires.target)) step.ensures.moved c.in-Ok.ensures.answer in
+    let found = look-found g.P.DocSet (phrase_points self.similarity_weight (norm_ids self.fieldnorm_reader)) self.slop
+    c.most-most.result c.args.target c.in-Ok.count c.deref_mut.result.now c.deref_mut-2.result.now step.new.members step.new.places
+    (omega (arith, c.requires.target)) step.ensures.moved c.in-Ok.ensures.answer in
     record {
       document = rw (members, places) found.0;
       counted = rw (members, places, ← c.most-most.ensures) (λ below. found.1);
@@ -70,7 +76,9 @@ returns-in-Err-clause-answer g c =
     let members = whole self.members.len step.new.members self.members.items (step.auto.members ∙ ap length c.deref_mut.ensures.value) self.members.ok.0 in
     let places = whole self.places.len step.new.places self.places.items (step.auto.places ∙ ap length c.deref_mut-2.ensures.value) self.places.ok.0 in
     record {
-      before_all = rw (members, places) (look-bound g.P.DocSet (phrase_points self.similarity_weight (norm_ids self.fieldnorm_reader)) self.slop c.most-most.result c.args.target c.in-Err.bound c.deref_mut.result.now c.deref_mut-2.result.now step.new.members step.new.places step.ensures.moved look);
+      before_all =
+          rw (members, places) (look-bound g.P.DocSet (phrase_points self.similarity_weight (norm_ids self.fieldnorm_reader)) self.slop c.most-most.result
+          c.args.target c.in-Err.bound c.deref_mut.result.now c.deref_mut-2.result.now step.new.members step.new.places step.ensures.moved look);
       past = λ below. look.0;
       at_end = λ ended. absurd (omega arith);
     }
@@ -82,7 +90,8 @@ returns-in-Err-clause-entries g c =
     let members = whole self.members.len step.new.members self.members.items (step.auto.members ∙ ap length c.deref_mut.ensures.value) self.members.ok.0 in
     let places = whole self.places.len step.new.places self.places.items (step.auto.places ∙ ap length c.deref_mut-2.ensures.value) self.places.ok.0 in
     let moved = rw (c.deref_mut.ensures.value, c.deref_mut-2.ensures.value) at step.ensures.moved in
-    rw (members, places) (look-entries g.P.DocSet (phrase_points self.similarity_weight (norm_ids self.fieldnorm_reader)) self.slop c.args.target self.members.items self.places.items step.new.members step.new.places moved)
+    rw (members, places) (look-entries g.P.DocSet (phrase_points self.similarity_weight (norm_ids self.fieldnorm_reader))
+    self.slop c.args.target self.members.items self.places.items step.new.members step.new.places moved)
 
 pub returns-in-Err-clause-valid : goal.returns-in-Err-clause-valid
 returns-in-Err-clause-valid g c =
@@ -93,7 +102,8 @@ returns-in-Err-clause-valid g c =
     let moved = rw (c.deref_mut.ensures.value, c.deref_mut-2.ensures.value) at step.ensures.moved in
     record {
       terms = rw (members, places) moved.valid;
-      covered = λ d. rw (members, places) (λ some. c.requires.valid.covered d (moved-some g.P.DocSet self.slop c.args.target self.members.items self.places.items step.new.members step.new.places moved d some));
+      covered = λ d. rw (members, places) (λ some. c.requires.valid.covered d
+          (moved-some g.P.DocSet self.slop c.args.target self.members.items self.places.items step.new.members step.new.places moved d some));
     }
 
 pub look_at-requires-clause-most : goal.look_at-requires-clause-most
@@ -124,7 +134,12 @@ returns-in-Ok-clause-kept g c = λ s k.
     let members = whole self.members.len step.new.members self.members.items (step.auto.members ∙ ap length c.deref_mut.ensures.value) self.members.ok.0 in
     let places = whole self.places.len step.new.places self.places.items (step.auto.places ∙ ap length c.deref_mut-2.ensures.value) self.places.ok.0 in
     let moved = rw (c.deref_mut.ensures.value, c.deref_mut-2.ensures.value) at step.ensures.moved in
-    record { weighted = k.weighted; counts = λ d. rw (members, places) (λ some. moved-same g.P.DocSet self.slop c.args.target self.members.items self.places.items step.new.members step.new.places moved d some ∙ k.counts d (moved-some g.P.DocSet self.slop c.args.target self.members.items self.places.items step.new.members step.new.places moved d some)) }
+    record {
+      weighted = k.weighted;
+      counts = λ d. rw (members, places)
+          (λ some. moved-same g.P.DocSet self.slop c.args.target self.members.items self.places.items step.new.members step.new.places moved d some
+          ∙ k.counts d (moved-some g.P.DocSet self.slop c.args.target self.members.items self.places.items step.new.members step.new.places moved d some));
+    }
 
 pub returns-in-Err-clause-kept : goal.returns-in-Err-clause-kept
 returns-in-Err-clause-kept g c = λ s k.
@@ -133,4 +148,9 @@ returns-in-Err-clause-kept g c = λ s k.
     let members = whole self.members.len step.new.members self.members.items (step.auto.members ∙ ap length c.deref_mut.ensures.value) self.members.ok.0 in
     let places = whole self.places.len step.new.places self.places.items (step.auto.places ∙ ap length c.deref_mut-2.ensures.value) self.places.ok.0 in
     let moved = rw (c.deref_mut.ensures.value, c.deref_mut-2.ensures.value) at step.ensures.moved in
-    record { weighted = k.weighted; counts = λ d. rw (members, places) (λ some. moved-same g.P.DocSet self.slop c.args.target self.members.items self.places.items step.new.members step.new.places moved d some ∙ k.counts d (moved-some g.P.DocSet self.slop c.args.target self.members.items self.places.items step.new.members step.new.places moved d some)) }
+    record {
+      weighted = k.weighted;
+      counts = λ d. rw (members, places)
+          (λ some. moved-same g.P.DocSet self.slop c.args.target self.members.items self.places.items step.new.members step.new.places moved d some
+          ∙ k.counts d (moved-some g.P.DocSet self.slop c.args.target self.members.items self.places.items step.new.members step.new.places moved d some));
+    }

@@ -10,8 +10,11 @@ use Rattle.qm_phrase.proofs.prefix_terms.PrefixTerms.go_to_end.Goals as goal
 pub returns-clause-moved : goal.returns-clause-moved
 returns-clause-moved g c =
     let self = c.args.self.now in
-    let moved = AreMovedTo-ended g.P.DocSet g.met.P.DocSet.ascending self c.seek.new.self c.index_mut.result.now c.requires.valid (c.seek.ensures.entries ∙ ap (λ m. from TERMINATED (g.P.DocSet.entries m)) c.index_mut.ensures.value) (c.seek.ensures.limits ∙ ap g.P.DocSet.limits c.index_mut.ensures.value) c.seek.ensures.valid in
-    HaveGoneOn-terms g.P.DocSet TERMINATED (shift_of self.suffix_places) self (set self.members.items 0 c.seek.new.self) self.places.items self.suffixes.items moved refl refl
+    let moved = AreMovedTo-ended g.P.DocSet g.met.P.DocSet.ascending self c.seek.new.self c.index_mut.result.now c.requires.valid
+    (c.seek.ensures.entries ∙ ap (λ m. from TERMINATED (g.P.DocSet.entries m)) c.index_mut.ensures.value)
+    (c.seek.ensures.limits ∙ ap g.P.DocSet.limits c.index_mut.ensures.value) c.seek.ensures.valid in
+    HaveGoneOn-terms g.P.DocSet TERMINATED (shift_of self.suffix_places) self
+    (set self.members.items 0 c.seek.new.self) self.places.items self.suffixes.items moved refl refl
 
 pub returns-clause-valid : goal.returns-clause-valid
 returns-clause-valid g c = grind (arith, common_steps)

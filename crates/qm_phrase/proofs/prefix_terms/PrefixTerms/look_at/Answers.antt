@@ -27,7 +27,8 @@ returns-in_err-full-clause-moved g c =
     let members = whole self.members.len step.new.members self.members.items (step.auto.members ∙ ap length c.deref_mut.ensures.value) self.members.ok.0 in
     let places = whole self.places.len step.new.places self.places.items (step.auto.places ∙ ap length c.deref_mut-2.ensures.value) self.places.ok.0 in
     let moved = rw (c.deref_mut.ensures.value, c.deref_mut-2.ensures.value) at step.ensures.moved in
-    rw (members, places) (HaveGoneOn-terms g.P.DocSet c.args.doc (shift_of self.suffix_places) self step.new.members step.new.places self.suffixes.items moved refl refl)
+    rw (members, places)
+    (HaveGoneOn-terms g.P.DocSet c.args.doc (shift_of self.suffix_places) self step.new.members step.new.places self.suffixes.items moved refl refl)
 
 pub returns-in-0-clause-moved : goal.returns-in-0-clause-moved
 returns-in-0-clause-moved g c =
@@ -36,10 +37,13 @@ returns-in-0-clause-moved g c =
     let count = c.count_suffixes in
     let members = whole self.members.len step.new.members self.members.items (step.auto.members ∙ ap length c.deref_mut.ensures.value) self.members.ok.0 in
     let places = whole self.places.len step.new.places self.places.items (step.auto.places ∙ ap length c.deref_mut-2.ensures.value) self.places.ok.0 in
-    let suffixes = whole self.suffixes.len count.new.suffixes self.suffixes.items (count.auto.suffixes ∙ ap length c.deref_mut-3.ensures.value) self.suffixes.ok.0 in
+    let suffixes =
+    whole self.suffixes.len count.new.suffixes self.suffixes.items (count.auto.suffixes ∙ ap length c.deref_mut-3.ensures.value) self.suffixes.ok.0 in
     let moved = rw (c.deref_mut.ensures.value, c.deref_mut-2.ensures.value) at step.ensures.moved in
     let same = rw c.deref_mut-3.ensures.value at count.ensures.entries in
-    rw (members, places, suffixes) (HaveGoneOn-terms g.P.DocSet c.args.doc (shift_of count.new.row) self step.new.members step.new.places count.new.suffixes moved (ap (map (from c.args.doc)) same ∙ from_later g.P.DocSet c.args.doc c.args.doc (lists g.P.DocSet self.suffixes.items) (omega arith)) count.ensures.shift)
+    rw (members, places, suffixes)
+    (HaveGoneOn-terms g.P.DocSet c.args.doc (shift_of count.new.row) self step.new.members step.new.places count.new.suffixes moved (ap
+    (map (from c.args.doc)) same ∙ from_later g.P.DocSet c.args.doc c.args.doc (lists g.P.DocSet self.suffixes.items) (omega arith)) count.ensures.shift)
 
 pub returns-in_default-clause-moved : goal.returns-in_default-clause-moved
 returns-in_default-clause-moved g c =
@@ -48,10 +52,13 @@ returns-in_default-clause-moved g c =
     let count = c.count_suffixes in
     let members = whole self.members.len step.new.members self.members.items (step.auto.members ∙ ap length c.deref_mut.ensures.value) self.members.ok.0 in
     let places = whole self.places.len step.new.places self.places.items (step.auto.places ∙ ap length c.deref_mut-2.ensures.value) self.places.ok.0 in
-    let suffixes = whole self.suffixes.len count.new.suffixes self.suffixes.items (count.auto.suffixes ∙ ap length c.deref_mut-3.ensures.value) self.suffixes.ok.0 in
+    let suffixes =
+    whole self.suffixes.len count.new.suffixes self.suffixes.items (count.auto.suffixes ∙ ap length c.deref_mut-3.ensures.value) self.suffixes.ok.0 in
     let moved = rw (c.deref_mut.ensures.value, c.deref_mut-2.ensures.value) at step.ensures.moved in
     let same = rw c.deref_mut-3.ensures.value at count.ensures.entries in
-    rw (members, places, suffixes) (HaveGoneOn-terms g.P.DocSet c.args.doc (shift_of count.new.row) self step.new.members step.new.places count.new.suffixes moved (ap (map (from c.args.doc)) same ∙ from_later g.P.DocSet c.args.doc c.args.doc (lists g.P.DocSet self.suffixes.items) (omega arith)) count.ensures.shift)
+    rw (members, places, suffixes)
+    (HaveGoneOn-terms g.P.DocSet c.args.doc (shift_of count.new.row) self step.new.members step.new.places count.new.suffixes moved (ap
+    (map (from c.args.doc)) same ∙ from_later g.P.DocSet c.args.doc c.args.doc (lists g.P.DocSet self.suffixes.items) (omega arith)) count.ensures.shift)
 
 pub returns-in-0-clause-valid : goal.returns-in-0-clause-valid
 returns-in-0-clause-valid g c =
@@ -60,8 +67,11 @@ returns-in-0-clause-valid g c =
     let count = c.count_suffixes in
     let members = whole self.members.len step.new.members self.members.items (step.auto.members ∙ ap length c.deref_mut.ensures.value) self.members.ok.0 in
     let places = whole self.places.len step.new.places self.places.items (step.auto.places ∙ ap length c.deref_mut-2.ensures.value) self.places.ok.0 in
-    let suffixes = whole self.suffixes.len count.new.suffixes self.suffixes.items (count.auto.suffixes ∙ ap length c.deref_mut-3.ensures.value) self.suffixes.ok.0 in
-    ArePrefixTerms-moved g.P.DocSet _ step.new.members step.new.places count.new.suffixes members places suffixes step.ensures.moved.valid (IsCommonBuffer-same g.P.DocSet step.new.members step.new.places step.new.common count.new.common step.ensures.buffer count.ensures.common_shift count.ensures.common_room) count.ensures.valid count.ensures.fit (omega (arith, count.ensures.shift, c.requires.valid.shift))
+    let suffixes =
+    whole self.suffixes.len count.new.suffixes self.suffixes.items (count.auto.suffixes ∙ ap length c.deref_mut-3.ensures.value) self.suffixes.ok.0 in
+    ArePrefixTerms-moved g.P.DocSet _ step.new.members step.new.places count.new.suffixes members places suffixes step.ensures.moved.valid
+    (IsCommonBuffer-same g.P.DocSet step.new.members step.new.places step.new.common count.new.common step.ensures.buffer count.ensures.common_shift
+    count.ensures.common_room) count.ensures.valid count.ensures.fit (omega (arith, count.ensures.shift, c.requires.valid.shift))
 
 pub returns-in_default-clause-valid : goal.returns-in_default-clause-valid
 returns-in_default-clause-valid g c =
@@ -70,8 +80,11 @@ returns-in_default-clause-valid g c =
     let count = c.count_suffixes in
     let members = whole self.members.len step.new.members self.members.items (step.auto.members ∙ ap length c.deref_mut.ensures.value) self.members.ok.0 in
     let places = whole self.places.len step.new.places self.places.items (step.auto.places ∙ ap length c.deref_mut-2.ensures.value) self.places.ok.0 in
-    let suffixes = whole self.suffixes.len count.new.suffixes self.suffixes.items (count.auto.suffixes ∙ ap length c.deref_mut-3.ensures.value) self.suffixes.ok.0 in
-    ArePrefixTerms-moved g.P.DocSet _ step.new.members step.new.places count.new.suffixes members places suffixes step.ensures.moved.valid (IsCommonBuffer-same g.P.DocSet step.new.members step.new.places step.new.common count.new.common step.ensures.buffer count.ensures.common_shift count.ensures.common_room) count.ensures.valid count.ensures.fit (omega (arith, count.ensures.shift, c.requires.valid.shift))
+    let suffixes =
+    whole self.suffixes.len count.new.suffixes self.suffixes.items (count.auto.suffixes ∙ ap length c.deref_mut-3.ensures.value) self.suffixes.ok.0 in
+    ArePrefixTerms-moved g.P.DocSet _ step.new.members step.new.places count.new.suffixes members places suffixes step.ensures.moved.valid
+    (IsCommonBuffer-same g.P.DocSet step.new.members step.new.places step.new.common count.new.common step.ensures.buffer count.ensures.common_shift
+    count.ensures.common_room) count.ensures.valid count.ensures.fit (omega (arith, count.ensures.shift, c.requires.valid.shift))
 
 pub returns-in-0-clause-answer : goal.returns-in-0-clause-answer
 returns-in-0-clause-answer g c =
@@ -79,8 +92,12 @@ returns-in-0-clause-answer g c =
     let common = rw (c.deref_mut.ensures.value, c.deref_mut-2.ensures.value) at c.in_ok-full.ensures.common in
     let counted = rw c.deref_mut-3.ensures.value at c.count_suffixes.ensures.count in
     let count = counted-is g.P.DocSet self c.args.doc c.count_suffixes.result (places_of c.look_at_full.new.common) common counted in
-    let none : prefix_count (lists_of g.P.DocSet self) c.args.doc ≡ 0 = omega (arith, count, c.in-0.is) in
-    (omega arith, omega (arith, c.requires.doc), λ d low high. let level : d ≡ c.args.doc = omega arith in ap (prefix_count (lists_of g.P.DocSet self)) level ∙ none)
+    let none : prefix_count (lists_of g.P.DocSet self) c.args.doc ≡ 0 = omega (arith, count, c.in-0.is) in (
+      omega arith,
+      omega (arith, c.requires.doc),
+      λ d low high. let level : d ≡ c.args.doc = omega arith in
+          ap (prefix_count (lists_of g.P.DocSet self)) level ∙ none,
+    )
 
 pub returns-in_default-clause-answer : goal.returns-in_default-clause-answer
 returns-in_default-clause-answer g c =

@@ -11,7 +11,8 @@ invariant-loop-member g l = record {
   placed : ArePlaced g.P.DocSet l.members;
   entries : lists g.P.DocSet l.members ≡ lists g.P.DocSet l.fn.members;
   limits : bounds g.P.DocSet l.members ≡ bounds g.P.DocSet l.fn.members;
-  added : (x : ℕ) → is_in x l.output.items ≡ (is_in x l.fn.output.items || has_shifted l.offset (entries_at l.doc (take l.member-index (lists g.P.DocSet l.fn.members))) x);
+  added : (x : ℕ) →
+      is_in x l.output.items ≡ (is_in x l.fn.output.items || has_shifted l.offset (entries_at l.doc (take l.member-index (lists g.P.DocSet l.fn.members))) x);
   longer : vec_len l.output ≤ vec_len l.fn.output + sum_by (λ limits. limits.room) (take l.member-index (bounds g.P.DocSet l.fn.members));
   capacity : vec_capacity l.fn.output ≤ vec_capacity l.output;
 }

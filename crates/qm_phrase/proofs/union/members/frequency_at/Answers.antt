@@ -17,14 +17,25 @@ loop-postings-preserved g c =
     let i = c.loop-postings.postings-index in
     let x = c.postings-item.result in
     let within : i < length members = omega arith in
-    let a = g.met.P.DocSet.ascending x (subst g.P.DocSet.valid (sym c.postings-item.is) (All-get_or g.P.DocSet.valid members i x within c.requires.members.valid)) in
+    let a = g.met.P.DocSet.ascending x
+    (subst g.P.DocSet.valid (sym c.postings-item.is) (All-get_or g.P.DocSet.valid members i x within c.requires.members.valid)) in
     let Reached : g.row.P.Denot → Type 0 = λ m. c.args.doc ≤ head_document (g.P.DocSet.entries m) in
     let reached : Reached x = subst Reached (sym c.postings-item.is) (All-get_or Reached members i x within c.requires.reached) in
     elim c.if-doc.branch [
       | then-doc w ↦
-          let more = frequency-more g.P.DocSet.entries (g.P.DocSet.limits x) members i c.args.doc x a c.postings-item.is within (omega (arith, c.doc.ensures, w.if-doc.true)) c.requires.doc in
-          omega (arith, more, w.frequency-is, w.saturating_add-frequency.ensures, w.term_freq.ensures, ap (λ m. head_frequency (g.P.DocSet.entries m)) c.postings-item.is, c.loop-postings.invariant)
+          let more = frequency-more g.P.DocSet.entries (g.P.DocSet.limits x) members i c.args.doc x a c.postings-item.is within
+          (omega (arith, c.doc.ensures, w.if-doc.true)) c.requires.doc in
+          omega (
+            arith,
+            more,
+            w.frequency-is,
+            w.saturating_add-frequency.ensures,
+            w.term_freq.ensures,
+            ap (λ m. head_frequency (g.P.DocSet.entries m)) c.postings-item.is,
+            c.loop-postings.invariant,
+          )
       | else-doc w ↦
-          let same = entries_at-more_ahead g.P.DocSet.entries (g.P.DocSet.limits x) members i c.args.doc x a c.postings-item.is within (omega (arith, reached, c.doc.ensures, w.if-doc.false)) in
+          let same = entries_at-more_ahead g.P.DocSet.entries (g.P.DocSet.limits x) members i c.args.doc x a c.postings-item.is within
+          (omega (arith, reached, c.doc.ensures, w.if-doc.false)) in
           w.frequency-is ∙ c.loop-postings.invariant ∙ sym (ap united_frequency same)
     ]

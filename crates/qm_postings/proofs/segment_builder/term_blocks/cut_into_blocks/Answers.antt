@@ -19,10 +19,13 @@ loop-entry-preserved c =
     let entry = c.entry.inside in
     let r : PostingsRange = c.entry-item.result in
     let width : entry.start + entry.doc_freq - entry.start ≡ entry.doc_freq = omega arith in
-    let column : c.column_of.result.now ≡ get_or columns entry.term.field [] = c.column_of.ensures ∙ ap (λ n. get_or columns n []) (c.field_id.ensures ∙ c.field.ensures) in
-    let mine = (λ i. all_infos bl (column i) (take (width i) (drop entry.start ds)) (take (width i) (drop entry.start fs))) ∙ ap own (c.entry.view_is ∙ c.entry-item.is) in
+    let column : c.column_of.result.now ≡ get_or columns entry.term.field [] = c.column_of.ensures
+    ∙ ap (λ n. get_or columns n []) (c.field_id.ensures ∙ c.field.ensures) in
+    let mine = (λ i. all_infos bl (column i) (take (width i) (drop entry.start ds)) (take (width i) (drop entry.start fs)))
+    ∙ ap own (c.entry.view_is ∙ c.entry-item.is) in
     record {
-      places = c.in_ok-push.ensures.items ∙ ap (λ n. c.loop-entry.starts.items ++ n ∷ []) (c.len.ensures ∙ c.loop-entry.infos.ok.0) ∙ (λ i. had.places i ++ ap length had.all i ∷ []) ∙ sym (map-range_with_len_more at 0 index index (omega arith));
+      places = c.in_ok-push.ensures.items ∙ ap (λ n. c.loop-entry.starts.items ++ n ∷ []) (c.len.ensures ∙ c.loop-entry.infos.ok.0)
+          ∙ (λ i. had.places i ++ ap length had.all i ∷ []) ∙ sym (map-range_with_len_more at 0 index index (omega arith));
       all = c.in_ok-push_blocks.ensures.pushed ∙ (λ i. had.all i ++ mine i) ∙ sym (flat-more own terms index r c.loop-entry-test.true);
     }
 

@@ -6,4 +6,10 @@ pub loop-document-init : goal.loop-document-init
 loop-document-init c = least-none c.args.ids.now
 
 pub loop-document-preserved : goal.loop-document-preserved
-loop-document-preserved c = omega (arith, c.lesser-least.ensures, c.id_of.ensures, c.loop-document.invariant, least-more c.args.ids.now c.args.documents.now c.loop-document.document-index 0 c.loop-document-test.true)
+loop-document-preserved c = omega (
+  arith,
+  c.lesser-least.ensures,
+  c.id_of.ensures,
+  c.loop-document.invariant,
+  least-more c.args.ids.now c.args.documents.now c.loop-document.document-index 0 c.loop-document-test.true,
+)

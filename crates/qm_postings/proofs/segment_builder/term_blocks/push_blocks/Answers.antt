@@ -15,13 +15,25 @@ pub sum_of-positions_start-requires : goal.sum_of-positions_start-requires
 sum_of-positions_start-requires c =
     let fs = c.args.frequencies.now in
     let start = c.loop-block.block * c.args.block_len in
-    omega (arith, sum-between start (start + c.min.result) fs (omega arith), sum-before (start + c.min.result) fs, sum_fits fs (λ i. omega (arith, c.type_inv.frequencies i)) (omega (arith, c.requires.paired, c.requires.few)))
+    omega (
+      arith,
+      sum-between start (start + c.min.result) fs (omega arith),
+      sum-before (start + c.min.result) fs,
+      sum_fits fs (λ i. omega (arith, c.type_inv.frequencies i)) (omega (arith, c.requires.paired, c.requires.few)),
+    )
 
 pub overflow_add-positions_start : goal.overflow_add-positions_start
 overflow_add-positions_start c =
     let fs = c.args.frequencies.now in
     let start = c.loop-block.block * c.args.block_len in
-    omega (arith, c.sum_of-positions_start.ensures, c.loop-block.invariant.start, sum-between start (start + c.min.result) fs (omega arith), sum-before (start + c.min.result) fs, sum_fits fs (λ i. omega (arith, c.type_inv.frequencies i)) (omega (arith, c.requires.paired, c.requires.few)))
+    omega (
+      arith,
+      c.sum_of-positions_start.ensures,
+      c.loop-block.invariant.start,
+      sum-between start (start + c.min.result) fs (omega arith),
+      sum-before (start + c.min.result) fs,
+      sum_fits fs (λ i. omega (arith, c.type_inv.frequencies i)) (omega (arith, c.requires.paired, c.requires.few)),
+    )
 
 pub loop-block-preserved : goal.loop-block-preserved
 loop-block-preserved c =
@@ -32,13 +44,22 @@ loop-block-preserved c =
     let ids = c.args.ids.now in
     let own = block_info bl ids ds fs in
     let had = c.loop-block.invariant in
-    let inside : b * bl < length ds = block_start b (length ds) bl c.requires.block_len (omega (arith, c.loop-block-test.true, c.loop-block.auto.block-end, c.div_ceil-block-end.ensures)) in
+    let inside : b * bl < length ds =
+    block_start b (length ds) bl c.requires.block_len (omega (arith, c.loop-block-test.true, c.loop-block.auto.block-end, c.div_ceil-block-end.ensures)) in
     let count : c.min.result ≡ min bl (length ds - b * bl) = omega arith in
-    let last : c.end_of.result ≡ end_of bl ds b = c.end_of.ensures ∙ ap (λ n. cond (nat_lt (b * bl + n) (length ds)) (get_or ds (b * bl + n - 1) 0) TERMINATED) count ∙ end_before_place bl b ds in
-    let part : take (b * bl + c.min.result - b * bl) (drop (b * bl) fs) ≡ piece bl b fs = ap (λ n. take (b * bl + n - b * bl) (drop (b * bl) fs)) count ∙ part-piece bl b (length ds) fs c.requires.paired in
+    let last : c.end_of.result ≡ end_of bl ds b = c.end_of.ensures
+    ∙ ap (λ n. cond (nat_lt (b * bl + n) (length ds)) (get_or ds (b * bl + n - 1) 0) TERMINATED) count ∙ end_before_place bl b ds in
+    let part : take (b * bl + c.min.result - b * bl) (drop (b * bl) fs) ≡ piece bl b fs = ap (λ n. take (b * bl + n - b * bl) (drop (b * bl) fs)) count
+    ∙ part-piece bl b (length ds) fs c.requires.paired in
     let most : c.greatest_of.result ≡ greatest (piece bl b fs) = c.greatest_of.ensures ∙ ap greatest part in
-    let least : c.least_id.result ≡ least_id ids (piece bl b ds) = c.least_id.ensures ∙ ap (λ n. least_id ids (take (b * bl + n - b * bl) (drop (b * bl) ds))) count ∙ ap (least_id ids) (part-piece bl b (length ds) ds refl) in
-    let info : record { last_doc = c.end_of.result; max_term_freq = c.greatest_of.result; least_fieldnorm_id = c.least_id.result; positions_start = c.loop-block.positions_start } ≡ own b =
+    let least : c.least_id.result ≡ least_id ids (piece bl b ds) = c.least_id.ensures
+    ∙ ap (λ n. least_id ids (take (b * bl + n - b * bl) (drop (b * bl) ds))) count ∙ ap (least_id ids) (part-piece bl b (length ds) ds refl) in
+    let info : record {
+      last_doc = c.end_of.result;
+      max_term_freq = c.greatest_of.result;
+      least_fieldnorm_id = c.least_id.result;
+      positions_start = c.loop-block.positions_start;
+    } ≡ own b =
     λ i. record { last_doc = last i; max_term_freq = most i; least_fieldnorm_id = least i; positions_start = had.start i } in
     record {
       pushed = c.in_ok-push.ensures.items ∙ (λ i. had.pushed i ++ info i ∷ [])
@@ -51,5 +72,6 @@ pub returns-clause-pushed : goal.returns-clause-pushed
 unfolding all_infos
 returns-clause-pushed c =
     let own = block_info c.args.block_len c.args.ids.now c.args.documents.now c.args.frequencies.now in
-    let end : c.loop-block.block ≡ div_ceil (length c.args.documents.now) c.args.block_len = omega (arith, c.loop-block-test.false, c.loop-block.auto.block-end, c.div_ceil-block-end.ensures) in
+    let end : c.loop-block.block ≡ div_ceil (length c.args.documents.now) c.args.block_len =
+    omega (arith, c.loop-block-test.false, c.loop-block.auto.block-end, c.div_ceil-block-end.ensures) in
     c.loop-block.invariant.pushed ∙ ap (λ n. c.args.infos.now.items ++ map own (range_with_len 0 n)) end

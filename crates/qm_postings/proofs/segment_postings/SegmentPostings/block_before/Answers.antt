@@ -12,4 +12,9 @@ returns-then-blocks-self-clause-passed c = λ b d from lt.
     let a = s.arrays in
     let v = c.requires.valid in
     let inside = (v.look (omega arith) c.requires.here).1 in
-    omega (arith, ends_rise s.reading a v.arrays b (s.look - 1) d (omega arith) (omega (arith, inside)), last_read s.reading a.blocks.now (s.look - 1) d (omega (arith, inside)), c.if-blocks-self.true)
+    omega (
+      arith,
+      ends_rise s.reading a v.arrays b (s.look - 1) d (omega arith) (omega (arith, inside)),
+      last_read s.reading a.blocks.now (s.look - 1) d (omega (arith, inside)),
+      c.if-blocks-self.true,
+    )

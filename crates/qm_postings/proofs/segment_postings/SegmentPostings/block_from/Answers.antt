@@ -13,7 +13,12 @@ loop-stride-init c =
       within = omega (arith, first.within);
       positive = omega arith;
       passed = first.passed;
-      reached = λ d. omega (arith, ends_at_end c.args.self.now.reading a c.requires.valid.arrays (length a.blocks.now - 1) d (omega (arith, first.within)) (omega arith), c.requires.target);
+      reached = λ d. omega (
+        arith,
+        ends_at_end c.args.self.now.reading a c.requires.valid.arrays
+            (length a.blocks.now - 1) d (omega (arith, first.within)) (omega arith),
+        c.requires.target,
+      );
     }
 
 pub loop-stride-preserved : goal.loop-stride-preserved
@@ -28,7 +33,8 @@ loop-stride-preserved c =
       ordered = omega (arith, had.positive);
       within = had.within;
       positive = search rules;
-      passed = λ b d from lt. omega (arith, ends_rise s.reading a c.requires.valid.arrays b probe d (omega arith) inside, last_read s.reading a.blocks.now probe d inside);
+      passed = λ b d from lt.
+          omega (arith, ends_rise s.reading a c.requires.valid.arrays b probe d (omega arith) inside, last_read s.reading a.blocks.now probe d inside);
       reached = had.reached;
     }
 
@@ -43,6 +49,7 @@ loop-low-preserved-then-blocks-middle c =
       from = omega (arith, had.from);
       ordered = omega arith;
       within = had.within;
-      passed = λ b d from lt. omega (arith, ends_rise s.reading a c.requires.valid.arrays b middle d (omega arith) inside, last_read s.reading a.blocks.now middle d inside);
+      passed = λ b d from lt.
+          omega (arith, ends_rise s.reading a c.requires.valid.arrays b middle d (omega arith) inside, last_read s.reading a.blocks.now middle d inside);
       reached = had.reached;
     }

@@ -21,9 +21,15 @@ passed_blocks s t b h within ends k up before inside =
     let bl = s.arrays.block_len in
     let some = h.arrays.block_len in
     let own : k < (k / bl + 1) * bl = place_below k (k / bl) bl some (omega arith) in
-    let number : s.cursor / bl ≤ k / bl = elim (cases_lt (k / bl) (s.cursor / bl)) [ inl less ↦ absurd (omega (arith, place_from s.cursor (k / bl) bl less)) | inr more ↦ more ] in
+    let number : s.cursor / bl ≤ k / bl =
+    elim (cases_lt (k / bl) (s.cursor / bl)) [ inl less ↦ absurd (omega (arith, place_from s.cursor (k / bl) bl less)) | inr more ↦ more ] in
     let earlier : k / bl < b = elim (cases_lt (k / bl) b) [ inl less ↦ less | inr more ↦ absurd (omega (arith, block_up bl more)) ] in
-    omega (arith, ends (k / bl) no_block number earlier, block_last s.reading s.arrays h.arrays (k / bl) no_block (omega arith), end_reaches bl s.arrays.documents.now h.arrays.documents some (k / bl) k inside own)
+    omega (
+      arith,
+      ends (k / bl) no_block number earlier,
+      block_last s.reading s.arrays h.arrays (k / bl) no_block (omega arith),
+      end_reaches bl s.arrays.documents.now h.arrays.documents some (k / bl) k inside own,
+    )
   where
     block_up : (bl : ℕ) → b ≤ k / bl → b * bl ≤ k
     block_up bl le =
@@ -34,10 +40,15 @@ pub overflow_mul-block : goal.overflow_mul-block
 overflow_mul-block c =
     let s = c.args.self.now in
     let first = c.block_from-block.ensures in
-    omega (arith, ends_behind s c.block_from-block.result c.requires.valid c.requires.here first.from first.within, few 0 s.arrays.documents.now c.requires.valid.arrays.documents)
+    omega (
+      arith,
+      ends_behind s c.block_from-block.result c.requires.valid c.requires.here first.from first.within,
+      few 0 s.arrays.documents.now c.requires.valid.arrays.documents,
+    )
 
 pub offset_bounds-blocks-block : goal.offset_bounds-blocks-block
-offset_bounds-blocks-block c = omega (arith, c.block_from-block.ensures.within, blocks_small c.args.self.now.reading c.args.self.now.arrays c.requires.valid.arrays)
+offset_bounds-blocks-block c =
+    omega (arith, c.block_from-block.ensures.within, blocks_small c.args.self.now.reading c.args.self.now.arrays c.requires.valid.arrays)
 
 pub returns-clause-entries : goal.returns-clause-entries
 returns-clause-entries c =
@@ -88,7 +99,13 @@ pub returns-clause-within : goal.returns-clause-within
 returns-clause-within c =
     let s = c.args.self.now in
     let first = c.block_from-block.ensures in
-    omega (arith, c.end_of-end.ensures, ends_behind s c.block_from-block.result c.requires.valid c.requires.here first.from first.within, more_block c.block_from-block.result s.arrays.block_len, c.requires.valid.arrays.block_len)
+    omega (
+      arith,
+      c.end_of-end.ensures,
+      ends_behind s c.block_from-block.result c.requires.valid c.requires.here first.from first.within,
+      more_block c.block_from-block.result s.arrays.block_len,
+      c.requires.valid.arrays.block_len,
+    )
 
 pub returns-clause-reached : goal.returns-clause-reached
 returns-clause-reached c =

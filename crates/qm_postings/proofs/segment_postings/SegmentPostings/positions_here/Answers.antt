@@ -15,7 +15,8 @@ inside : (s : SegmentPostings) → IsPostings s → head_document (postings_left
 inside s valid here = within s.cursor (stored s.reading s.arrays) s.arrays.documents.now (named s) valid.place here
 
 -- the positions of the posting that the cursor stands on are there
-end_inside : (s : SegmentPostings) (start : ℕ) → IsPostings s → head_document (postings_left s) < TERMINATED → 0 < length s.arrays.positions.now → start ≡ sum (take s.cursor s.arrays.frequencies.now) →
+end_inside : (s : SegmentPostings) (start : ℕ) → IsPostings s → head_document (postings_left s) < TERMINATED →
+    0 < length s.arrays.positions.now → start ≡ sum (take s.cursor s.arrays.frequencies.now) →
     start + get_or s.arrays.frequencies.now s.cursor 0 ≤ length s.arrays.positions.now
 end_inside s start valid here some is =
     omega (arith, is, valid.arrays.enough some, sum-past s.cursor s.arrays.frequencies.now (omega (arith, inside s valid here, valid.arrays.frequencies)))
@@ -55,13 +56,18 @@ bounds-arrays-self c =
     omega (arith, inside s c.requires.valid c.requires.here, c.requires.valid.arrays.frequencies)
 
 pub overflow_add-end : goal.overflow_add-end
-overflow_add-end c = omega (arith, end_inside c.args.self.now c.positions_start-start.result c.requires.valid c.requires.here (search rules) c.positions_start-start.ensures, c.fits-self)
+overflow_add-end c = omega (
+  arith,
+  end_inside c.args.self.now c.positions_start-start.result c.requires.valid c.requires.here (search rules) c.positions_start-start.ensures,
+  c.fits-self,
+)
 
 pub slice_bounds-result-count : goal.slice_bounds-result-count
 slice_bounds-result-count c = omega arith
 
 pub slice_bounds-result-end : goal.slice_bounds-result-end
-slice_bounds-result-end c = end_inside c.args.self.now c.positions_start-start.result c.requires.valid c.requires.here (search rules) c.positions_start-start.ensures
+slice_bounds-result-end c =
+    end_inside c.args.self.now c.positions_start-start.result c.requires.valid c.requires.here (search rules) c.positions_start-start.ensures
 
 pub returns-clause-positions : goal.returns-clause-positions
 returns-clause-positions c =
@@ -83,4 +89,14 @@ returns-clause-limits c = refl
 pub returns-clause-valid : goal.returns-clause-valid
 returns-clause-valid c =
     let valid = c.requires.valid in
-    record { arrays = valid.arrays; place = valid.place; mark = omega arith; mark_start = λ _. c.positions_start-start.ensures; block = valid.block; block_end = valid.block_end; last_doc = valid.last_doc; look_from = valid.look_from; look = valid.look }
+    record {
+      arrays = valid.arrays;
+      place = valid.place;
+      mark = omega arith;
+      mark_start = λ _. c.positions_start-start.ensures;
+      block = valid.block;
+      block_end = valid.block_end;
+      last_doc = valid.last_doc;
+      look_from = valid.look_from;
+      look = valid.look;
+    }

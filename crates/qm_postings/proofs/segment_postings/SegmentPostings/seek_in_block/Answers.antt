@@ -13,7 +13,8 @@ use Rattle.qm_postings.proofs.PostingsLeft.{named}
 use Rattle.qm_postings.proofs.segment_postings.SegmentPostings.seek_in_block.Goals as goal
 
 -- a place up to which all documents of the block are below the target is in the block, unless it is the last
-module _ (s : SegmentPostings) (h : IsPostings s) (t place : ℕ) (start : s.cursor < s.block_end) (reached : t ≤ s.last_doc) (from : s.cursor ≤ place) (within : place ≤ length (take s.block_end s.arrays.documents.now))
+module _ (s : SegmentPostings) (h : IsPostings s) (t place : ℕ) (start : s.cursor < s.block_end) (reached : t ≤ s.last_doc)
+    (from : s.cursor ≤ place) (within : place ≤ length (take s.block_end s.arrays.documents.now))
     (passed : (k : ℕ) → s.cursor ≤ k → k < place → get_or (take s.block_end s.arrays.documents.now) k 0 < t) where
   up_to : length (take s.block_end s.arrays.documents.now) ≡ s.block_end
   up_to = length-take-le s.block_end s.arrays.documents.now (h.block_end.1)
@@ -41,7 +42,8 @@ doc-requires-clause-valid c =
     let s = c.args.self.now in
     let r = c.requires in
     let found = c.gallop-place.ensures in
-    stands_valid s r.valid c.gallop-place.result found.from_start r.within (omega (arith, found.within, length-take-le s.block_end s.arrays.documents.now (r.valid.block_end.1)))
+    stands_valid s r.valid c.gallop-place.result found.from_start r.within
+    (omega (arith, found.within, length-take-le s.block_end s.arrays.documents.now (r.valid.block_end.1)))
     (inside s r.valid c.args.target c.gallop-place.result r.within r.reached found.from_start found.within found.passed)
 
 pub returns-clause-entries : goal.returns-clause-entries
@@ -53,7 +55,8 @@ returns-clause-entries c =
     let place = c.gallop-place.result in
     let long = length-take-le s.block_end a.documents.now (r.valid.block_end.1) in
     let entries = AreEntries-stored s.reading a.max_term_freq a.documents.now a.frequencies.now a.positions.now r.valid.arrays.documents r.valid.arrays.room in
-    left_from c.args.target s.cursor place (postings_limits s) (stored s.reading a) a.documents.now (named s) entries found.from_start (omega (arith, found.within, long, r.valid.block_end))
+    left_from c.args.target s.cursor place (postings_limits s) (stored s.reading a) a.documents.now
+    (named s) entries found.from_start (omega (arith, found.within, long, r.valid.block_end))
     (below s r.valid c.args.target place r.within r.reached found.from_start found.within found.passed)
     (λ more.
     let here = inside s r.valid c.args.target place r.within r.reached found.from_start found.within found.passed more in
@@ -64,7 +67,8 @@ returns-clause-valid c =
     let s = c.args.self.now in
     let r = c.requires in
     let found = c.gallop-place.ensures in
-    stands_valid s r.valid c.gallop-place.result found.from_start r.within (omega (arith, found.within, length-take-le s.block_end s.arrays.documents.now (r.valid.block_end.1)))
+    stands_valid s r.valid c.gallop-place.result found.from_start r.within
+    (omega (arith, found.within, length-take-le s.block_end s.arrays.documents.now (r.valid.block_end.1)))
     (inside s r.valid c.args.target c.gallop-place.result r.within r.reached found.from_start found.within found.passed)
 
 pub returns-clause-looked : goal.returns-clause-looked
@@ -72,5 +76,6 @@ returns-clause-looked c =
     let s = c.args.self.now in
     let r = c.requires in
     let found = c.gallop-place.ensures in
-    stands_looking s r.valid c.gallop-place.result found.from_start r.within (omega (arith, found.within, length-take-le s.block_end s.arrays.documents.now (r.valid.block_end.1)))
+    stands_looking s r.valid c.gallop-place.result found.from_start r.within
+    (omega (arith, found.within, length-take-le s.block_end s.arrays.documents.now (r.valid.block_end.1)))
     (inside s r.valid c.args.target c.gallop-place.result r.within r.reached found.from_start found.within found.passed)

@@ -7,4 +7,5 @@ use Rattle.qm_query.proofs.boolean_query.BooleanQuery.union_with_minimum_require
 pub returns-clause-ok : goal.returns-clause-ok
 returns-clause-ok c =
     let minimum = c.args.minimum_number_should_match in
-    c.with_minimum_required_clauses.ensures ∙ ap (λ l. boolean minimum (subqueries (map clause_of l))) c.in_ok-should.ensures.ok ∙ ap (λ l. boolean minimum (subqueries l)) (clauses_each Should c.args.queries.items)
+    c.with_minimum_required_clauses.ensures ∙ ap (λ l. boolean minimum (subqueries (map clause_of l))) c.in_ok-should.ensures.ok
+    ∙ ap (λ l. boolean minimum (subqueries l)) (clauses_each Should c.args.queries.items)

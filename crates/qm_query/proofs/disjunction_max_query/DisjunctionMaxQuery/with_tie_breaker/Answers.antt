@@ -6,4 +6,5 @@ use Rattle.qm_query.proofs.disjunction_max_query.DisjunctionMaxQuery.with_tie_br
 pub returns-clause-ok : goal.returns-clause-ok
 returns-clause-ok c =
     let combiner = c.in_ok-with_tie_breaker.field-0 in
-    ap (λ t. disjunction_max t (disjuncts_of c.args.disjuncts.items)) (same_tie_breaker combiner.tie_breaker c.args.tie_breaker c.in_ok-with_tie_breaker.ensures.combines)
+    ap (λ t. disjunction_max t (disjuncts_of c.args.disjuncts.items))
+    (same_tie_breaker combiner.tie_breaker c.args.tie_breaker c.in_ok-with_tie_breaker.ensures.combines)

@@ -3,4 +3,5 @@ use Rattle.qm_query.specs.ScoringTrees.{scores-made}
 use Rattle.qm_query.proofs.disjunction_max_query.DisjunctionMaxQueryQuery.weight.Goals as goal
 
 pub returns-clause-scoring : goal.returns-clause-scoring
-returns-clause-scoring g c = scores-made g.P.Bm25StatisticsProvider c.args.enable_scoring (disjunction_max_of c.args.self.now) c.build_weight.result c.build_weight.ensures.tree
+returns-clause-scoring g c =
+    scores-made g.P.Bm25StatisticsProvider c.args.enable_scoring (disjunction_max_of c.args.self.now) c.build_weight.result c.build_weight.ensures.tree

@@ -9,15 +9,18 @@ pub returns-in_err-weight-clause-refused : goal.returns-in_err-weight-clause-ref
 returns-in_err-weight-clause-refused g c =
     let under = c.disabled_from_searcher-enable_scoring in
     let refused : IsCountRefusal searcher_ghosts c.args.searcher.now (g.Self.Query.query c.args.self.now) c.in_err-weight.field-0.0 =
-    count_unweighed searcher_ghosts c.args.searcher.now under.result (g.Self.Query.query c.args.self.now) under.ensures.provider c.in_err-weight.field-0.0 under.ensures.schema c.in_err-weight.ensures.refused in
+    count_unweighed searcher_ghosts c.args.searcher.now under.result
+    (g.Self.Query.query c.args.self.now) under.ensures.provider c.in_err-weight.field-0.0 under.ensures.schema c.in_err-weight.ensures.refused in
     search rules
 
 pub returns-clause-count : goal.returns-clause-count
 returns-clause-count g c =
     let under = c.disabled_from_searcher-enable_scoring in
-    counted searcher_ghosts c.args.searcher.now under.result (g.Self.Query.query c.args.self.now) under.ensures.provider c.count_alive.result (tree_of c.deref.result.now) (ap tree_of c.deref.ensures ∙ c.in_ok-weight.ensures.tree) c.count_alive.ensures.count
+    counted searcher_ghosts c.args.searcher.now under.result (g.Self.Query.query c.args.self.now) under.ensures.provider c.count_alive.result
+    (tree_of c.deref.result.now) (ap tree_of c.deref.ensures ∙ c.in_ok-weight.ensures.tree) c.count_alive.ensures.count
 
 pub returns-clause-refused : goal.returns-clause-refused
 returns-clause-refused g c =
     let under = c.disabled_from_searcher-enable_scoring in
-    count_refused searcher_ghosts c.args.searcher.now under.result (g.Self.Query.query c.args.self.now) under.ensures.provider c.count_alive.result (tree_of c.deref.result.now) (ap tree_of c.deref.ensures ∙ c.in_ok-weight.ensures.tree) c.count_alive.ensures.refused
+    count_refused searcher_ghosts c.args.searcher.now under.result (g.Self.Query.query c.args.self.now) under.ensures.provider c.count_alive.result
+    (tree_of c.deref.result.now) (ap tree_of c.deref.ensures ∙ c.in_ok-weight.ensures.tree) c.count_alive.ensures.refused

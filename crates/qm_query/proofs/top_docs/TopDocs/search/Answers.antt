@@ -9,14 +9,18 @@ pub returns-in_err-weight-clause-refused : goal.returns-in_err-weight-clause-ref
 returns-in_err-weight-clause-refused g c =
     let under = c.enabled_from_searcher in
     let refused : IsTopDocsRefusal searcher_ghosts c.args.searcher.now (g.Q.Query.query c.args.query.now) c.in_err-weight.field-0.0 =
-    best_unweighed searcher_ghosts c.args.searcher.now under.result (g.Q.Query.query c.args.query.now) under.ensures.provider c.in_err-weight.field-0.0 under.ensures.schema c.in_err-weight.ensures.refused in
+    best_unweighed searcher_ghosts c.args.searcher.now under.result
+    (g.Q.Query.query c.args.query.now) under.ensures.provider c.in_err-weight.field-0.0 under.ensures.schema c.in_err-weight.ensures.refused in
     search rules
 
 pub returns-clause-best : goal.returns-clause-best
 returns-clause-best g c =
-    let best = found_best searcher_ghosts c.args.searcher.now c.enabled_from_searcher.result (g.Q.Query.query c.args.query.now) c.enabled_from_searcher.ensures.provider (tree_of c.deref.result.now) (ap tree_of c.deref.ensures ∙ c.in_ok-weight.ensures.tree) (λ v. v.items) _ c.best_alive.result c.best_alive.ensures.best in
+    let best = found_best searcher_ghosts c.args.searcher.now c.enabled_from_searcher.result
+    (g.Q.Query.query c.args.query.now) c.enabled_from_searcher.ensures.provider (tree_of c.deref.result.now)
+    (ap tree_of c.deref.ensures ∙ c.in_ok-weight.ensures.tree) (λ v. v.items) _ c.best_alive.result c.best_alive.ensures.best in
     search rules
 
 pub returns-clause-refused : goal.returns-clause-refused
 returns-clause-refused g c =
-    best_refused searcher_ghosts c.args.searcher.now c.enabled_from_searcher.result (g.Q.Query.query c.args.query.now) c.enabled_from_searcher.ensures.provider (tree_of c.deref.result.now) (ap tree_of c.deref.ensures ∙ c.in_ok-weight.ensures.tree) c.best_alive.result c.best_alive.ensures.refused
+    best_refused searcher_ghosts c.args.searcher.now c.enabled_from_searcher.result (g.Q.Query.query c.args.query.now) c.enabled_from_searcher.ensures.provider
+    (tree_of c.deref.result.now) (ap tree_of c.deref.ensures ∙ c.in_ok-weight.ensures.tree) c.best_alive.result c.best_alive.ensures.refused

@@ -16,7 +16,8 @@ returns-then-lt-clause-best c =
     let full : heap_len c.args.documents.now ≡ length items = search rules in
     let less : is_lt (worst_last c.args.document worst) ≡ true = search rules in
     let top = All-from_recursion (λ y. is_lt (worst_last worst y) ≡ false) items (c.in-Some.ensures.greatest c.requires.heap) in
-    let best = ranking-replaced worst_last worst_last-total worst_last-same (heap_len c.args.documents.now) c.args.document worst items _ _ full c.in-Some.ensures.permutation (c.drop-worst.ensures.permutation (search rules)) top less in
+    let best = ranking-replaced worst_last worst_last-total worst_last-same (heap_len c.args.documents.now) c.args.document
+    worst items _ _ full c.in-Some.ensures.permutation (c.drop-worst.ensures.permutation (search rules)) top less in
     search rules
 
 pub returns-in-Some-clause-best : goal.returns-in-Some-clause-best

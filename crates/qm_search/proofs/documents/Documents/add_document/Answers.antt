@@ -25,10 +25,12 @@ invariant_of-self-2 c =
     ∙ ap (λ b. segment_of taken.schema (drop b c.reserve.new.self.items)) (sym c.take_builder.ensures.built)
     ∙ ap (λ v. segment_of taken.schema (drop taken.built v.items)) (sym c.take_builder.ensures.texts) in
     let grown : c.add_text-added.new.builder ≡ segment_of taken.schema (drop taken.built c.push.new.self.items) =
-    c.in_ok-added.ensures.added ∙ ap (λ b. with_text b c.as_str.result.now) builder ∙ ap (with_text (segment_of taken.schema (drop taken.built texts))) c.as_str.ensures.value
+    c.in_ok-added.ensures.added ∙ ap (λ b. with_text b c.as_str.result.now) builder
+    ∙ ap (with_text (segment_of taken.schema (drop taken.built texts))) c.as_str.ensures.value
     ∙ sym (segment_of-push taken.schema (drop taken.built texts) text)
     ∙ ap (segment_of taken.schema) (sym (ap (drop taken.built) pushed ∙ drop-append-le taken.built texts (text ∷ []) built)) in
-    let good : IsGood taken.schema (text_draft (string_bytes text)) = subst (λ t. IsGood taken.schema (text_draft t)) c.as_str.ensures.value (subst (λ s. IsGood s.schema (text_draft c.as_str.result.now)) builder c.in_ok-added.ensures.good) in
+    let good : IsGood taken.schema (text_draft (string_bytes text)) = subst (λ t. IsGood taken.schema (text_draft t)) c.as_str.ensures.value
+    (subst (λ s. IsGood s.schema (text_draft c.as_str.result.now)) builder c.in_ok-added.ensures.good) in
     record {
       fields = taken.fields;
       within = taken.within;
@@ -38,7 +40,8 @@ invariant_of-self-2 c =
       parts = taken.parts ∙ sym (ap (segment_of taken.schema) (ap (take taken.built) pushed ∙ take-append-le taken.built texts (text ∷ []) built));
       counted = taken.counted;
       building = λ x h. let one : c.add_text-added.new.builder ≡ x = cc in sym one ∙ grown;
-      good = subst (λ ts. All (λ t. ¬ IsBadText taken.schema (string_bytes t)) ts) (sym pushed) (All-push (λ t. ¬ IsBadText taken.schema (string_bytes t)) texts text taken.good (λ bad. bad good));
+      good = subst (λ ts. All (λ t. ¬ IsBadText taken.schema (string_bytes t)) ts) (sym pushed)
+          (All-push (λ t. ¬ IsBadText taken.schema (string_bytes t)) texts text taken.good (λ bad. bad good));
     }
 
 pub returns-in_err-added-clause-refused : goal.returns-in_err-added-clause-refused
@@ -48,8 +51,17 @@ returns-in_err-added-clause-refused c =
     let current : Segment = segment_of documents.schema documents.texts.items in
     let rest = drop documents.built c.reserve.new.self.items in
     let builder : c.in_ok-builder.builder ≡ segment_of documents.schema rest = c.in_ok-builder.ensures.builder in
-    let many : length c.in_ok-builder.builder.documents ≡ length rest = ap (λ s. length s.documents) builder ∙ length-map rest (λ t. text_document documents.schema (string_bytes t)) in
-    let few : length c.in_ok-builder.builder.documents < TERMINATED = omega (arith, many, length-drop documents.built c.reserve.new.self.items, ap length c.reserve.ensures.items, documents.texts.ok.0, c.len.ensures, c.if-len.false) in
+    let many : length c.in_ok-builder.builder.documents ≡ length rest = ap (λ s. length s.documents) builder
+    ∙ length-map rest (λ t. text_document documents.schema (string_bytes t)) in
+    let few : length c.in_ok-builder.builder.documents < TERMINATED = omega (
+      arith,
+      many,
+      length-drop documents.built c.reserve.new.self.items,
+      ap length c.reserve.ensures.items,
+      documents.texts.ok.0,
+      c.len.ensures,
+      c.if-len.false,
+    ) in
     let why = subst (λ bytes. (e ≡ Memory) ⊎ IsTextRefusal c.in_ok-builder.builder bytes e) c.as_str.ensures.value c.in_err-added.ensures.refused in
     let p = err_from_is_err_and c.from_residual-in_err-added.result c.from_residual-in_err-added.ensures.1 in
     rw (p.1, p.2) (same_refusal e c.in_ok-builder.builder current (string_bytes c.args.text) few (ap (λ s. s.schema) builder) why)

@@ -23,10 +23,13 @@ invariant_of-self-2 c =
     ∙ ap (λ b. segment_of taken.schema (drop b c.args.self.now.texts.items)) (sym c.take_builder.ensures.built)
     ∙ ap (λ v. segment_of taken.schema (drop taken.built v.items)) (sym c.take_builder.ensures.texts) in
     let all : length texts ≤ len = omega (arith, c.len-self.ensures, taken.texts.ok.0) in
-    let more = AreParts-push taken.schema texts taken.built len (drop taken.ended readers) part all (parts-from taken.schema texts taken.built (drop taken.ended readers) taken.schemas taken.parts) is in
-    let behind : drop taken.ended c.push.new.self.items ≡ drop taken.ended readers ++ part ∷ [] = ap (drop taken.ended) pushed ∙ drop-append-le taken.ended readers (part ∷ []) ended in
+    let more = AreParts-push taken.schema texts taken.built len (drop taken.ended readers) part all
+    (parts-from taken.schema texts taken.built (drop taken.ended readers) taken.schemas taken.parts) is in
+    let behind : drop taken.ended c.push.new.self.items ≡ drop taken.ended readers ++ part ∷ [] = ap (drop taken.ended) pushed
+    ∙ drop-append-le taken.ended readers (part ∷ []) ended in
     let are = subst (λ rs. AreParts (segment_of taken.schema (take len texts)) (segments_of rs)) (sym behind) more in
-    let front : take taken.ended c.push.new.self.items ≡ take taken.ended readers = ap (take taken.ended) pushed ∙ take-append-le taken.ended readers (part ∷ []) ended in
+    let front : take taken.ended c.push.new.self.items ≡ take taken.ended readers = ap (take taken.ended) pushed
+    ∙ take-append-le taken.ended readers (part ∷ []) ended in
     record {
       fields = taken.fields;
       within = omega (arith, taken.within, longer);

@@ -16,8 +16,10 @@ overflow_sub-self c =
     let whole : last + 1 ≡ length readers = omega (arith, c.len-last.ensures, self.segments.ok.0, c.requires) in
     let below : self.ended ≤ last = omega (arith, c.len-last.ensures, c.requires) in
     let cut = row-back readers last self.ended item whole below ∙ ap (λ r. drop self.ended (take last readers) ++ r ∷ []) (sym c.index.ensures) in
-    let are = subst (λ rs. AreParts (segment_of self.schema (take self.built self.texts.items)) (segments_of rs)) cut (parts-from self.schema self.texts.items self.built (drop self.ended readers) self.schemas self.parts) in
-    let sum = built-back self.schema self.texts.items self.built (drop self.ended (take last readers)) item (omega (arith, self.some_built, self.texts.ok.0)) are in
+    let are = subst (λ rs. AreParts (segment_of self.schema (take self.built self.texts.items)) (segments_of rs)) cut
+    (parts-from self.schema self.texts.items self.built (drop self.ended readers) self.schemas self.parts) in
+    let sum =
+    built-back self.schema self.texts.items self.built (drop self.ended (take last readers)) item (omega (arith, self.some_built, self.texts.ok.0)) are in
     omega (arith, c.max_doc-len.ensures.number)
 
 pub invariant_of-self : goal.invariant_of-self
@@ -30,10 +32,14 @@ invariant_of-self c =
     let whole : last + 1 ≡ length readers = omega (arith, c.len-last.ensures, self.segments.ok.0, c.requires) in
     let below : self.ended ≤ last = omega (arith, c.len-last.ensures, c.requires) in
     let cut = row-back readers last self.ended item whole below ∙ ap (λ r. drop self.ended (take last readers) ++ r ∷ []) (sym c.index.ensures) in
-    let are = subst (λ rs. AreParts (segment_of self.schema (take self.built self.texts.items)) (segments_of rs)) cut (parts-from self.schema self.texts.items self.built (drop self.ended readers) self.schemas self.parts) in
-    let back = AreParts-back self.schema self.texts.items self.built len (drop self.ended (take last readers)) item (omega (arith, self.some_built, self.texts.ok.0)) c.max_doc-len.ensures.number are in
-    let left = subst (λ rs. AreParts (segment_of self.schema (take (self.built - len) self.texts.items)) (segments_of (drop self.ended rs))) (sym c.truncate.ensures.items) back in
-    let front : take self.ended c.truncate.new.self.items ≡ take self.ended readers = ap (take self.ended) c.truncate.ensures.items ∙ take-take self.ended last readers below in
+    let are = subst (λ rs. AreParts (segment_of self.schema (take self.built self.texts.items)) (segments_of rs)) cut
+    (parts-from self.schema self.texts.items self.built (drop self.ended readers) self.schemas self.parts) in
+    let back = AreParts-back self.schema self.texts.items self.built len (drop self.ended (take last readers)) item
+    (omega (arith, self.some_built, self.texts.ok.0)) c.max_doc-len.ensures.number are in
+    let left = subst (λ rs. AreParts (segment_of self.schema (take (self.built - len) self.texts.items)) (segments_of (drop self.ended rs)))
+    (sym c.truncate.ensures.items) back in
+    let front : take self.ended c.truncate.new.self.items ≡ take self.ended readers = ap (take self.ended) c.truncate.ensures.items
+    ∙ take-take self.ended last readers below in
     record {
       fields = self.fields;
       within = omega (arith, c.truncate.ensures.len, c.len-last.ensures, c.requires);

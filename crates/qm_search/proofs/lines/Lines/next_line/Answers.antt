@@ -4,7 +4,8 @@ use Rattle.std.specs.Io.KnownBytes.{prepend_known}
 use Rattle.std.proofs.lemmas.Option.{IfSome_then}
 use Rattle.qm_search.specs.Lines.{pending, unread, TakesPiece}
 use Rattle.qm_search.specs.declared.lines.Lines.{Lines}
-use Rattle.qm_search.proofs.LineBytes.{has_break-append, carried-on, carried-end, carried-break, carried-none, slice_range-empty, IsLine, IsLastLine, pending_of}
+use Rattle.qm_search.proofs.LineBytes.{has_break-append, carried-on, carried-end, carried-break, carried-none, slice_range-empty, IsLine, IsLastLine}
+use Rattle.qm_search.proofs.LineBytes.{pending_of}
 use Rattle.qm_search.proofs.lines.Lines.next_line.Goals as goal
 
 -- after the end of the input nothing is unread
@@ -30,32 +31,46 @@ returns-then-not-branch-clause-left g c =
     let over = pending-ended c.fill.new.self (g.R.Read.remaining c.fill.new.input) ended in
     let carried = rw over at (carried-on _ _ _ c.loop.line.items c.loop.invariant.carried c.in_ok-fill.ensures.left) in
     let last = carried-end _ c.loop.line.items c.loop.invariant.unbroken carried in
-    IfSome_then _ {P = IsLastLine c.loop.line.items} {Q = λ bytes. pending c.fill.new.self (g.R.Read.remaining c.fill.new.input) ≡ Some (drop_through 10 bytes)} last (λ bytes is. over ∙ is.1)
+    IfSome_then _ {P = IsLastLine c.loop.line.items}
+    {Q = λ bytes. pending c.fill.new.self (g.R.Read.remaining c.fill.new.input) ≡ Some (drop_through 10 bytes)} last (λ bytes is. over ∙ is.1)
 
 pub returns-then-branch-clause-answer : goal.returns-then-branch-clause-answer
 returns-then-branch-clause-answer g c =
-    let piece : TakesPiece true (unread c.fill.new.self) (unread c.take_piece.new.self) c.loop.line.items c.take_piece.new.line.items = rw c.if-branch.true at c.in_ok-take_piece.ensures.piece in
+    let piece : TakesPiece true (unread c.fill.new.self) (unread c.take_piece.new.self) c.loop.line.items c.take_piece.new.line.items =
+    rw c.if-branch.true at c.in_ok-take_piece.ensures.piece in
     let carried = carried-on _ _ _ c.loop.line.items c.loop.invariant.carried c.in_ok-fill.ensures.left in
-    let found = carried-break _ c.fill.new.self.ended _ c.loop.line.items (unread c.fill.new.self) piece.0 (unread c.take_piece.new.self) (unread-ended c.fill.new.self) c.loop.invariant.unbroken piece.1 piece.2 carried in
-    IfSome_then _ {P = IsLine (c.loop.line.items ++ piece.0) (pending_of c.fill.new.self.ended (unread c.take_piece.new.self) (g.R.Read.remaining c.fill.new.input))} {Q = λ bytes. (true ≡ true) ↔ (0 < length bytes)} found (λ bytes is. (λ _. is.0, λ _. refl))
+    let found = carried-break _ c.fill.new.self.ended _ c.loop.line.items (unread c.fill.new.self) piece.0
+    (unread c.take_piece.new.self) (unread-ended c.fill.new.self) c.loop.invariant.unbroken piece.1 piece.2 carried in
+    IfSome_then _ {P = IsLine (c.loop.line.items ++ piece.0) (pending_of c.fill.new.self.ended (unread c.take_piece.new.self)
+    (g.R.Read.remaining c.fill.new.input))} {Q = λ bytes. (true ≡ true) ↔ (0 < length bytes)} found (λ bytes is. (λ _. is.0, λ _. refl))
 
 pub returns-then-branch-clause-line : goal.returns-then-branch-clause-line
 returns-then-branch-clause-line g c =
-    let piece : TakesPiece true (unread c.fill.new.self) (unread c.take_piece.new.self) c.loop.line.items c.take_piece.new.line.items = rw c.if-branch.true at c.in_ok-take_piece.ensures.piece in
+    let piece : TakesPiece true (unread c.fill.new.self) (unread c.take_piece.new.self) c.loop.line.items c.take_piece.new.line.items =
+    rw c.if-branch.true at c.in_ok-take_piece.ensures.piece in
     let carried = carried-on _ _ _ c.loop.line.items c.loop.invariant.carried c.in_ok-fill.ensures.left in
-    let found = carried-break _ c.fill.new.self.ended _ c.loop.line.items (unread c.fill.new.self) piece.0 (unread c.take_piece.new.self) (unread-ended c.fill.new.self) c.loop.invariant.unbroken piece.1 piece.2 carried in
-    IfSome_then _ {P = IsLine (c.loop.line.items ++ piece.0) (pending_of c.fill.new.self.ended (unread c.take_piece.new.self) (g.R.Read.remaining c.fill.new.input))} {Q = λ bytes. c.drop_carriage_return.new.line.items ≡ first_line bytes} found (λ bytes is. c.drop_carriage_return.ensures ∙ ap (strip_last 13) piece.3 ∙ is.1)
+    let found = carried-break _ c.fill.new.self.ended _ c.loop.line.items (unread c.fill.new.self) piece.0
+    (unread c.take_piece.new.self) (unread-ended c.fill.new.self) c.loop.invariant.unbroken piece.1 piece.2 carried in
+    IfSome_then _ {P = IsLine (c.loop.line.items ++ piece.0)
+    (pending_of c.fill.new.self.ended (unread c.take_piece.new.self) (g.R.Read.remaining c.fill.new.input))} {Q = λ bytes.
+    c.drop_carriage_return.new.line.items ≡ first_line bytes} found (λ bytes is. c.drop_carriage_return.ensures ∙ ap (strip_last 13) piece.3 ∙ is.1)
 
 pub returns-then-branch-clause-left : goal.returns-then-branch-clause-left
 returns-then-branch-clause-left g c =
-    let piece : TakesPiece true (unread c.fill.new.self) (unread c.take_piece.new.self) c.loop.line.items c.take_piece.new.line.items = rw c.if-branch.true at c.in_ok-take_piece.ensures.piece in
+    let piece : TakesPiece true (unread c.fill.new.self) (unread c.take_piece.new.self) c.loop.line.items c.take_piece.new.line.items =
+    rw c.if-branch.true at c.in_ok-take_piece.ensures.piece in
     let carried = carried-on _ _ _ c.loop.line.items c.loop.invariant.carried c.in_ok-fill.ensures.left in
-    let found = carried-break _ c.fill.new.self.ended _ c.loop.line.items (unread c.fill.new.self) piece.0 (unread c.take_piece.new.self) (unread-ended c.fill.new.self) c.loop.invariant.unbroken piece.1 piece.2 carried in
-    IfSome_then _ {P = IsLine (c.loop.line.items ++ piece.0) (pending_of c.fill.new.self.ended (unread c.take_piece.new.self) (g.R.Read.remaining c.fill.new.input))} {Q = λ bytes. pending c.take_piece.new.self (g.R.Read.remaining c.fill.new.input) ≡ Some (drop_through 10 bytes)} found (λ bytes is. ap (λ b. if b then Some [] else prepend_known (unread c.take_piece.new.self) (g.R.Read.remaining c.fill.new.input)) c.in_ok-take_piece.ensures.ended ∙ is.2)
+    let found = carried-break _ c.fill.new.self.ended _ c.loop.line.items (unread c.fill.new.self) piece.0
+    (unread c.take_piece.new.self) (unread-ended c.fill.new.self) c.loop.invariant.unbroken piece.1 piece.2 carried in
+    IfSome_then _
+    {P = IsLine (c.loop.line.items ++ piece.0) (pending_of c.fill.new.self.ended (unread c.take_piece.new.self) (g.R.Read.remaining c.fill.new.input))}
+    {Q = λ bytes. pending c.take_piece.new.self (g.R.Read.remaining c.fill.new.input) ≡ Some (drop_through 10 bytes)} found (λ bytes is. ap (λ b.
+    if b then Some [] else prepend_known (unread c.take_piece.new.self) (g.R.Read.remaining c.fill.new.input)) c.in_ok-take_piece.ensures.ended ∙ is.2)
 
 pub loop-preserved : goal.loop-preserved
 loop-preserved g c =
-    let piece : TakesPiece false (unread c.fill.new.self) (unread c.take_piece.new.self) c.loop.line.items c.take_piece.new.line.items = rw c.if-branch.false at c.in_ok-take_piece.ensures.piece in
+    let piece : TakesPiece false (unread c.fill.new.self) (unread c.take_piece.new.self) c.loop.line.items c.take_piece.new.line.items =
+    rw c.if-branch.false at c.in_ok-take_piece.ensures.piece in
     let carried = carried-on _ _ _ c.loop.line.items c.loop.invariant.carried c.in_ok-fill.ensures.left in
     let on = carried-none _ c.fill.new.self.ended _ c.loop.line.items (unread c.fill.new.self) (unread-ended c.fill.new.self) carried in
     record {

@@ -5,5 +5,6 @@ use Rattle.qm_search.proofs.lines.Lines.next_line.Given as goal
 abbrev pub invariant-loop : goal.invariant-loop
 invariant-loop g l = record {
   unbroken : has_break l.line.items ≡ false;
-  carried : IfSome (pending l.fn.self (g.R.Read.remaining l.fn.input)) (λ bytes. (rest : List ℕ) × (pending l.self (g.R.Read.remaining l.input) ≡ Some rest) × (bytes ≡ l.line.items ++ rest));
+  carried : IfSome (pending l.fn.self (g.R.Read.remaining l.fn.input))
+      (λ bytes. (rest : List ℕ) × (pending l.self (g.R.Read.remaining l.input) ≡ Some rest) × (bytes ≡ l.line.items ++ rest));
 }

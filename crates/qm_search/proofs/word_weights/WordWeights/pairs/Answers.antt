@@ -19,7 +19,8 @@ loop-term-preserved c =
           ∙ ap (λ es. es ++ weighed (c.in_ok-clone.field-0, c.score.result) ∷ []) c.loop-term.invariant.so_far
           ∙ ap (λ t. map weight_pair seen ++ (t, nat_abs c.score.result) ∷ []) c.in_ok-clone.ensures.ok
           ∙ ap (λ s. map weight_pair seen ++ (c.in-Some.term.now, nat_abs s) ∷ []) c.score.ensures.value
-          ∙ sym (ap (map weight_pair) (map-append deref_pair c.loop-term.yielded ((c.in-Some.term, c.in-Some.weight) ∷ [])) ∙ map-append weight_pair seen (deref_pair (c.in-Some.term, c.in-Some.weight) ∷ []));
+          ∙ sym (ap (map weight_pair) (map-append deref_pair c.loop-term.yielded ((c.in-Some.term, c.in-Some.weight) ∷ []))
+          ∙ map-append weight_pair seen (deref_pair (c.in-Some.term, c.in-Some.weight) ∷ []));
       not_negative = search rules;
     }
 

@@ -11,7 +11,8 @@ loop-at-preserved c =
     let word : Bor (List ℕ) = get_or words c.loop-at.at none in
     let text = c.in_ok-push.ensures.bytes ∙ (λ i. c.in_ok-push_str.ensures.bytes i ++ c.in_ok-push.ensures.ascii (lit< tt) i) in
     ap (λ l. l ++ spaced (drop (c.loop-at.at + 1) (map (λ t. t.now) words))) text
-    ∙ spaced-more (λ t. t.now) words c.loop-at.at word none (string_bytes c.loop-at.text) (spaced (words_left c.args.self.now)) c.loop-at-test.true refl c.loop-at.invariant
+    ∙ spaced-more (λ t. t.now) words c.loop-at.at word none (string_bytes c.loop-at.text)
+    (spaced (words_left c.args.self.now)) c.loop-at-test.true refl c.loop-at.invariant
 
 pub returns-clause-text : goal.returns-clause-text
 returns-clause-text c =

@@ -6,4 +6,5 @@ use Rattle.qm_search.proofs.Reading.{with_front}
 use Rattle.qm_search.proofs.words.Words.texts.Given as goal
 
 abbrev pub invariant-loop : goal.invariant-loop
-invariant-loop l = with_front (texts l.texts.items) (many_at word_at (l.count - l.counter) (words_left l.self)) ≡ many_at word_at l.count (words_left l.initial.self)
+invariant-loop l =
+    with_front (texts l.texts.items) (many_at word_at (l.count - l.counter) (words_left l.self)) ≡ many_at word_at l.count (words_left l.initial.self)

@@ -28,7 +28,8 @@ returns-clause-lists c =
       valid = record {
         postings = postings.valid;
         covered = subst (AreCovered ids) (sym left) (AreCovered-postings segment c.args.option term ids are);
-        bounded = inr (bounded_by_ids segment c.args.option term ids are _ left _ (subst (λ i. HaveLeastIds i.reader.segment term.field (postings_blocks c.in_ok-postings.postings) (postings_left c.in_ok-postings.postings)) c.inverted_index.ensures c.in_ok-postings.ensures.ids));
+        bounded = inr (bounded_by_ids segment c.args.option term ids are _ left _ (subst (λ i. HaveLeastIds i.reader.segment term.field
+            (postings_blocks c.in_ok-postings.postings) (postings_left c.in_ok-postings.postings)) c.inverted_index.ensures c.in_ok-postings.ensures.ids));
       };
       placed = tt;
     }

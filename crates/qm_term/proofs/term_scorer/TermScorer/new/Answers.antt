@@ -4,7 +4,12 @@ use Rattle.qm_term.specs.TermScorer.{scored_blocks}
 use Rattle.qm_term.proofs.term_scorer.TermScorer.new.Goals as goal
 
 pub returns-clause-lists : goal.returns-clause-lists
-returns-clause-lists c = record { entries = refl; limits = refl; valid = record { postings = c.requires.postings; covered = c.requires.covered; bounded = c.requires.bounded }; placed = tt }
+returns-clause-lists c = record {
+  entries = refl;
+  limits = refl;
+  valid = record { postings = c.requires.postings; covered = c.requires.covered; bounded = c.requires.bounded };
+  placed = tt;
+}
 
 pub returns-clause-blocks : goal.returns-clause-blocks
 unfolding scored_blocks

@@ -18,7 +18,8 @@ pub returns-clause-kept : goal.returns-clause-kept
 returns-clause-kept c = λ s. keeps_scoring s c.args.self.now _ refl refl c.seek_block.ensures.kept
 
 pub returns-clause-entries : goal.returns-clause-entries
-returns-clause-entries c = ap (scored_postings (weighing c.args.self.now.similarity_weight) (norm_ids c.args.self.now.fieldnorm_reader)) c.seek_block.ensures.entries
+returns-clause-entries c =
+    ap (scored_postings (weighing c.args.self.now.similarity_weight) (norm_ids c.args.self.now.fieldnorm_reader)) c.seek_block.ensures.entries
 
 pub returns-clause-limits : goal.returns-clause-limits
 returns-clause-limits c = ap (limited (bm25_bound (weighing c.args.self.now.similarity_weight))) c.seek_block.ensures.limits
@@ -27,5 +28,6 @@ pub returns-clause-valid : goal.returns-clause-valid
 returns-clause-valid c = record {
   postings = c.seek_block.ensures.valid;
   covered = subst (AreCovered (norm_ids c.args.self.now.fieldnorm_reader)) (sym c.seek_block.ensures.entries) c.requires.valid.covered;
-  bounded = bounded_after c.args.self.now.fieldnorm_reader _ _ _ _ (c.seek_block.ensures.kept c.args.self.now.postings (ReadsAs-self c.args.self.now.postings)).blocks c.seek_block.ensures.entries c.requires.valid.bounded;
+  bounded = bounded_after c.args.self.now.fieldnorm_reader _ _ _ _
+      (c.seek_block.ensures.kept c.args.self.now.postings (ReadsAs-self c.args.self.now.postings)).blocks c.seek_block.ensures.entries c.requires.valid.bounded;
 }

@@ -18,7 +18,8 @@ pub returns-clause-valid : goal.returns-clause-valid
 returns-clause-valid c = record {
   postings = c.count_including_deleted.ensures.valid;
   covered = subst (AreCovered (norm_ids c.args.self.now.fieldnorm_reader)) (sym c.count_including_deleted.ensures.entries) (AreCovered-nil _);
-  bounded = subst (IsBoundedBy c.args.self.now.fieldnorm_reader _) (sym c.count_including_deleted.ensures.entries) (IsBoundedBy-nil c.args.self.now.fieldnorm_reader _);
+  bounded = subst (IsBoundedBy c.args.self.now.fieldnorm_reader _)
+      (sym c.count_including_deleted.ensures.entries) (IsBoundedBy-nil c.args.self.now.fieldnorm_reader _);
 }
 
 pub returns-clause-kept : goal.returns-clause-kept

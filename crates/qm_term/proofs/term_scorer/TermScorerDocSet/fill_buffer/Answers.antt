@@ -9,8 +9,10 @@ use Rattle.qm_term.proofs.term_scorer.TermScorerDocSet.fill_buffer.Goals as goal
 pub returns-clause-valid : goal.returns-clause-valid
 returns-clause-valid c = record {
   postings = c.fill_buffer.ensures.valid;
-  covered = subst (AreCovered (norm_ids c.args.self.now.fieldnorm_reader)) (sym c.fill_buffer.ensures.entries) (AreCovered-drop _ 64 _ c.requires.valid.covered);
-  bounded = bounded_after c.args.self.now.fieldnorm_reader _ _ _ _ (c.fill_buffer.ensures.kept c.args.self.now.postings (ReadsAs-self c.args.self.now.postings)).blocks c.fill_buffer.ensures.entries (IsBoundedBy-drop c.args.self.now.fieldnorm_reader _ 64 _ c.requires.valid.bounded);
+  covered =
+      subst (AreCovered (norm_ids c.args.self.now.fieldnorm_reader)) (sym c.fill_buffer.ensures.entries) (AreCovered-drop _ 64 _ c.requires.valid.covered);
+  bounded = bounded_after c.args.self.now.fieldnorm_reader _ _ _ _ (c.fill_buffer.ensures.kept c.args.self.now.postings (ReadsAs-self
+      c.args.self.now.postings)).blocks c.fill_buffer.ensures.entries (IsBoundedBy-drop c.args.self.now.fieldnorm_reader _ 64 _ c.requires.valid.bounded);
 }
 
 pub returns-clause-kept : goal.returns-clause-kept

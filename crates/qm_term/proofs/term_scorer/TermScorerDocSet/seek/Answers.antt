@@ -14,7 +14,8 @@ returns-clause-head c = c.seek.ensures.head ∙ sym (head_document-rescored _ _)
 
 pub returns-clause-entries : goal.returns-clause-entries
 returns-clause-entries c =
-    ap (scored_postings (weighing c.args.self.now.similarity_weight) (norm_ids c.args.self.now.fieldnorm_reader)) c.seek.ensures.entries ∙ sym (from-rescored _ _ _)
+    ap (scored_postings (weighing c.args.self.now.similarity_weight) (norm_ids c.args.self.now.fieldnorm_reader)) c.seek.ensures.entries
+    ∙ sym (from-rescored _ _ _)
 
 pub returns-clause-limits : goal.returns-clause-limits
 returns-clause-limits c = ap (limited (bm25_bound (weighing c.args.self.now.similarity_weight))) c.seek.ensures.limits
@@ -23,7 +24,8 @@ pub returns-clause-valid : goal.returns-clause-valid
 returns-clause-valid c = record {
   postings = c.seek.ensures.valid;
   covered = subst (AreCovered (norm_ids c.args.self.now.fieldnorm_reader)) (sym c.seek.ensures.entries) (AreCovered-from _ _ _ c.requires.valid.covered);
-  bounded = bounded_after c.args.self.now.fieldnorm_reader _ _ _ _ (c.seek.ensures.kept c.args.self.now.postings (ReadsAs-self c.args.self.now.postings)).blocks c.seek.ensures.entries (IsBoundedBy-from c.args.self.now.fieldnorm_reader _ _ _ c.requires.valid.bounded);
+  bounded = bounded_after c.args.self.now.fieldnorm_reader _ _ _ _ (c.seek.ensures.kept c.args.self.now.postings (ReadsAs-self c.args.self.now.postings)).blocks
+      c.seek.ensures.entries (IsBoundedBy-from c.args.self.now.fieldnorm_reader _ _ _ c.requires.valid.bounded);
 }
 
 pub returns-clause-kept : goal.returns-clause-kept

@@ -14,7 +14,8 @@ returns-clause-answer c = IsSeekAnswer-rescored _ _ _ _ c.seek_danger.ensures.an
 
 pub returns-clause-entries : goal.returns-clause-entries
 returns-clause-entries c =
-    ap (scored_postings (weighing c.args.self.now.similarity_weight) (norm_ids c.args.self.now.fieldnorm_reader)) c.seek_danger.ensures.entries ∙ sym (from-rescored _ _ _)
+    ap (scored_postings (weighing c.args.self.now.similarity_weight) (norm_ids c.args.self.now.fieldnorm_reader)) c.seek_danger.ensures.entries
+    ∙ sym (from-rescored _ _ _)
 
 pub returns-clause-limits : goal.returns-clause-limits
 returns-clause-limits c = ap (limited (bm25_bound (weighing c.args.self.now.similarity_weight))) c.seek_danger.ensures.limits
@@ -23,7 +24,8 @@ pub returns-clause-valid : goal.returns-clause-valid
 returns-clause-valid c = record {
   postings = c.seek_danger.ensures.valid;
   covered = subst (AreCovered (norm_ids c.args.self.now.fieldnorm_reader)) (sym c.seek_danger.ensures.entries) (AreCovered-from _ _ _ c.requires.valid.covered);
-  bounded = bounded_after c.args.self.now.fieldnorm_reader _ _ _ _ (c.seek_danger.ensures.kept c.args.self.now.postings (ReadsAs-self c.args.self.now.postings)).blocks c.seek_danger.ensures.entries (IsBoundedBy-from c.args.self.now.fieldnorm_reader _ _ _ c.requires.valid.bounded);
+  bounded = bounded_after c.args.self.now.fieldnorm_reader _ _ _ _ (c.seek_danger.ensures.kept c.args.self.now.postings (ReadsAs-self
+      c.args.self.now.postings)).blocks c.seek_danger.ensures.entries (IsBoundedBy-from c.args.self.now.fieldnorm_reader _ _ _ c.requires.valid.bounded);
 }
 
 pub returns-clause-kept : goal.returns-clause-kept

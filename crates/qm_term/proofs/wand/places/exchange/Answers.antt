@@ -28,14 +28,18 @@ returns-clause-heads c =
     let longs : length ns ≡ length ms = omega (arith, length-map ss wand_member, length-map ts wand_member, c.swap.ensures.len) in
     let long : length gs ≡ length hs = omega (arith, c.rename.ensures.len, c.rename-2.ensures.len) in
     let at_k : (d : Head) → get_or gs k d ≡ renamed (place_in hs o d) (get_or hs k d) =
-    λ d. c.rename-2.ensures.here d ∙ ap (renamed a) (c.rename.ensures.rest k d c.requires.other) ∙ ap (λ (h : Head). renamed h.scorer (get_or hs k d)) (any hs o zeros d c.requires.owner) in
+    λ d. c.rename-2.ensures.here d ∙ ap (renamed a) (c.rename.ensures.rest k d c.requires.other)
+    ∙ ap (λ (h : Head). renamed h.scorer (get_or hs k d)) (any hs o zeros d c.requires.owner) in
     let at_o : (d : Head) → get_or gs o d ≡ renamed (place_in hs k d) (get_or hs o d) =
-    λ d. c.rename-2.ensures.rest o d (λ e. c.requires.other (sym e)) ∙ c.rename.ensures.here d ∙ ap (λ (h : Head). renamed h.scorer (get_or hs o d)) (any hs k zeros d c.requires.within) in
-    let rest : (j : ℕ) (d : Head) → j ≢ k → j ≢ o → get_or gs j d ≡ get_or hs j d = λ j d nk njo. c.rename-2.ensures.rest j d nk ∙ c.rename.ensures.rest j d njo in
+    λ d. c.rename-2.ensures.rest o d (λ e. c.requires.other (sym e)) ∙ c.rename.ensures.here d
+    ∙ ap (λ (h : Head). renamed h.scorer (get_or hs o d)) (any hs k zeros d c.requires.within) in
+    let rest : (j : ℕ) (d : Head) → j ≢ k → j ≢ o → get_or gs j d ≡ get_or hs j d = λ j d nk njo. c.rename-2.ensures.rest j d nk
+    ∙ c.rename.ensures.rest j d njo in
     let first = map_swapped wand_member no_member ss ts a b c.swap.ensures.by_index c.swap.ensures.len la lb in
     let second = map_swapped_back wand_member no_member ss ts a b c.swap.ensures.by_index c.swap.ensures.len la lb in
     let others : (i : ℕ) → i < length ms → i ≢ a → i ≢ b → get_or ns i no_member ≡ get_or ms i no_member =
-    λ i l na nb. map_swapped_else wand_member no_member ss ts a b i c.swap.ensures.by_index c.swap.ensures.len (omega (arith, l, length-map ss wand_member)) na nb in
+    λ i l na nb. map_swapped_else wand_member no_member ss ts a b i c.swap.ensures.by_index c.swap.ensures.len
+    (omega (arith, l, length-map ss wand_member)) na nb in
     record {
       valid = All-permutation IsRunScorer ss ts c.swap.ensures.permutation c.requires.heads.valid;
       records = exchanged_records ms ns hs gs k o r c.requires.within c.requires.owner c.requires.other longs long at_k at_o rest first second others;
@@ -60,14 +64,18 @@ returns-clause-lists c =
     let longs : length ns ≡ length ms = omega (arith, length-map ss wand_member, length-map ts wand_member, c.swap.ensures.len) in
     let long : length gs ≡ length hs = omega (arith, c.rename.ensures.len, c.rename-2.ensures.len) in
     let at_k : (d : Head) → get_or gs k d ≡ renamed (place_in hs o d) (get_or hs k d) =
-    λ d. c.rename-2.ensures.here d ∙ ap (renamed a) (c.rename.ensures.rest k d c.requires.other) ∙ ap (λ (h : Head). renamed h.scorer (get_or hs k d)) (any hs o zeros d c.requires.owner) in
+    λ d. c.rename-2.ensures.here d ∙ ap (renamed a) (c.rename.ensures.rest k d c.requires.other)
+    ∙ ap (λ (h : Head). renamed h.scorer (get_or hs k d)) (any hs o zeros d c.requires.owner) in
     let at_o : (d : Head) → get_or gs o d ≡ renamed (place_in hs k d) (get_or hs o d) =
-    λ d. c.rename-2.ensures.rest o d (λ e. c.requires.other (sym e)) ∙ c.rename.ensures.here d ∙ ap (λ (h : Head). renamed h.scorer (get_or hs o d)) (any hs k zeros d c.requires.within) in
-    let rest : (j : ℕ) (d : Head) → j ≢ k → j ≢ o → get_or gs j d ≡ get_or hs j d = λ j d nk njo. c.rename-2.ensures.rest j d nk ∙ c.rename.ensures.rest j d njo in
+    λ d. c.rename-2.ensures.rest o d (λ e. c.requires.other (sym e)) ∙ c.rename.ensures.here d
+    ∙ ap (λ (h : Head). renamed h.scorer (get_or hs o d)) (any hs k zeros d c.requires.within) in
+    let rest : (j : ℕ) (d : Head) → j ≢ k → j ≢ o → get_or gs j d ≡ get_or hs j d = λ j d nk njo. c.rename-2.ensures.rest j d nk
+    ∙ c.rename.ensures.rest j d njo in
     let first = map_swapped wand_member no_member ss ts a b c.swap.ensures.by_index c.swap.ensures.len la lb in
     let second = map_swapped_back wand_member no_member ss ts a b c.swap.ensures.by_index c.swap.ensures.len la lb in
     let others : (i : ℕ) → i < length ms → i ≢ a → i ≢ b → get_or ns i no_member ≡ get_or ms i no_member =
-    λ i l na nb. map_swapped_else wand_member no_member ss ts a b i c.swap.ensures.by_index c.swap.ensures.len (omega (arith, l, length-map ss wand_member)) na nb in
+    λ i l na nb. map_swapped_else wand_member no_member ss ts a b i c.swap.ensures.by_index c.swap.ensures.len
+    (omega (arith, l, length-map ss wand_member)) na nb in
     exchanged_lists ms ns hs gs k o r c.requires.within c.requires.owner c.requires.other longs long at_k at_o rest first second others
 
 pub returns-clause-docs : goal.returns-clause-docs
@@ -88,12 +96,16 @@ returns-clause-docs c =
     let longs : length ns ≡ length ms = omega (arith, length-map ss wand_member, length-map ts wand_member, c.swap.ensures.len) in
     let long : length gs ≡ length hs = omega (arith, c.rename.ensures.len, c.rename-2.ensures.len) in
     let at_k : (d : Head) → get_or gs k d ≡ renamed (place_in hs o d) (get_or hs k d) =
-    λ d. c.rename-2.ensures.here d ∙ ap (renamed a) (c.rename.ensures.rest k d c.requires.other) ∙ ap (λ (h : Head). renamed h.scorer (get_or hs k d)) (any hs o zeros d c.requires.owner) in
+    λ d. c.rename-2.ensures.here d ∙ ap (renamed a) (c.rename.ensures.rest k d c.requires.other)
+    ∙ ap (λ (h : Head). renamed h.scorer (get_or hs k d)) (any hs o zeros d c.requires.owner) in
     let at_o : (d : Head) → get_or gs o d ≡ renamed (place_in hs k d) (get_or hs o d) =
-    λ d. c.rename-2.ensures.rest o d (λ e. c.requires.other (sym e)) ∙ c.rename.ensures.here d ∙ ap (λ (h : Head). renamed h.scorer (get_or hs o d)) (any hs k zeros d c.requires.within) in
-    let rest : (j : ℕ) (d : Head) → j ≢ k → j ≢ o → get_or gs j d ≡ get_or hs j d = λ j d nk njo. c.rename-2.ensures.rest j d nk ∙ c.rename.ensures.rest j d njo in
+    λ d. c.rename-2.ensures.rest o d (λ e. c.requires.other (sym e)) ∙ c.rename.ensures.here d
+    ∙ ap (λ (h : Head). renamed h.scorer (get_or hs o d)) (any hs k zeros d c.requires.within) in
+    let rest : (j : ℕ) (d : Head) → j ≢ k → j ≢ o → get_or gs j d ≡ get_or hs j d = λ j d nk njo. c.rename-2.ensures.rest j d nk
+    ∙ c.rename.ensures.rest j d njo in
     let first = map_swapped wand_member no_member ss ts a b c.swap.ensures.by_index c.swap.ensures.len la lb in
     let second = map_swapped_back wand_member no_member ss ts a b c.swap.ensures.by_index c.swap.ensures.len la lb in
     let others : (i : ℕ) → i < length ms → i ≢ a → i ≢ b → get_or ns i no_member ≡ get_or ms i no_member =
-    λ i l na nb. map_swapped_else wand_member no_member ss ts a b i c.swap.ensures.by_index c.swap.ensures.len (omega (arith, l, length-map ss wand_member)) na nb in
+    λ i l na nb. map_swapped_else wand_member no_member ss ts a b i c.swap.ensures.by_index c.swap.ensures.len
+    (omega (arith, l, length-map ss wand_member)) na nb in
     exchanged_docs ms ns hs gs k o r c.requires.within c.requires.owner c.requires.other longs long at_k at_o rest first second others

@@ -19,13 +19,22 @@ finish-requires-clause-callable g c =
     let made = c.in_ok-run.ensures.made in
     let combined = g.C.ScoreCombiner.combined c.args.combiner in
     let order = combined-permutation g.C.ScoreCombiner g.met.C.ScoreCombiner.combines g.met.C.ScoreCombiner.commutes c.args.combiner in
-    rw made.combines (subst (λ (t : ℤ). MayPrune (InRange w.step) w.pre t c.args.callback.now (united combined (run_lists r))) (sym (made.same ∙ to_z-of_z w64 c.args.threshold c.ranges.threshold))
-    (may_permuted (InRange w.step) combined order w.pre c.args.threshold c.args.callback.now (map member_of c.args.scorers.items) (run_lists r) made.lists (MayPrune-terms (InRange w.step) combined (g.met.C.BoundedBySum.within_sum c.args.combiner) c.args.scorers.items c.requires.valid w.pre c.args.threshold c.args.callback.now c.requires.callable)))
+    rw made.combines (subst (λ (t : ℤ). MayPrune (InRange w.step) w.pre t c.args.callback.now (united combined (run_lists r)))
+    (sym (made.same ∙ to_z-of_z w64 c.args.threshold c.ranges.threshold))
+    (may_permuted (InRange w.step) combined order w.pre c.args.threshold c.args.callback.now (map member_of c.args.scorers.items)
+    (run_lists r) made.lists (MayPrune-terms (InRange w.step) combined (g.met.C.BoundedBySum.within_sum c.args.combiner)
+    c.args.scorers.items c.requires.valid w.pre c.args.threshold c.args.callback.now c.requires.callable)))
 
 pub returns-clause-turns : goal.returns-clause-turns
 returns-clause-turns g c =
     let made = c.in_ok-run.ensures.made in
-    omega (arith, c.count.ensures.turns, c.finish.ensures.turns, made.no_turns, postings_permuted (map member_of c.args.scorers.items) (run_lists c.in_ok-run.run') made.lists)
+    omega (
+      arith,
+      c.count.ensures.turns,
+      c.finish.ensures.turns,
+      made.no_turns,
+      postings_permuted (map member_of c.args.scorers.items) (run_lists c.in_ok-run.run') made.lists,
+    )
 
 pub returns-clause-run : goal.returns-clause-run
 returns-clause-run g c =

@@ -14,7 +14,8 @@ use Rattle.qm_term.proofs.WandBounds.{low_before_pivot, skip_le_end, skip_past}
 use Rattle.qm_term.proofs.WandOrder.{postings_permuted, total_permuted}
 use Rattle.qm_term.proofs.WandPlain.{score_may}
 use Rattle.qm_term.proofs.WandRows.{pivot_bounds_le}
-use Rattle.qm_term.proofs.WandSteps.{AreCut-one, fewer_cut, fewer_scored, passes_cut, passes_skip, pivot_scores, scores_pivot, tops_cut, tops_past, tops_to, total_top_to}
+use Rattle.qm_term.proofs.WandSteps.{AreCut-one, fewer_cut, fewer_scored, passes_cut, passes_skip, pivot_scores, scores_pivot, tops_cut, tops_past, tops_to}
+use Rattle.qm_term.proofs.WandSteps.{total_top_to}
 use Rattle.std.proofs.Common.{get_or}
 use Rattle.qm_term.specs.Heads.{IsAlone}
 use Rattle.qm_term.proofs.RowAlone.{alone_above, alone_on, alone_pivot, alone_same}
@@ -23,7 +24,8 @@ use Rattle.qm_term.specs.contracts.wand.run.turn_row.F-FnMut as fnmut
 use Rattle.qm_term.proofs.wand.run.turn_row.Goals as goal
 
 pub find_pivot-p-requires-clause-fits : goal.find_pivot-p-requires-clause-fits
-find_pivot-p-requires-clause-fits g c = omega (arith, shown_tops (map wand_member c.args.scorers.now) c.args.heads.now c.requires.row.heads.records.each, c.requires.fits)
+find_pivot-p-requires-clause-fits g c =
+    omega (arith, shown_tops (map wand_member c.args.scorers.now) c.args.heads.now c.requires.row.heads.records.each, c.requires.fits)
 
 pub find_pivot-p-requires-clause-below : goal.find_pivot-p-requires-clause-below
 find_pivot-p-requires-clause-below g c = row_below c.args.scorers.now c.args.heads.now c.requires.row.heads
@@ -45,7 +47,12 @@ returns-then-p-ge-TERMINATED-clause-none g c =
 pub is_above-requires : goal.is_above-requires
 is_above-requires g c =
     let ls = row_lists c.args.scorers.now c.args.heads.now in
-    omega (arith, c.bounds_at-bounds.ensures.bounds, pivot_bounds_le c.find_pivot-p.result ls (row_members c.args.scorers.now c.args.heads.now c.requires.row.heads), c.requires.fits)
+    omega (
+      arith,
+      c.bounds_at-bounds.ensures.bounds,
+      pivot_bounds_le c.find_pivot-p.result ls (row_members c.args.scorers.now c.args.heads.now c.requires.row.heads),
+      c.requires.fits,
+    )
 
 pub skip_one-requires-clause-some : goal.skip_one-requires-clause-some
 skip_one-requires-clause-some g c =
@@ -57,7 +64,8 @@ skip_one-requires-clause-some g c =
     let th = c.args.threshold in
     let is : to_z w64 (of_z w64 th) ≡ th = to_z-of_z w64 th c.ranges.threshold in
     let h : AreMembers ls = row_members ss hs c.requires.row.heads in
-    let v : IsPivot th ls p = pivot_shown ms th p hs c.requires.row.heads.records.each (subst (λ (t : ℤ). IsPivot t (map shown hs) p) is (c.find_pivot-p.ensures.pivot (omega arith))) in
+    let v : IsPivot th ls p = pivot_shown ms th p hs c.requires.row.heads.records.each
+    (subst (λ (t : ℤ). IsPivot t (map shown hs) p) is (c.find_pivot-p.ensures.pivot (omega arith))) in
     some_front ms p c.front_len-n.result hs c.requires.row.heads.records.each v.is_head c.front_len-n.ensures.others
 
 pub returns-then-not-is_above-clause-fits : goal.returns-then-not-is_above-clause-fits
@@ -78,9 +86,11 @@ returns-then-not-is_above-clause-turn g c =
     let th = c.args.threshold in
     let is : to_z w64 (of_z w64 th) ≡ th = to_z-of_z w64 th c.ranges.threshold in
     let h : AreMembers ls = row_members ss hs c.requires.row.heads in
-    let v : IsPivot th ls p = pivot_shown ms th p hs c.requires.row.heads.records.each (subst (λ (t : ℤ). IsPivot t (map shown hs) p) is (c.find_pivot-p.ensures.pivot (omega arith))) in
+    let v : IsPivot th ls p = pivot_shown ms th p hs c.requires.row.heads.records.each
+    (subst (λ (t : ℤ). IsPivot t (map shown hs) p) is (c.find_pivot-p.ensures.pivot (omega arith))) in
     let cut = c.skip_one.ensures.cut p c.bounds_at-bounds.ensures.front c.bounds_at-bounds.ensures.known in
-    let low : pos (pivot_bounds p ls) ≤ℤ th = subst (λ (n : ℕ). pos n ≤ℤ th) c.bounds_at-bounds.ensures.bounds (rw is at (c.is_above.ensures.no c.if-not-is_above.true)) in
+    let low : pos (pivot_bounds p ls) ≤ℤ th =
+    subst (λ (n : ℕ). pos n ≤ℤ th) c.bounds_at-bounds.ensures.bounds (rw is at (c.is_above.ensures.no c.if-not-is_above.true)) in
     let one : CutOne p (skip p ls) ls cut.0 = subst (λ (xs : List Member). CutOne p (skip p xs) xs cut.0) c.bounds_at-bounds.ensures.lists cut.1 in
     let fewer : postings cut.0 < postings ls = fewer_cut p (skip p ls) ls cut.0 (skip_past p ls v.below_end) (skip_le_end p ls) one in
     λ _. record {
@@ -109,11 +119,13 @@ returns-then-not-align-clause-turn g c =
     let th = c.args.threshold in
     let is : to_z w64 (of_z w64 th) ≡ th = to_z-of_z w64 th c.ranges.threshold in
     let h : AreMembers ls = row_members ss hs c.requires.row.heads in
-    let v : IsPivot th ls p = pivot_shown ms th p hs c.requires.row.heads.records.each (subst (λ (t : ℤ). IsPivot t (map shown hs) p) is (c.find_pivot-p.ensures.pivot (omega arith))) in
+    let v : IsPivot th ls p = pivot_shown ms th p hs c.requires.row.heads.records.each
+    (subst (λ (t : ℤ). IsPivot t (map shown hs) p) is (c.find_pivot-p.ensures.pivot (omega arith))) in
     let bs = c.bounds_at-bounds.new.scorers in
     let bh = c.bounds_at-bounds.new.heads in
     let same : row_lists bs bh ≡ ls = c.bounds_at-bounds.ensures.lists in
-    let above : th <ℤ pos (pivot_bounds p ls) = subst (λ (n : ℕ). th <ℤ pos n) c.bounds_at-bounds.ensures.bounds (rw is at (c.is_above.ensures.yes c.if-not-is_above.false)) in
+    let above : th <ℤ pos (pivot_bounds p ls) =
+    subst (λ (n : ℕ). th <ℤ pos n) c.bounds_at-bounds.ensures.bounds (rw is at (c.is_above.ensures.yes c.if-not-is_above.false)) in
     let cut = c.align.ensures.cut c.if-not-align.true in
     let some : AreCut p ls cut.0 = subst (λ (xs : List Member). AreCut p xs cut.0) same cut.1 in
     let fewer : postings cut.0 < postings ls = subst (λ (xs : List Member). postings cut.0 < postings xs) same cut.2 in
@@ -123,7 +135,12 @@ returns-then-not-align-clause-turn g c =
       found = v;
       fewer = omega (arith, fewer, postings_permuted cut.0 (row_lists c.align.new.scorers c.align.new.heads) cut.3);
       order = cut.3;
-      turn = inr (inl (record { bounds = above; quiet = (is, refl, refl); lists = some; passes = passes_cut th p ls cut.0 h some (λ d less held. low_before_pivot th p d ls h v less held) }));
+      turn = inr (inl (record {
+        bounds = above;
+        quiet = (is, refl, refl);
+        lists = some;
+        passes = passes_cut th p ls cut.0 h some (λ d less held. low_before_pivot th p d ls h v less held);
+      }));
     }
 
 pub score_pivot-after-requires-clause-fits : goal.score_pivot-after-requires-clause-fits
@@ -136,11 +153,13 @@ score_pivot-after-requires-clause-fits g c =
     let th = c.args.threshold in
     let is : to_z w64 (of_z w64 th) ≡ th = to_z-of_z w64 th c.ranges.threshold in
     let h : AreMembers ls = row_members ss hs c.requires.row.heads in
-    let v : IsPivot th ls p = pivot_shown ms th p hs c.requires.row.heads.records.each (subst (λ (t : ℤ). IsPivot t (map shown hs) p) is (c.find_pivot-p.ensures.pivot (omega arith))) in
+    let v : IsPivot th ls p = pivot_shown ms th p hs c.requires.row.heads.records.each
+    (subst (λ (t : ℤ). IsPivot t (map shown hs) p) is (c.find_pivot-p.ensures.pivot (omega arith))) in
     let bs = c.bounds_at-bounds.new.scorers in
     let bh = c.bounds_at-bounds.new.heads in
     let same : row_lists bs bh ≡ ls = c.bounds_at-bounds.ensures.lists in
-    let above : th <ℤ pos (pivot_bounds p ls) = subst (λ (n : ℕ). th <ℤ pos n) c.bounds_at-bounds.ensures.bounds (rw is at (c.is_above.ensures.yes c.if-not-is_above.false)) in
+    let above : th <ℤ pos (pivot_bounds p ls) =
+    subst (λ (n : ℕ). th <ℤ pos n) c.bounds_at-bounds.ensures.bounds (rw is at (c.is_above.ensures.yes c.if-not-is_above.false)) in
     let al = row_lists c.align.new.scorers c.align.new.heads in
     let on_p : all_on p ls ≡ true = ap (all_on p) (sym same) ∙ c.align.ensures.on c.if-not-align.false in
     let lists : al ≡ map (to p) ls = c.align.ensures.lists c.if-not-align.false ∙ ap (map (to p)) same in
@@ -158,18 +177,21 @@ score_pivot-after-requires-clause-callable g c =
     let th = c.args.threshold in
     let is : to_z w64 (of_z w64 th) ≡ th = to_z-of_z w64 th c.ranges.threshold in
     let h : AreMembers ls = row_members ss hs c.requires.row.heads in
-    let v : IsPivot th ls p = pivot_shown ms th p hs c.requires.row.heads.records.each (subst (λ (t : ℤ). IsPivot t (map shown hs) p) is (c.find_pivot-p.ensures.pivot (omega arith))) in
+    let v : IsPivot th ls p = pivot_shown ms th p hs c.requires.row.heads.records.each
+    (subst (λ (t : ℤ). IsPivot t (map shown hs) p) is (c.find_pivot-p.ensures.pivot (omega arith))) in
     let bs = c.bounds_at-bounds.new.scorers in
     let bh = c.bounds_at-bounds.new.heads in
     let same : row_lists bs bh ≡ ls = c.bounds_at-bounds.ensures.lists in
-    let above : th <ℤ pos (pivot_bounds p ls) = subst (λ (n : ℕ). th <ℤ pos n) c.bounds_at-bounds.ensures.bounds (rw is at (c.is_above.ensures.yes c.if-not-is_above.false)) in
+    let above : th <ℤ pos (pivot_bounds p ls) =
+    subst (λ (n : ℕ). th <ℤ pos n) c.bounds_at-bounds.ensures.bounds (rw is at (c.is_above.ensures.yes c.if-not-is_above.false)) in
     let al = row_lists c.align.new.scorers c.align.new.heads in
     let on_p : all_on p ls ≡ true = ap (all_on p) (sym same) ∙ c.align.ensures.on c.if-not-align.false in
     let lists : al ≡ map (to p) ls = c.align.ensures.lists c.if-not-align.false ∙ ap (map (to p)) same in
     let combined = g.C.ScoreCombiner.combined c.args.combiner in
     let sum : combined (scores_of p ls) ≡ combined (front_scores p al) = ap combined (pivot_scores th p ls h v on_p ∙ ap (front_scores p) (sym lists)) in
     let w = fnmut.words g.row.C g.row.F g.F.FnMut in
-    let may = score_may combined (g.met.C.BoundedBySum.within_sum c.args.combiner) (InRange w.step) th p ls (map (past p) (map (to p) ls)) h (scores_pivot th p ls h v on_p above) w.pre c.args.callback.now c.requires.callable in
+    let may = score_may combined (g.met.C.BoundedBySum.within_sum c.args.combiner) (InRange w.step) th p ls
+    (map (past p) (map (to p) ls)) h (scores_pivot th p ls h v on_p above) w.pre c.args.callback.now c.requires.callable in
     rw (is, sym sum) may.0
 
 pub returns-clause-fits : goal.returns-clause-fits
@@ -182,11 +204,13 @@ returns-clause-fits g c =
     let th = c.args.threshold in
     let is : to_z w64 (of_z w64 th) ≡ th = to_z-of_z w64 th c.ranges.threshold in
     let h : AreMembers ls = row_members ss hs c.requires.row.heads in
-    let v : IsPivot th ls p = pivot_shown ms th p hs c.requires.row.heads.records.each (subst (λ (t : ℤ). IsPivot t (map shown hs) p) is (c.find_pivot-p.ensures.pivot (omega arith))) in
+    let v : IsPivot th ls p = pivot_shown ms th p hs c.requires.row.heads.records.each
+    (subst (λ (t : ℤ). IsPivot t (map shown hs) p) is (c.find_pivot-p.ensures.pivot (omega arith))) in
     let bs = c.bounds_at-bounds.new.scorers in
     let bh = c.bounds_at-bounds.new.heads in
     let same : row_lists bs bh ≡ ls = c.bounds_at-bounds.ensures.lists in
-    let above : th <ℤ pos (pivot_bounds p ls) = subst (λ (n : ℕ). th <ℤ pos n) c.bounds_at-bounds.ensures.bounds (rw is at (c.is_above.ensures.yes c.if-not-is_above.false)) in
+    let above : th <ℤ pos (pivot_bounds p ls) =
+    subst (λ (n : ℕ). th <ℤ pos n) c.bounds_at-bounds.ensures.bounds (rw is at (c.is_above.ensures.yes c.if-not-is_above.false)) in
     let al = row_lists c.align.new.scorers c.align.new.heads in
     let on_p : all_on p ls ≡ true = ap (all_on p) (sym same) ∙ c.align.ensures.on c.if-not-align.false in
     let lists : al ≡ map (to p) ls = c.align.ensures.lists c.if-not-align.false ∙ ap (map (to p)) same in
@@ -205,11 +229,13 @@ returns-clause-turn g c =
     let th = c.args.threshold in
     let is : to_z w64 (of_z w64 th) ≡ th = to_z-of_z w64 th c.ranges.threshold in
     let h : AreMembers ls = row_members ss hs c.requires.row.heads in
-    let v : IsPivot th ls p = pivot_shown ms th p hs c.requires.row.heads.records.each (subst (λ (t : ℤ). IsPivot t (map shown hs) p) is (c.find_pivot-p.ensures.pivot (omega arith))) in
+    let v : IsPivot th ls p = pivot_shown ms th p hs c.requires.row.heads.records.each
+    (subst (λ (t : ℤ). IsPivot t (map shown hs) p) is (c.find_pivot-p.ensures.pivot (omega arith))) in
     let bs = c.bounds_at-bounds.new.scorers in
     let bh = c.bounds_at-bounds.new.heads in
     let same : row_lists bs bh ≡ ls = c.bounds_at-bounds.ensures.lists in
-    let above : th <ℤ pos (pivot_bounds p ls) = subst (λ (n : ℕ). th <ℤ pos n) c.bounds_at-bounds.ensures.bounds (rw is at (c.is_above.ensures.yes c.if-not-is_above.false)) in
+    let above : th <ℤ pos (pivot_bounds p ls) =
+    subst (λ (n : ℕ). th <ℤ pos n) c.bounds_at-bounds.ensures.bounds (rw is at (c.is_above.ensures.yes c.if-not-is_above.false)) in
     let al = row_lists c.align.new.scorers c.align.new.heads in
     let on_p : all_on p ls ≡ true = ap (all_on p) (sym same) ∙ c.align.ensures.on c.if-not-align.false in
     let lists : al ≡ map (to p) ls = c.align.ensures.lists c.if-not-align.false ∙ ap (map (to p)) same in
@@ -239,7 +265,8 @@ returns-clause-turn g c =
 -- ---- the first stands alone
 
 pub is_alone-requires-clause-fits : goal.is_alone-requires-clause-fits
-is_alone-requires-clause-fits g c = omega (arith, shown_tops (map wand_member c.args.scorers.now) c.args.heads.now c.requires.row.heads.records.each, c.requires.fits)
+is_alone-requires-clause-fits g c =
+    omega (arith, shown_tops (map wand_member c.args.scorers.now) c.args.heads.now c.requires.row.heads.records.each, c.requires.fits)
 
 pub score_pivot-scored-requires-clause-level : goal.score_pivot-scored-requires-clause-level
 score_pivot-scored-requires-clause-level g c =
@@ -300,7 +327,8 @@ score_pivot-scored-requires-clause-callable g c =
     let combined = g.C.ScoreCombiner.combined c.args.combiner in
     let sum : combined (scores_of p ls) ≡ combined (front_scores p ls) = ap combined (pivot_scores th p ls h v on_p ∙ ap (front_scores p) same) in
     let w = fnmut.words g.row.C g.row.F g.F.FnMut in
-    let may = score_may combined (g.met.C.BoundedBySum.within_sum c.args.combiner) (InRange w.step) th p ls (map (past p) (map (to p) ls)) h (scores_pivot th p ls h v on_p above) w.pre c.args.callback.now c.requires.callable in
+    let may = score_may combined (g.met.C.BoundedBySum.within_sum c.args.combiner) (InRange w.step) th p ls
+    (map (past p) (map (to p) ls)) h (scores_pivot th p ls h v on_p above) w.pre c.args.callback.now c.requires.callable in
     rw (is, sym sum) may.0
 
 pub returns-then-is_alone-clause-fits : goal.returns-then-is_alone-clause-fits
@@ -321,7 +349,8 @@ returns-then-is_alone-clause-fits g c =
     let same : map (to p) ls ≡ ls = alone_same th ms hs records a in
     let combined = g.C.ScoreCombiner.combined c.args.combiner in
     let sum : combined (scores_of p ls) ≡ combined (front_scores p ls) = ap combined (pivot_scores th p ls h v on_p ∙ ap (front_scores p) same) in
-    total_permuted (λ m. m.top) (map (past p) ls) (row_lists c.score_pivot-scored.new.scorers c.score_pivot-scored.new.heads) c.score_pivot-scored.ensures.lists ∙ tops_past p ls
+    total_permuted (λ m. m.top) (map (past p) ls) (row_lists c.score_pivot-scored.new.scorers c.score_pivot-scored.new.heads) c.score_pivot-scored.ensures.lists
+    ∙ tops_past p ls
 
 pub returns-then-is_alone-clause-turn : goal.returns-then-is_alone-clause-turn
 returns-then-is_alone-clause-turn g c =

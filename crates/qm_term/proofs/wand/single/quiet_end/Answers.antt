@@ -32,7 +32,8 @@ is_above-requires c =
     let m = first_of c.args.row.now in
     let had = c.loop-end.invariant in
     let old = only_at row c.index-row-0.result had.one ∙ had.same in
-    let looks = looked_set row c.seek_block.new.self had.one ∙ c.seek_block.ensures.looked ∙ ap (looked_at (c.loop-end.end + 1)) old ∙ looks_behind (c.loop-end.end + 1) m (omega (arith, had.on)) (omega (arith, c.requires.below)) in
+    let looks = looked_set row c.seek_block.new.self had.one ∙ c.seek_block.ensures.looked ∙ ap (looked_at (c.loop-end.end + 1)) old
+    ∙ looks_behind (c.loop-end.end + 1) m (omega (arith, had.on)) (omega (arith, c.requires.below)) in
     let h = law_first c.args.row.now c.requires.one c.requires.valid in
     omega (arith, c.look-next.ensures.bound, ap (λ (b : Block). b.bound) looks, h.bounds (c.loop-end.end + 1), top_first c.args.row.now c.requires.one)
 
@@ -42,8 +43,15 @@ loop-end-smaller c =
     let m = first_of c.args.row.now in
     let had = c.loop-end.invariant in
     let old = only_at row c.index-row-0.result had.one ∙ had.same in
-    let looks = looked_set row c.seek_block.new.self had.one ∙ c.seek_block.ensures.looked ∙ ap (looked_at (c.loop-end.end + 1)) old ∙ looks_behind (c.loop-end.end + 1) m (omega (arith, had.on)) (omega (arith, c.requires.below)) in
-    omega (arith, c.look-next.ensures.end, ap (λ (b : Block). b.last) looks, end_at_le (c.loop-end.end + 1) m.blocks (omega (arith, c.loop-end-test.true)), c.loop-end-test.true)
+    let looks = looked_set row c.seek_block.new.self had.one ∙ c.seek_block.ensures.looked ∙ ap (looked_at (c.loop-end.end + 1)) old
+    ∙ looks_behind (c.loop-end.end + 1) m (omega (arith, had.on)) (omega (arith, c.requires.below)) in
+    omega (
+      arith,
+      c.look-next.ensures.end,
+      ap (λ (b : Block). b.last) looks,
+      end_at_le (c.loop-end.end + 1) m.blocks (omega (arith, c.loop-end-test.true)),
+      c.loop-end-test.true,
+    )
 
 pub loop-end-preserved : goal.loop-end-preserved
 loop-end-preserved c =
@@ -54,7 +62,8 @@ loop-end-preserved c =
     let had = c.loop-end.invariant in
     let next = c.loop-end.end + 1 in
     let old = only_at row c.index-row-0.result had.one ∙ had.same in
-    let looks = looked_set row c.seek_block.new.self had.one ∙ c.seek_block.ensures.looked ∙ ap (looked_at next) old ∙ looks_behind next m (omega (arith, had.on)) (omega (arith, c.requires.below)) in
+    let looks = looked_set row c.seek_block.new.self had.one ∙ c.seek_block.ensures.looked ∙ ap (looked_at next) old
+    ∙ looks_behind next m (omega (arith, had.on)) (omega (arith, c.requires.below)) in
     let end : c.look-next.result.end ≡ end_at next m.blocks = c.look-next.ensures.end ∙ ap (λ (b : Block). b.last) looks in
     let bound : c.look-next.result.bound ≡ bound_at next m.blocks = c.look-next.ensures.bound ∙ ap (λ (b : Block). b.bound) looks in
     let low : pos (bound_at next m.blocks) ≤ℤ to_z w64 (of_z w64 th) = rw (← bound) (c.is_above.ensures.no c.if-is_above.false) in

@@ -37,7 +37,8 @@ call_at-threshold-requires g c =
     let is_score : to_z w64 (of_z w64 score) ≡ score = to_z-of_z w64 score (record { sfits = c.score_front-score.type_inv }) in
     let below : head m < TERMINATED = omega (arith, c.requires.below, c.requires.here) in
     let x = added (scores_of (head m) (m ∷ [])) in
-    let sum : score ≡ pos x = c.score_front-score.ensures.score ∙ ap pos (ap sum (one_scored c.args.row.now c.requires.one) ∙ sum_one (hit_score m.entries) ∙ sym (first_scored m h below)) in
+    let sum : score ≡ pos x = c.score_front-score.ensures.score
+    ∙ ap pos (ap sum (one_scored c.args.row.now c.requires.one) ∙ sum_one (hit_score m.entries) ∙ sym (first_scored m h below)) in
     let may = (score_may added no_more call th (head m) (m ∷ []) (next m ∷ []) (h, tt) (scores_first th m h below above) pre f c.requires.callable).0 in
     rw (is, is_score) (subst (λ s. th <ℤ s → pre f c.args.doc s) (sym sum) (subst (λ d. th <ℤ pos x → pre f d (pos x)) (sym c.requires.here) may))
 
@@ -47,7 +48,8 @@ returns-then-is_above-clause-fewer g c =
     let rows = c.score_front-score.new.scorers in
     let same : rows ≡ c.args.row.now = c.score_front-score.ensures.same in
     let one : length rows ≡ 1 = ap length same ∙ c.requires.one in
-    let list : first_of (set rows 0 c.advance.new.self) ≡ next m = only_set rows c.advance.new.self one ∙ c.advance.ensures.member ∙ ap next (only_at rows c.index-row-0.result one ∙ ap first_of same) in
+    let list : first_of (set rows 0 c.advance.new.self) ≡ next m = only_set rows c.advance.new.self one
+    ∙ c.advance.ensures.member ∙ ap next (only_at rows c.index-row-0.result one ∙ ap first_of same) in
     omega (arith, ap (λ (n : Member). length n.entries) list, next_fewer m.entries (omega (arith, c.requires.below, c.requires.here)))
 
 pub returns-then-is_above-clause-later : goal.returns-then-is_above-clause-later
@@ -57,7 +59,8 @@ returns-then-is_above-clause-later g c =
     let rows = c.score_front-score.new.scorers in
     let same : rows ≡ c.args.row.now = c.score_front-score.ensures.same in
     let one : length rows ≡ 1 = ap length same ∙ c.requires.one in
-    let list : first_of (set rows 0 c.advance.new.self) ≡ next m = only_set rows c.advance.new.self one ∙ c.advance.ensures.member ∙ ap next (only_at rows c.index-row-0.result one ∙ ap first_of same) in
+    let list : first_of (set rows 0 c.advance.new.self) ≡ next m = only_set rows c.advance.new.self one
+    ∙ c.advance.ensures.member ∙ ap next (only_at rows c.index-row-0.result one ∙ ap first_of same) in
     omega (arith, ap head list, next_later m.blocks m.entries h.entries (omega (arith, c.requires.below, c.requires.here)), c.requires.here)
 
 pub returns-then-is_above-clause-turn : goal.returns-then-is_above-clause-turn
@@ -76,11 +79,13 @@ returns-then-is_above-clause-turn g c =
     let score = c.score_front-score.result in
     let is_score : to_z w64 (of_z w64 score) ≡ score = to_z-of_z w64 score (record { sfits = c.score_front-score.type_inv }) in
     let below : head m < TERMINATED = omega (arith, c.requires.below, c.requires.here) in
-    let sum : score ≡ pos (added (scores_of (head m) (m ∷ []))) = c.score_front-score.ensures.score ∙ ap pos (ap sum (one_scored c.args.row.now c.requires.one) ∙ sum_one (hit_score m.entries) ∙ sym (first_scored m h below)) in
+    let sum : score ≡ pos (added (scores_of (head m) (m ∷ []))) = c.score_front-score.ensures.score
+    ∙ ap pos (ap sum (one_scored c.args.row.now c.requires.one) ∙ sum_one (hit_score m.entries) ∙ sym (first_scored m h below)) in
     let rows = c.score_front-score.new.scorers in
     let same : rows ≡ c.args.row.now = c.score_front-score.ensures.same in
     let one : length rows ≡ 1 = ap length same ∙ c.requires.one in
-    let list : first_of (set rows 0 c.advance.new.self) ≡ next m = only_set rows c.advance.new.self one ∙ c.advance.ensures.member ∙ ap next (only_at rows c.index-row-0.result one ∙ ap first_of same) in
+    let list : first_of (set rows 0 c.advance.new.self) ≡ next m = only_set rows c.advance.new.self one
+    ∙ c.advance.ensures.member ∙ ap next (only_at rows c.index-row-0.result one ∙ ap first_of same) in
     let made : Turn call th f c.args.doc score bar after = rw (is, is_score) at c.call_at-threshold.ensures in
     inr (record {
       tick = refl;
@@ -106,10 +111,16 @@ returns-else-is_above-clause-fewer g c =
     let m = first_of c.args.row.now in
     let rows = c.quiet_end-end.new.row in
     let passed = c.quiet_end-end.ensures in
-    let list : first_of (set rows 0 c.seek.new.self) ≡ cut c.min.result m = only_set rows c.seek.new.self passed.one ∙ c.seek.ensures.member ∙ ap (cut c.min.result) (only_at rows c.index-row-0-else-is_above.result passed.one ∙ passed.same) in
+    let list : first_of (set rows 0 c.seek.new.self) ≡ cut c.min.result m = only_set rows c.seek.new.self passed.one
+    ∙ c.seek.ensures.member ∙ ap (cut c.min.result) (only_at rows c.index-row-0-else-is_above.result passed.one ∙ passed.same) in
     let far : head m ≤ end_at (head m) m.blocks = end_at_le (head m) m.blocks (omega (arith, c.requires.below, c.requires.here)) in
     let end : c.args.known.end ≡ end_at (head m) m.blocks = c.requires.end ∙ ap (λ d. end_at d m.blocks) c.requires.here in
-    omega (arith, ap (λ (n : Member). length n.entries) list, fewer_cut m c.min.result (omega (arith, c.min.ensures, c.saturating_add.ensures, end, far, passed.from, c.requires.below, c.requires.here)) (omega (arith, c.min.ensures)))
+    omega (
+      arith,
+      ap (λ (n : Member). length n.entries) list,
+      fewer_cut m c.min.result
+          (omega (arith, c.min.ensures, c.saturating_add.ensures, end, far, passed.from, c.requires.below, c.requires.here)) (omega (arith, c.min.ensures)),
+    )
 
 pub returns-else-is_above-clause-later : goal.returns-else-is_above-clause-later
 returns-else-is_above-clause-later g c =
@@ -117,10 +128,23 @@ returns-else-is_above-clause-later g c =
     let h : IsMember m = law_first c.args.row.now c.requires.one c.requires.valid in
     let rows = c.quiet_end-end.new.row in
     let passed = c.quiet_end-end.ensures in
-    let list : first_of (set rows 0 c.seek.new.self) ≡ cut c.min.result m = only_set rows c.seek.new.self passed.one ∙ c.seek.ensures.member ∙ ap (cut c.min.result) (only_at rows c.index-row-0-else-is_above.result passed.one ∙ passed.same) in
+    let list : first_of (set rows 0 c.seek.new.self) ≡ cut c.min.result m = only_set rows c.seek.new.self passed.one
+    ∙ c.seek.ensures.member ∙ ap (cut c.min.result) (only_at rows c.index-row-0-else-is_above.result passed.one ∙ passed.same) in
     let far : head m ≤ end_at (head m) m.blocks = end_at_le (head m) m.blocks (omega (arith, c.requires.below, c.requires.here)) in
     let end : c.args.known.end ≡ end_at (head m) m.blocks = c.requires.end ∙ ap (λ d. end_at d m.blocks) c.requires.here in
-    omega (arith, ap head list, bounded_head c.min.result m.blocks (cut c.min.result m).entries (AreBounded-from 0 c.min.result m.blocks m.entries h.entries).0 (omega (arith, c.min.ensures)), c.min.ensures, c.saturating_add.ensures, end, far, passed.from, c.requires.below, c.requires.here)
+    omega (
+      arith,
+      ap head list,
+      bounded_head c.min.result m.blocks (cut c.min.result m).entries (AreBounded-from 0 c.min.result m.blocks m.entries h.entries).0
+          (omega (arith, c.min.ensures)),
+      c.min.ensures,
+      c.saturating_add.ensures,
+      end,
+      far,
+      passed.from,
+      c.requires.below,
+      c.requires.here,
+    )
 
 pub returns-else-is_above-clause-past : goal.returns-else-is_above-clause-past
 returns-else-is_above-clause-past g c = λ no.
@@ -128,8 +152,17 @@ returns-else-is_above-clause-past g c = λ no.
     let h : IsMember m = law_first c.args.row.now c.requires.one c.requires.valid in
     let rows = c.quiet_end-end.new.row in
     let passed = c.quiet_end-end.ensures in
-    let list : first_of (set rows 0 c.seek.new.self) ≡ cut c.min.result m = only_set rows c.seek.new.self passed.one ∙ c.seek.ensures.member ∙ ap (cut c.min.result) (only_at rows c.index-row-0-else-is_above.result passed.one ∙ passed.same) in
-    omega (arith, ap head list, bounded_head c.min.result m.blocks (cut c.min.result m).entries (AreBounded-from 0 c.min.result m.blocks m.entries h.entries).0 (omega (arith, c.min.ensures)), c.min.ensures, c.saturating_add.ensures, passed.from)
+    let list : first_of (set rows 0 c.seek.new.self) ≡ cut c.min.result m = only_set rows c.seek.new.self passed.one
+    ∙ c.seek.ensures.member ∙ ap (cut c.min.result) (only_at rows c.index-row-0-else-is_above.result passed.one ∙ passed.same) in
+    omega (
+      arith,
+      ap head list,
+      bounded_head c.min.result m.blocks (cut c.min.result m).entries
+          (AreBounded-from 0 c.min.result m.blocks m.entries h.entries).0 (omega (arith, c.min.ensures)),
+      c.min.ensures,
+      c.saturating_add.ensures,
+      passed.from,
+    )
 
 pub returns-else-is_above-clause-turn : goal.returns-else-is_above-clause-turn
 returns-else-is_above-clause-turn g c =
@@ -140,10 +173,12 @@ returns-else-is_above-clause-turn g c =
     let rows = c.quiet_end-end.new.row in
     let passed = c.quiet_end-end.ensures in
     let t = c.min.result in
-    let list : first_of (set rows 0 c.seek.new.self) ≡ cut t m = only_set rows c.seek.new.self passed.one ∙ c.seek.ensures.member ∙ ap (cut t) (only_at rows c.index-row-0-else-is_above.result passed.one ∙ passed.same) in
+    let list : first_of (set rows 0 c.seek.new.self) ≡ cut t m = only_set rows c.seek.new.self passed.one
+    ∙ c.seek.ensures.member ∙ ap (cut t) (only_at rows c.index-row-0-else-is_above.result passed.one ∙ passed.same) in
     inl (record {
       quiet = (is, refl, refl);
       target = t;
       list = list;
-      passes = subst (λ (n : Member). Passes th t (m ∷ []) (n ∷ [])) (sym list) (passes_quiet th m t c.quiet_end-end.result h (omega (arith, c.min.ensures, c.saturating_add.ensures)) (rw is at passed.quiet));
+      passes = subst (λ (n : Member). Passes th t (m ∷ []) (n ∷ [])) (sym list)
+          (passes_quiet th m t c.quiet_end-end.result h (omega (arith, c.min.ensures, c.saturating_add.ensures)) (rw is at passed.quiet));
     })

@@ -20,7 +20,8 @@ pub block_wand-requires-clause-callable : goal.block_wand-requires-clause-callab
 block_wand-requires-clause-callable g c =
     let combined = g.C.ScoreCombiner.combined c.args.combiner in
     let same : gather 1 combined (map (tree_entries g.S.DocSet) c.args.should.items) ≡ gather 1 combined (map scored_left c.in_ok-terms.terms.items)
-    = gathered_terms g.S.DocSet combined c.args.should.items c.requires.terms ∙ ap (λ ts. gather 1 combined (map scored_left ts)) (sym c.in_ok-terms.ensures.terms) in
+    = gathered_terms g.S.DocSet combined c.args.should.items c.requires.terms
+    ∙ ap (λ ts. gather 1 combined (map scored_left ts)) (sym c.in_ok-terms.ensures.terms) in
     MayPrune-at (InRange (goal.F-step g)) (goal.F-pre g) c.args.threshold _ c.args.callback.now _ (to_z-of_z w64 c.args.threshold c.ranges.threshold)
     (subst (λ (es : List Entry). MayPrune (InRange (goal.F-step g)) (goal.F-pre g) c.args.threshold c.args.callback.now es) same c.requires.allowed)
 
@@ -30,13 +31,19 @@ returns-in_err-block_wand-clause-past g c =
     let is : c.from_residual-in_err-block_wand.result ≡ Err e = search rules in
     λ past.
     let bound : e ≡ ScoreBound = ap (error_of e) (sym is ∙ past) in
-    omega (arith, c.in_err-block_wand.ensures.refused.0 (ap Err bound), ap (λ ts. total_top (map member_of ts)) c.in_ok-terms.ensures.terms, tops_terms g.S.DocSet c.args.should.items c.requires.terms)
+    omega (
+      arith,
+      c.in_err-block_wand.ensures.refused.0 (ap Err bound),
+      ap (λ ts. total_top (map member_of ts)) c.in_ok-terms.ensures.terms,
+      tops_terms g.S.DocSet c.args.should.items c.requires.terms,
+    )
 
 pub returns-clause-calls : goal.returns-clause-calls
 returns-clause-calls g c =
     let combined = g.C.ScoreCombiner.combined c.args.combiner in
     let same : gather 1 combined (map (tree_entries g.S.DocSet) c.args.should.items) ≡ gather 1 combined (map scored_left c.in_ok-terms.terms.items)
-    = gathered_terms g.S.DocSet combined c.args.should.items c.requires.terms ∙ ap (λ ts. gather 1 combined (map scored_left ts)) (sym c.in_ok-terms.ensures.terms) in
+    = gathered_terms g.S.DocSet combined c.args.should.items c.requires.terms
+    ∙ ap (λ ts. gather 1 combined (map scored_left ts)) (sym c.in_ok-terms.ensures.terms) in
     let run = c.in_ok-block_wand.ensures.run in
     let call = InRange (goal.F-step g) in
     let th = c.args.threshold in

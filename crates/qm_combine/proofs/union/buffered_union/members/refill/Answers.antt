@@ -1,5 +1,6 @@
 -- One more member is taken through the window.
-use Rattle.std.proofs.Common.{◌≡◌, ℕ, ◌+◌, ◌<◌, ◌≤◌, ◌||◌, false, true, nat_le, All, List, [], ◌∷◌, ◌++◌, fold, get_or, length, map, set, take, ap, ap₂, arith, refl, sym, true≢false, ◌∙◌, inl, inr}
+use Rattle.std.proofs.Common.{◌≡◌, ℕ, ◌+◌, ◌<◌, ◌≤◌, ◌||◌, false, true, nat_le, All, List, [], ◌∷◌, ◌++◌, fold, get_or, length, map, set, take, ap, ap₂, arith}
+use Rattle.std.proofs.Common.{refl, sym, true≢false, ◌∙◌, inl, inr}
 use Rattle.std.proofs.lemmas.Bool.{cases_lt, le-leb}
 use Rattle.std.proofs.lemmas.List.{get_or_default, length-map, take_all}
 use Rattle.std.proofs.lemmas.List.Elements.{All-set}

@@ -1,5 +1,6 @@
 -- A cursor over one document hands the combiner the score.
-use Rattle.std.proofs.Common.{◌≡◌, ◌<◌, ◌-◌, ◌==◌, ◌||◌, [], ◌∷◌, ◌++◌, take, drop, length, nat_abs, ne_eqb, w64, arith, refl, ap, ap₂, sym, subst, ◌∙◌, inl, inr}
+use Rattle.std.proofs.Common.{◌≡◌, ◌<◌, ◌-◌, ◌==◌, ◌||◌, [], ◌∷◌, ◌++◌, take, drop, length, nat_abs, ne_eqb, w64, arith, refl, ap, ap₂, sym, subst, ◌∙◌, inl}
+use Rattle.std.proofs.Common.{inr}
 use Rattle.std.proofs.lemmas.Bool.{cases_eq, cases_lt}
 use Rattle.std.proofs.lemmas.Int.{to_z-of_z}
 use Rattle.qm_docset.specs.Entry.{Limits, head_document, head_score}

@@ -1,5 +1,6 @@
 -- A document of the scorer is put in, and the scorer steps on.
-use Rattle.std.proofs.Common.{◌≡◌, ◌≢◌, ℕ, ◌+◌, ◌-◌, ◌<◌, ◌||◌, nat_le, [], List, drop, fold, length, min, ap, ap₂, sym, subst, refl, arith, true, eq-eqb, ne_eqb, ◌∙◌, inl, inr}
+use Rattle.std.proofs.Common.{◌≡◌, ◌≢◌, ℕ, ◌+◌, ◌-◌, ◌<◌, ◌||◌, nat_le, [], List, drop, fold, length, min, ap, ap₂, sym, subst, refl, arith, true, eq-eqb}
+use Rattle.std.proofs.Common.{ne_eqb, ◌∙◌, inl, inr}
 use Rattle.std.proofs.lemmas.Bool.{cases_Bool, cases_eq, cases_lt, leb-true}
 use Rattle.qm_docset.specs.Entry.{Limits, from, head_document, head_score}
 use Rattle.qm_docset.specs.EntryFacts.{from-reached}
@@ -8,7 +9,8 @@ use Rattle.qm_combine.specs.WindowStates.{state_of_place}
 use Rattle.qm_combine.specs.Window.{window_has, window_state}
 use Rattle.qm_combine.specs.Windowed.{scores_of}
 use Rattle.qm_combine.proofs.Leading.{whole}
-use Rattle.qm_combine.proofs.TakenIn.{from-all_passed, next-past, scores_of-ahead, step_min, taken, taken-all, taken-before, taken-beyond, taken-first, taken-here, taken-other}
+use Rattle.qm_combine.proofs.TakenIn.{from-all_passed, next-past, scores_of-ahead, step_min, taken, taken-all, taken-before, taken-beyond, taken-first}
+use Rattle.qm_combine.proofs.TakenIn.{taken-here, taken-other}
 use Rattle.qm_combine.proofs.Windows.{or_false, or_true}
 use Rattle.qm_combine.proofs.WindowWords.{has_at, has_at-before, has_at-from, has_at-past, state_at, state_at-before, state_at-from}
 use Rattle.qm_combine.proofs.union.window.Window.take_in.Goals as goal

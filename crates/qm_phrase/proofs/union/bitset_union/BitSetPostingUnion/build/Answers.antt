@@ -21,7 +21,8 @@ returns g c =
     let limits : bounds g.D.DocSet new ≡ bounds g.D.DocSet members.items = step.ensures.limits ∙ ap (bounds g.D.DocSet) c.deref_mut.ensures.value in
     record {
       lists = record {
-        entries = rw same (over-moved no_limits set old (lists g.D.DocSet new) (AreEntries-remaining c.args.bitset c.requires.set.valid) (rw c.doc.ensures at left));
+        entries =
+            rw same (over-moved no_limits set old (lists g.D.DocSet new) (AreEntries-remaining c.args.bitset c.requires.set.valid) (rw c.doc.ensures at left));
         limits = rw same (ap postings_limits limits);
         valid = record {
           set = c.requires.set.valid;

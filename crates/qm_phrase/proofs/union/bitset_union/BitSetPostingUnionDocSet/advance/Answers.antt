@@ -18,7 +18,8 @@ returns-clause-entries g c =
     let old = lists g.D.DocSet members.items in
     let same = whole members.len step.new.members members.items (step.auto.members ∙ ap length c.deref_mut.ensures.value) members.ok.0 in
     let left = step.ensures.entries ∙ ap (λ xs. map (from c.advance-doc.result) (lists g.D.DocSet xs)) c.deref_mut.ensures.value in
-    let moved = over-moved no_limits set old (lists g.D.DocSet step.new.members) (AreEntries-remaining c.advance-doc.new.self c.advance-doc.ensures.valid) (rw c.advance-doc.ensures.head at left) in
+    let moved = over-moved no_limits set old (lists g.D.DocSet step.new.members)
+    (AreEntries-remaining c.advance-doc.new.self c.advance-doc.ensures.valid) (rw c.advance-doc.ensures.head at left) in
     rw same (moved ∙ ap (λ r. united_over r old) c.advance-doc.ensures.entries ∙ drop-over (remaining_members c.args.self.now.bitset) old)
 
 pub returns-clause-head : goal.returns-clause-head

@@ -18,7 +18,8 @@ returns-clause-entries g c =
     let old = lists g.D.DocSet members.items in
     let same = whole members.len step.new.members members.items (step.auto.members ∙ ap length c.deref_mut.ensures.value) members.ok.0 in
     let left = step.ensures.entries ∙ ap (λ xs. map (from c.seek-doc.result) (lists g.D.DocSet xs)) c.deref_mut.ensures.value in
-    let moved = over-moved no_limits set old (lists g.D.DocSet step.new.members) (AreEntries-remaining c.seek-doc.new.self c.seek-doc.ensures.valid) (rw c.seek-doc.ensures.head at left) in
+    let moved = over-moved no_limits set old (lists g.D.DocSet step.new.members)
+    (AreEntries-remaining c.seek-doc.new.self c.seek-doc.ensures.valid) (rw c.seek-doc.ensures.head at left) in
     rw same (moved ∙ ap (λ r. united_over r old) c.seek-doc.ensures.entries ∙ from-over c.args.target (remaining_members c.args.self.now.bitset) old)
 
 pub returns-clause-head : goal.returns-clause-head

@@ -19,8 +19,10 @@ returns-clause-alone g c = λ none.
     let ess = lists g.D.DocSet s.members.items in
     let set = remaining_members s.bitset in
     let here = head_positions-over set ess (omega (arith, c.requires.here, head_document-over set ess)) in
-    let positions = ap (λ d. united_positions (entries_at d (lists g.D.DocSet c.deref_mut.result.now))) c.doc-doc.ensures ∙ ap (λ xs. united_positions (entries_at (head_document set) (lists g.D.DocSet xs))) c.deref_mut.ensures.value in
-    alone c.args.offset c.args.output.now.items c.append_positions.new.output.items _ none (ArePositions-united_positions _) c.append_positions.ensures.added c.append_positions.ensures.ascending ∙ ap (shifted c.args.offset) (positions ∙ sym here)
+    let positions = ap (λ d. united_positions (entries_at d (lists g.D.DocSet c.deref_mut.result.now))) c.doc-doc.ensures
+    ∙ ap (λ xs. united_positions (entries_at (head_document set) (lists g.D.DocSet xs))) c.deref_mut.ensures.value in
+    alone c.args.offset c.args.output.now.items c.append_positions.new.output.items _ none (ArePositions-united_positions _)
+    c.append_positions.ensures.added c.append_positions.ensures.ascending ∙ ap (shifted c.args.offset) (positions ∙ sym here)
 
 pub returns-clause-valid : goal.returns-clause-valid
 returns-clause-valid g c =
@@ -32,7 +34,8 @@ returns-clause-valid g c =
       set = c.requires.valid.set;
       on_member = c.requires.valid.on_member;
       members = rw same c.append_positions.ensures.members;
-      aligned = rw same (All-same_lists g.D.DocSet.entries (λ es. head_document (remaining_members s.bitset) ≤ head_document es) s.members.items new kept c.requires.valid.aligned);
+      aligned = rw same (All-same_lists g.D.DocSet.entries
+          (λ es. head_document (remaining_members s.bitset) ≤ head_document es) s.members.items new kept c.requires.valid.aligned);
     }
 
 pub append_positions-requires-clause-members : goal.append_positions-requires-clause-members

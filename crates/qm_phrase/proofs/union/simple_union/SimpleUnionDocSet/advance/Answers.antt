@@ -14,7 +14,8 @@ pub overflow_add-self : goal.overflow_add-self
 overflow_add-self g c =
     let s = c.args.self.now in
     let h = c.requires.valid in
-    let ascends = AreEntries-united g.D.DocSet.limits g.D.DocSet.entries s.members.items (λ k d below. g.met.D.DocSet.ascending _ (h.members.valid k d below)) in
+    let ascends =
+    AreEntries-united g.D.DocSet.limits g.D.DocSet.entries s.members.items (λ k d below. g.met.D.DocSet.ascending _ (h.members.valid k d below)) in
     let first = h.first ∙ head_document-united g.D.DocSet.valid g.D.DocSet.limits g.D.DocSet.entries g.met.D.DocSet.ascending s.members.items h.members.valid in
     omega (arith, (head_document-bounds 0 _ _ (omega arith) ascends).1, first)
 
@@ -22,7 +23,8 @@ pub returns-clause-entries : goal.returns-clause-entries
 returns-clause-entries g c =
     let s = c.args.self.now in
     let h = c.requires.valid in
-    let ascends = AreEntries-united g.D.DocSet.limits g.D.DocSet.entries s.members.items (λ k d below. g.met.D.DocSet.ascending _ (h.members.valid k d below)) in
+    let ascends =
+    AreEntries-united g.D.DocSet.limits g.D.DocSet.entries s.members.items (λ k d below. g.met.D.DocSet.ascending _ (h.members.valid k d below)) in
     let list = united_entries (lists g.D.DocSet s.members.items) in
     let first = h.first ∙ head_document-united g.D.DocSet.valid g.D.DocSet.limits g.D.DocSet.entries g.met.D.DocSet.ascending s.members.items h.members.valid in
     c.seek.ensures.entries ∙ ap (λ t. from t list) (c.min.ensures ∙ ap (λ d. min (d + 1) TERMINATED) first) ∙ next_or_end _ list ascends

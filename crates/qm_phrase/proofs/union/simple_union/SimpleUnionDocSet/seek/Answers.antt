@@ -13,7 +13,8 @@ pub returns-then-target-self : goal.returns-then-target-self
 returns-then-target-self g c =
     let s = c.args.self.now in
     let h = c.requires.valid in
-    let ascends = AreEntries-united g.D.DocSet.limits g.D.DocSet.entries s.members.items (λ k d below. g.met.D.DocSet.ascending _ (h.members.valid k d below)) in
+    let ascends =
+    AreEntries-united g.D.DocSet.limits g.D.DocSet.entries s.members.items (λ k d below. g.met.D.DocSet.ascending _ (h.members.valid k d below)) in
     let first = h.first ∙ head_document-united g.D.DocSet.valid g.D.DocSet.limits g.D.DocSet.entries g.met.D.DocSet.ascending s.members.items h.members.valid in
     record {
       head = first;
@@ -33,8 +34,10 @@ returns g c =
     let limits : bounds g.D.DocSet new ≡ bounds g.D.DocSet members.items = step.ensures.limits ∙ ap (bounds g.D.DocSet) c.deref_mut.ensures.value in
     let left = step.ensures.entries ∙ ap (λ xs. map (from c.args.target) (lists g.D.DocSet xs)) c.deref_mut.ensures.value in
     record {
-      head = rw same (step.ensures.least ∙ head_document-united g.D.DocSet.valid g.D.DocSet.limits g.D.DocSet.entries g.met.D.DocSet.ascending new step.ensures.valid);
-      entries = rw same (united-sought g.D.DocSet.entries g.D.DocSet.limits c.args.target (lists g.D.DocSet members.items) new (λ k d below. g.met.D.DocSet.ascending _ (step.ensures.valid k d below)) (λ k d below. (step.ensures.reached k d below).1) left);
+      head = rw same
+          (step.ensures.least ∙ head_document-united g.D.DocSet.valid g.D.DocSet.limits g.D.DocSet.entries g.met.D.DocSet.ascending new step.ensures.valid);
+      entries = rw same (united-sought g.D.DocSet.entries g.D.DocSet.limits c.args.target (lists g.D.DocSet members.items) new
+          (λ k d below. g.met.D.DocSet.ascending _ (step.ensures.valid k d below)) (λ k d below. (step.ensures.reached k d below).1) left);
       limits = rw same (ap postings_limits limits);
       kept = λ s k. tt;
       valid = record {

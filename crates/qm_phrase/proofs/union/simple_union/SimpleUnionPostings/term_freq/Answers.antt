@@ -11,15 +11,31 @@ use Rattle.qm_phrase.proofs.union.simple_union.SimpleUnionPostings.term_freq.Goa
 pub frequency_at-requires-clause-doc : goal.frequency_at-requires-clause-doc
 frequency_at-requires-clause-doc g c =
     let h = c.requires.valid in
-    omega (arith, c.requires.here, h.first, head_document-united g.D.DocSet.valid g.D.DocSet.limits g.D.DocSet.entries g.met.D.DocSet.ascending c.args.self.now.members.items h.members.valid)
+    omega (
+      arith,
+      c.requires.here,
+      h.first,
+      head_document-united g.D.DocSet.valid g.D.DocSet.limits g.D.DocSet.entries g.met.D.DocSet.ascending c.args.self.now.members.items h.members.valid,
+    )
 
 pub frequency_at-requires-clause-reached : goal.frequency_at-requires-clause-reached
 frequency_at-requires-clause-reached g c = λ k d below.
-    omega (arith, least_head-le g.D.DocSet.entries c.deref.result.now k d below, c.requires.valid.first, ap (λ xs. least_head (lists g.D.DocSet xs)) c.deref.ensures.value)
+    omega (
+      arith,
+      least_head-le g.D.DocSet.entries c.deref.result.now k d below,
+      c.requires.valid.first,
+      ap (λ xs. least_head (lists g.D.DocSet xs)) c.deref.ensures.value,
+    )
 
 pub returns : goal.returns
 returns g c =
     let s = c.args.self.now in
     let h = c.requires.valid in
-    let below : s.doc < TERMINATED = omega (arith, c.requires.here, h.first, head_document-united g.D.DocSet.valid g.D.DocSet.limits g.D.DocSet.entries g.met.D.DocSet.ascending s.members.items h.members.valid) in
-    c.frequency_at.ensures ∙ ap (λ xs. united_frequency (entries_at s.doc (lists g.D.DocSet xs))) c.deref.ensures.value ∙ sym (union-frequency g.D.DocSet.valid g.D.DocSet.limits g.D.DocSet.entries g.met.D.DocSet.ascending s.doc s.members.items h.members.valid h.first below)
+    let below : s.doc < TERMINATED = omega (
+      arith,
+      c.requires.here,
+      h.first,
+      head_document-united g.D.DocSet.valid g.D.DocSet.limits g.D.DocSet.entries g.met.D.DocSet.ascending s.members.items h.members.valid,
+    ) in
+    c.frequency_at.ensures ∙ ap (λ xs. united_frequency (entries_at s.doc (lists g.D.DocSet xs))) c.deref.ensures.value ∙ sym
+    (union-frequency g.D.DocSet.valid g.D.DocSet.limits g.D.DocSet.entries g.met.D.DocSet.ascending s.doc s.members.items h.members.valid h.first below)

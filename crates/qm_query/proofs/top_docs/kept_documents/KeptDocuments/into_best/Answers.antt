@@ -14,4 +14,5 @@ returns-clause-best c =
     let same : ranked items ≡ sorted =
     ranking-permutation worst_last worst_last-total worst_last-same items sorted c.into_sorted_vec-sorted.ensures.permutation
     ∙ ranking-sorted worst_last worst_last-total worst_last-same sorted (c.into_sorted_vec-sorted.ensures.sorted c.args.self.ordered) in
-    c.loop-document.invariant ∙ ap (map answer_of) (take_all c.loop-document.document-index c.deref-document-items.result.now c.loop-document-test.false ∙ c.deref-document-items.ensures.value ∙ sym same)
+    c.loop-document.invariant ∙ ap (map answer_of)
+    (take_all c.loop-document.document-index c.deref-document-items.result.now c.loop-document-test.false ∙ c.deref-document-items.ensures.value ∙ sym same)

@@ -9,7 +9,8 @@ returns-clause-valid c = record { valid = c.advance.ensures.valid; top = c.requi
 
 pub returns-clause-member : goal.returns-clause-member
 unfolding wand_member
-returns-clause-member c = next-member c.args.self.now.scorer c.advance.new.self (c.advance.ensures.kept c.args.self.now.scorer (ScoresAs-self c.args.self.now.scorer)).blocks c.advance.ensures.limits c.advance.ensures.entries
+returns-clause-member c = next-member c.args.self.now.scorer c.advance.new.self
+    (c.advance.ensures.kept c.args.self.now.scorer (ScoresAs-self c.args.self.now.scorer)).blocks c.advance.ensures.limits c.advance.ensures.entries
 
 pub returns-clause-looked : goal.returns-clause-looked
 unfolding wand_member looked_by

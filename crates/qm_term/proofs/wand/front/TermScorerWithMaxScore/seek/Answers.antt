@@ -9,7 +9,8 @@ returns-clause-valid c = record { valid = c.seek.ensures.valid; top = c.requires
 
 pub returns-clause-member : goal.returns-clause-member
 unfolding wand_member
-returns-clause-member c = cut-member c.args.self.now.scorer c.seek.new.self (c.seek.ensures.kept c.args.self.now.scorer (ScoresAs-self c.args.self.now.scorer)).blocks c.seek.ensures.limits c.args.target c.seek.ensures.entries
+returns-clause-member c = cut-member c.args.self.now.scorer c.seek.new.self
+    (c.seek.ensures.kept c.args.self.now.scorer (ScoresAs-self c.args.self.now.scorer)).blocks c.seek.ensures.limits c.args.target c.seek.ensures.entries
 
 pub returns-clause-looked : goal.returns-clause-looked
 unfolding wand_member looked_by

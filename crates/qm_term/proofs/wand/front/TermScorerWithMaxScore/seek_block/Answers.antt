@@ -9,7 +9,8 @@ returns-clause-valid c = record { valid = c.seek_block.ensures.valid; top = c.re
 
 pub returns-clause-member : goal.returns-clause-member
 unfolding wand_member
-returns-clause-member c = same-member c.args.self.now.scorer c.seek_block.new.self (c.seek_block.ensures.kept c.args.self.now.scorer (ScoresAs-self c.args.self.now.scorer)).blocks c.seek_block.ensures.limits c.seek_block.ensures.entries
+returns-clause-member c = same-member c.args.self.now.scorer c.seek_block.new.self
+    (c.seek_block.ensures.kept c.args.self.now.scorer (ScoresAs-self c.args.self.now.scorer)).blocks c.seek_block.ensures.limits c.seek_block.ensures.entries
 
 pub returns-clause-looked : goal.returns-clause-looked
 unfolding wand_member looked_by

@@ -15,7 +15,8 @@ pub turn-requires-clause-callable : goal.turn-requires-clause-callable
 turn-requires-clause-callable g c =
     let w = fnmut.words g.row.C g.row.F g.F.FnMut in
     let inside = c.loop.invariant in
-    subst (λ x. MayPrune (InRange w.step) w.pre (run_threshold c.loop.self) c.loop.callback (united (g.C.ScoreCombiner.combined x) (run_lists c.loop.self))) (sym inside.combiner) inside.may
+    subst (λ x. MayPrune (InRange w.step) w.pre (run_threshold c.loop.self) c.loop.callback (united (g.C.ScoreCombiner.combined x) (run_lists c.loop.self)))
+    (sym inside.combiner) inside.may
 
 pub loop-preserved : goal.loop-preserved
 loop-preserved g c =
@@ -36,7 +37,8 @@ loop-preserved g c =
     let ls = r.lists in
     let turn : IsTurn call combined th c.loop.callback ms bar c.turn.new.callback ls made.ticked r.pivot =
     subst (λ x. IsTurn call (g.C.ScoreCombiner.combined x) th c.loop.callback ms bar c.turn.new.callback ls made.ticked r.pivot) inside.combiner r.turn in
-    let i : AreMembers ls = members_permuted ls ns r.order (row_members c.turn.new.self.scorers.items c.turn.new.self.heads.items c.turn.ensures.valid.row.heads) in
+    let i : AreMembers ls =
+    members_permuted ls ns r.order (row_members c.turn.new.self.scorers.items c.turn.new.self.heads.items c.turn.ensures.valid.row.heads) in
     record {
       valid = c.turn.ensures.valid;
       combiner = c.turn.ensures.combiner ∙ inside.combiner;

@@ -1,4 +1,5 @@
-use Rattle.std.proofs.Common.{◌≡◌, ◌∙◌, ℕ, ℤ, ◌+◌, ◌<◌, ◌≤◌, ◌++◌, Bool, List, ap, arith, cond, drop, false, length, refl, rules, subst, sym, take, true, to_z, of_z, w64}
+use Rattle.std.proofs.Common.{◌≡◌, ◌∙◌, ℕ, ℤ, ◌+◌, ◌<◌, ◌≤◌, ◌++◌, Bool, List, ap, arith, cond, drop, false, length, refl, rules, subst, sym, take, true, to_z}
+use Rattle.std.proofs.Common.{of_z, w64}
 use Rattle.std.specs.List.Sorted.{IsPermutation}
 use mir.Val.{SFits, bool_byte}
 use Rattle.std.proofs.lemmas.Int.{to_z-of_z}
@@ -46,8 +47,10 @@ turn_row-turned-requires-clause-callable g c =
     let th = self.threshold in
     let fits : SFits w64 th = search rules in
     let is : to_z w64 (of_z w64 th) ≡ th = to_z-of_z w64 th fits in
-    let same : row_lists sd hd ≡ row_lists ss hs = ap (λ (xs : List TermScorerWithMaxScore). row_lists xs hd) c.deref_mut-2.ensures.value ∙ ap (row_lists ss) c.deref_mut.ensures.value in
-    rw is (subst (λ (ms : List Member). MayPrune (InRange w.step) w.pre th c.args.callback.now (united (g.C.ScoreCombiner.combined self.combiner) ms)) (sym same) c.requires.callable)
+    let same : row_lists sd hd ≡ row_lists ss hs = ap (λ (xs : List TermScorerWithMaxScore). row_lists xs hd) c.deref_mut-2.ensures.value
+    ∙ ap (row_lists ss) c.deref_mut.ensures.value in
+    rw is (subst (λ (ms : List Member). MayPrune (InRange w.step) w.pre th c.args.callback.now (united (g.C.ScoreCombiner.combined self.combiner) ms))
+    (sym same) c.requires.callable)
 
 pub returns-clause-valid : goal.returns-clause-valid
 returns-clause-valid g c =
@@ -64,7 +67,8 @@ returns-clause-valid g c =
     let bar = c.turn_row-turned.result.threshold in
     let fits_bar : SFits w64 bar = search rules in
     let is_bar : to_z w64 (of_z w64 bar) ≡ bar = to_z-of_z w64 bar fits_bar in
-    let same : row_lists sd hd ≡ row_lists ss hs = ap (λ (xs : List TermScorerWithMaxScore). row_lists xs hd) c.deref_mut-2.ensures.value ∙ ap (row_lists ss) c.deref_mut.ensures.value in
+    let same : row_lists sd hd ≡ row_lists ss hs = ap (λ (xs : List TermScorerWithMaxScore). row_lists xs hd) c.deref_mut-2.ensures.value
+    ∙ ap (row_lists ss) c.deref_mut.ensures.value in
     let hw = take self.heads.len (gs ++ drop (length gs) hs) in
     let sw = take self.scorers.len (ts ++ drop (length ts) ss) in
     let wg : hw ≡ gs = whole _ hs gs self.heads.ok.0 (omega (arith, c.turn_row-turned.auto.heads, ap length c.deref_mut.ensures.value)) in
@@ -77,7 +81,11 @@ returns-clause-valid g c =
       room = room_after c.turn_row-turned.result.found (2 ^ 127) self.turns (postings (row_lists ss hs)) (postings (row_lists sw hw)) valid.room
           (λ e. omega (arith, (c.turn_row-turned.ensures.turn e).fewer, ap postings after, ap postings same))
           (λ e. ap postings after ∙ ap postings (c.turn_row-turned.ensures.none e).lists ∙ ap postings same);
-      ticks = omega (arith, c.turn_row-turned.ensures.ticks, ticks_after c.turn_row-turned.result.found c.turn_row-turned.result.ticked self.ticks.count self.turns valid.ticks c.turn_row-turned.ensures.no_tick);
+      ticks = omega (
+        arith,
+        c.turn_row-turned.ensures.ticks,
+        ticks_after c.turn_row-turned.result.found c.turn_row-turned.result.ticked self.ticks.count self.turns valid.ticks c.turn_row-turned.ensures.no_tick,
+      );
     }
 
 pub returns-clause-none : goal.returns-clause-none
@@ -95,7 +103,8 @@ returns-clause-none g c =
     let bar = c.turn_row-turned.result.threshold in
     let fits_bar : SFits w64 bar = search rules in
     let is_bar : to_z w64 (of_z w64 bar) ≡ bar = to_z-of_z w64 bar fits_bar in
-    let same : row_lists sd hd ≡ row_lists ss hs = ap (λ (xs : List TermScorerWithMaxScore). row_lists xs hd) c.deref_mut-2.ensures.value ∙ ap (row_lists ss) c.deref_mut.ensures.value in
+    let same : row_lists sd hd ≡ row_lists ss hs = ap (λ (xs : List TermScorerWithMaxScore). row_lists xs hd) c.deref_mut-2.ensures.value
+    ∙ ap (row_lists ss) c.deref_mut.ensures.value in
     let hw = take self.heads.len (gs ++ drop (length gs) hs) in
     let sw = take self.scorers.len (ts ++ drop (length ts) ss) in
     let wg : hw ≡ gs = whole _ hs gs self.heads.ok.0 (omega (arith, c.turn_row-turned.auto.heads, ap length c.deref_mut.ensures.value)) in
@@ -133,7 +142,8 @@ returns-clause-turn g c =
     let bar = c.turn_row-turned.result.threshold in
     let fits_bar : SFits w64 bar = search rules in
     let is_bar : to_z w64 (of_z w64 bar) ≡ bar = to_z-of_z w64 bar fits_bar in
-    let same : row_lists sd hd ≡ row_lists ss hs = ap (λ (xs : List TermScorerWithMaxScore). row_lists xs hd) c.deref_mut-2.ensures.value ∙ ap (row_lists ss) c.deref_mut.ensures.value in
+    let same : row_lists sd hd ≡ row_lists ss hs = ap (λ (xs : List TermScorerWithMaxScore). row_lists xs hd) c.deref_mut-2.ensures.value
+    ∙ ap (row_lists ss) c.deref_mut.ensures.value in
     let hw = take self.heads.len (gs ++ drop (length gs) hs) in
     let sw = take self.scorers.len (ts ++ drop (length ts) ss) in
     let wg : hw ≡ gs = whole _ hs gs self.heads.ok.0 (omega (arith, c.turn_row-turned.auto.heads, ap length c.deref_mut.ensures.value)) in
