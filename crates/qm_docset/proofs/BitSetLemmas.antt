@@ -1,8 +1,8 @@
 -- The words of a BitSet and its members.
-use Rattle.std.proofs.Common.{◌≡◌, ℕ, ◌+◌, ◌-◌, ◌*◌, ◌/◌, ◌%◌, ◌<◌, ◌≤◌, Bool, true, false, ◌&&◌, ◌||◌, ltb, nat_lt, ◌==◌, List, [], length, get_or, set, map}
+use Rattle.std.proofs.Common.{◌≡◌, ℕ, ◌+◌, ◌-◌, ◌*◌, ◌/◌, ◌%◌, ◌<◌, ◌≤◌, Bool, true, false, not, ◌&&◌, ◌||◌, ltb, nat_lt, ◌==◌, List, [], length, get_or, set, map}
 use Rattle.std.proofs.Common.{replicate, slice_get, option_map, Some, None, IsTrue, refl, sym, ap, ◌∙◌, inl, inr, arith, eq-eqb, ne_eqb, lt-ltb, le-ltb, le-leb}
 use Rattle.std.proofs.Common.{nat_le, eqb-true}
-use Rattle.std.proofs.lemmas.Bool.{cases_eq, cases_lt, lt-leb, and_right, or_cases, false_from_ne_true}
+use Rattle.std.proofs.lemmas.Bool.{cases_eq, cases_lt, lt-leb, and_parts, and_right, or_cases, false_from_ne_true}
 use Rattle.std.proofs.lemmas.List.{length-append, length-map, get_or-set_same, get_or-set_other, get_or_past, get_or-replicate, get_or_read, length-replicate}
 use Rattle.qm_docset.specs.declared.tiny_set.TinySet.{TinySet}
 use Rattle.qm_docset.specs.Members.{members_between}
@@ -76,6 +76,29 @@ module _ (words : List TinySet) (el : ℕ) (was word : TinySet) (inside : el / 6
         | inl same ↦ let here = eqb-true x el same in omega arith
         | inr old ↦ within x old
       ]
+
+-- a number is taken out of its word
+module _ (words : List TinySet) (el : ℕ) (was word : TinySet) (inside : el / 64 < length words) (read : was ≡ get_or words (el / 64) was)
+    (less : (x : ℕ) → tiny_has word x ≡ (tiny_has was x && not (x == el % 64))) where
+  pub words_have-remove : (x : ℕ) → words_have (set words (el / 64) word) x ≡ (words_have words x && not (x == el))
+  unfolding words_have
+  words_have-remove x =
+      let no_word : TinySet = record { bits = 0 } in
+      let old = get_or_read words (el / 64) was inside read no_word in
+      elim (cases_eq (x / 64) (el / 64)) [
+        | inl same ↦
+            let is : (x % 64 == el % 64) ≡ (x == el) = elim (cases_eq x el) [
+              | inl e ↦ rw (eq-eqb x el e, eq-eqb (x % 64) (el % 64) (ap (λ y. y % 64) e))
+              | inr other ↦ rw (ne_eqb x el other, ne_eqb (x % 64) (el % 64) (λ e. other (omega arith)))
+            ] in
+            rw (same, get_or-set_same words (el / 64) word no_word inside, less (x % 64), is) (ap (λ (w : TinySet). tiny_has w (x % 64) && not (x == el)) old)
+        | inr other ↦ rw (get_or-set_other words (el / 64) (x / 64) word no_word other, ne_eqb x el (λ e. other (ap (λ y. y / 64) e)))
+            (sym (and_true (words_have words x)))
+      ]
+
+  pub remove_within : (bound : ℕ) → ((x : ℕ) → IsTrue (words_have words x) → x < bound)
+      → (x : ℕ) → IsTrue (words_have (set words (el / 64) word) x) → x < bound
+  remove_within bound within x member = within x (and_parts (words_have words x) (not (x == el)) (sym (words_have-remove x) ∙ member)).0
 
 -- ---- the members of a word and of all
 

@@ -33,6 +33,22 @@ tiny_has-insert s el within x =
       | inr other ↦ rw (bit_at_set_other w64 s.bits el within x other, ne_eqb x el other)
     ]
 
+pub tiny_has-remove : (s : TinySet) (el : ℕ) → el < 64 → (x : ℕ) →
+    tiny_has (record { bits = bit_and s.bits (bit_not w64 (1 * 2 ^ el % 2 ^ 64)) }) x ≡ (tiny_has s x && not (x == el))
+unfolding tiny_has
+tiny_has-remove s el within x =
+    elim (cases_lt x 64) [
+      | inr past ↦ rw (le-ltb x 64 past)
+      | inl below ↦ elim (cases_eq x el) [
+        | inl same ↦ rw (same, bit_at_clear_same w64 s.bits el within, eq-eqb el el refl, lt-ltb el 64 within) (sym (no_member (bit_at s.bits el == 1)))
+        | inr other ↦ rw (bit_at_clear_other w64 s.bits el within x below other, ne_eqb x el other) (sym (and_true (ltb x 64 && (bit_at s.bits x == 1))))
+      ]
+    ]
+  where
+    no_member : (b : Bool) → (b && false) ≡ false
+    no_member true = refl
+    no_member false = refl
+
 pub tiny_has-shift : (s : TinySet) (el : ℕ) → el < 64 → eqb (bit_and (s.bits / 2 ^ el) 1) 1 ≡ tiny_has s el
 unfolding tiny_has
 tiny_has-shift s el within = rw (shr_and_one s.bits el, lt-ltb el 64 within)
@@ -147,17 +163,7 @@ module _ (s : TinySet) (fits : s.bits < 2 ^ 64) (some : 0 < s.bits) where
   -- the lowest member goes, and no other
   pub tiny_has-pop : (x : ℕ) → tiny_has (record { bits = bit_and s.bits (bit_not w64 (1 * 2 ^ trailing_zeros w64 s.bits % 2 ^ 64)) }) x
       ≡ (tiny_has s x && not (x == trailing_zeros w64 s.bits))
-  unfolding tiny_has
-  tiny_has-pop x =
-      let l = lowest_bit in
-      let lowest : ℕ = trailing_zeros w64 s.bits in
-      elim (cases_lt x 64) [
-        | inr past ↦ rw (le-ltb x 64 past)
-        | inl below ↦ elim (cases_eq x lowest) [
-          | inl same ↦ rw (same, bit_at_clear_same w64 s.bits lowest l.0, lt-ltb lowest 64 l.0, eq-eqb lowest lowest refl, l.1)
-          | inr other ↦ rw (bit_at_clear_other w64 s.bits lowest l.0 x below other, ne_eqb x lowest other) (sym (and_true (ltb x 64 && (bit_at s.bits x == 1))))
-        ]
-      ]
+  tiny_has-pop = tiny_has-remove s (trailing_zeros w64 s.bits) lowest_bit.0
 
   pub tiny_members-pop : tiny_members (record { bits = bit_and s.bits (bit_not w64 (1 * 2 ^ trailing_zeros w64 s.bits % 2 ^ 64)) })
       ≡ members_between (tiny_has s) (trailing_zeros w64 s.bits + 1) 64

@@ -1,6 +1,6 @@
 //! The documents of a segment that were not deleted.
 
-ghost use Rattle.std.specs.Prelude.{◌≡◌, ℕ, ◌*◌, ◌+◌, ◌≤◌, ◌&&◌, nat_lt, false, length};
+ghost use Rattle.std.specs.Prelude.{◌≡◌, ℕ, ◌*◌, ◌+◌, ◌≤◌, ◌<◌, ◌==◌, ◌&&◌, nat_lt, not, false, length};
 ghost use Rattle.qm_docset.specs.TinySet.{tiny_has};
 ghost use Rattle.qm_docset.specs.BitSet.{set_has, set_max_value, set_members};
 
@@ -30,6 +30,16 @@ impl AliveBitSet {
         ensures { result ≡ length (set_members (alive_docs self.now)) }
     {
         self.alive.len()
+    }
+
+    /// Deletes a document, which is below the set's `max_value`: it is alive no more. To delete it again
+    /// changes nothing. Constant time, and no memory.
+    pub fn remove(&mut self, doc: DocId)
+        requires { doc < set_max_value (alive_docs self.old) }
+        ensures alive { (x : ℕ) → set_has (alive_docs self.new) x ≡ (set_has (alive_docs self.old) x && not (x == doc)) }
+        ensures max_value { set_max_value (alive_docs self.new) ≡ set_max_value (alive_docs self.old) }
+    {
+        self.alive.remove(doc);
     }
 
     /// The alive documents of a bucket, less `64 * bucket`, as of a [`BitSet`].

@@ -1,6 +1,6 @@
 //! A set of numbers below a bound, in words.
 
-ghost use Rattle.std.specs.Prelude.{◌≡◌, ℕ, ◌+◌, ◌*◌, ◌/◌, ◌<◌, ◌≤◌, ◌==◌, ◌||◌, ◌&&◌, nat_lt, false, length, slice_get, option_map, vec_len, IfOk, IsTrue};
+ghost use Rattle.std.specs.Prelude.{◌≡◌, ℕ, ◌+◌, ◌*◌, ◌/◌, ◌<◌, ◌≤◌, ◌==◌, ◌||◌, ◌&&◌, nat_lt, not, false, length, slice_get, option_map, vec_len, IfOk, IsTrue};
 ghost use Rattle.qm_docset.specs.Members.{members_between};
 ghost use Rattle.qm_docset.specs.TinySet.{tiny_has};
 ghost use Rattle.qm_docset.specs.Words.{words_have};
@@ -48,6 +48,20 @@ impl BitSet {
         let bucket = (el / 64) as usize;
         self.words[bucket] = self.words[bucket].insert(el % 64);
         self.len += 1;
+    }
+
+    /// Takes `el`, which is below `max_value`, out where it is there.
+    pub fn remove(&mut self, el: u32)
+        requires { el < set_max_value self.old }
+        ensures members { (x : ℕ) → set_has self.new x ≡ (set_has self.old x && not (x == el)) }
+        ensures max_value { set_max_value self.new ≡ set_max_value self.old }
+    {
+        if !self.contains(el) {
+            return;
+        }
+        let bucket = (el / 64) as usize;
+        self.words[bucket] = self.words[bucket].remove(el % 64);
+        self.len -= 1;
     }
 
     /// Whether `el` is a member; none at or past `max_value` is.

@@ -40,6 +40,16 @@ impl TinySet {
         is_new
     }
 
+    /// The numbers of the set without `el`, which is below 64.
+    pub fn remove(self, el: u32) -> TinySet
+        requires { el < 64 }
+        ensures { (x : ℕ) → tiny_has result x ≡ (tiny_has self x && not (x == el)) }
+    {
+        TinySet {
+            bits: self.bits & !(1 << el),
+        }
+    }
+
     /// Whether `el`, which is below 64, is a member.
     pub fn contains(self, el: u32) -> bool
         requires { el < 64 }
