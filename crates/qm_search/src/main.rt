@@ -2,28 +2,7 @@
 //! output.
 #![tactic(auto)]
 
-mod answer;
-mod build_query;
-mod corpus;
-mod counting;
-mod document_line;
-mod documents;
-mod form;
-mod has_prefix;
-mod lines;
-mod listing;
-mod non_negative_score;
-mod parse;
-mod pruning;
-mod read_query;
-mod run;
-mod spelled_query;
-mod terms;
-mod unparsed;
-mod word_weights;
-mod words;
-
-use crate::run::run_buffered;
+use qm_script::run_buffered;
 use std::io;
 use std::process::ExitCode;
 

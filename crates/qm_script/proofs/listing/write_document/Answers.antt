@@ -1,0 +1,27 @@
+use Rattle.std.proofs.Common.{◌≡◌, ◌∷◌, [], ◌++◌, ℕ, ℤ, Option, None, ap, sym, ◌∙◌, string_bytes, length, lit<, arith, append-nil}
+use Rattle.std.specs.Fmt.{decimal}
+use Rattle.std.proofs.lemmas.Result.{IfOk-weaker}
+use Rattle.qm_script.specs.Text.{IsListing, item_text}
+use Rattle.qm_script.proofs.ListingTexts.{IsListing-first, IsListing-next, none-by_test, some-by_test}
+use Rattle.qm_script.proofs.listing.write_document.Goals.{then-not-is_empty+in_ok-push, else-not-is_empty}
+use Rattle.qm_script.proofs.listing.write_document.Goals as goal
+
+pub returns : goal.returns
+returns c = λ items is.
+    let old = string_bytes c.args.text.now in
+    let new = string_bytes c.write.new.self in
+    let before = string_bytes c.if-not-is_empty.text in
+    let item : ℕ × Option ℤ = (c.args.document, None) in
+    let same : length c.as_str.result.now ≡ length old = ap length c.as_str.ensures.value in
+    IfOk-weaker c.write.result (λ u. new ≡ before ++ decimal c.args.document) (λ u. IsListing (items ++ item ∷ []) new) (λ u e.
+    let written : new ≡ before ++ item_text item = e ∙ ap (λ t. before ++ t) (sym (append-nil (decimal c.args.document))) in
+    elim c.if-not-is_empty.branch [
+      | then-not-is_empty+in_ok-push w ↦
+          let some = some-by_test (length c.as_str.result.now) c.is_empty.result c.is_empty.ensures w.if-not-is_empty.true in
+          IsListing-next items old new item is (omega arith) (written ∙ ap (λ t. string_bytes t ++ item_text item) w.text-is
+          ∙ ap (λ bs. bs ++ item_text item) (w.in_ok-push.ensures.bytes ∙ ap (λ bs. old ++ bs) (w.in_ok-push.ensures.ascii (lit< tt))))
+      | else-not-is_empty w ↦
+          let none = none-by_test (length c.as_str.result.now) c.is_empty.result c.is_empty.ensures w.if-not-is_empty.false in
+          IsListing-first items old new item is (omega arith) (omega (arith, c.ranges.document.fits))
+          (written ∙ ap (λ t. string_bytes t ++ item_text item) w.text-is)
+    ]) c.write.ensures.bytes

@@ -1,0 +1,16 @@
+use Rattle.std.proofs.Common.{ap, map, subst, sym, ◌∙◌}
+use Rattle.qm_script.specs.Requests.{request_of}
+use Rattle.qm_script.specs.Script.{AreWords, words_request}
+use Rattle.qm_script.specs.Spelled.{Gives}
+use Rattle.qm_script.proofs.WordLemmas.{line-words}
+use Rattle.qm_script.proofs.parse.parse_text.Goals as goal
+
+pub parse_words-requires : goal.parse_words-requires
+parse_words-requires c =
+    let found = ap (map (λ w. w.now)) c.as_slice.ensures.value ∙ c.in_ok-words.ensures in
+    subst AreWords (sym found) (line-words c.args.text.now)
+
+pub returns : goal.returns
+returns c =
+    let found = ap (map (λ w. w.now)) c.as_slice.ensures.value ∙ c.in_ok-words.ensures in
+    subst (Gives request_of c.parse_words.result) (ap words_request found) c.parse_words.ensures

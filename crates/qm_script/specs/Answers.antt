@@ -1,0 +1,130 @@
+-- What the program answers to a line, what it leaves, and the text of each answer.
+use Rattle.std.specs.Prelude.{◌≡◌, ℕ, ◌<◌, ◌≤◌, ◌⊎◌, ℤ, Option, None, Some, Result, Ok, Err, List, [], ◌∷◌, ◌++◌, codes, length, nat_abs, string_bytes}
+use Rattle.std.specs.Fmt.{decimal}
+use Rattle.qm_postings.specs.Statistics.{Searched}
+use Rattle.qm_query.specs.Query.{Query}
+use Rattle.qm_query.specs.declared.enable_scoring.EnableScoring.{EnableScoring}
+use Rattle.qm_schema.specs.Refusals.{refusal_number}
+use Rattle.qm_schema.specs.declared.error.QueryError.{QueryError}
+use Rattle.qm_schema.specs.declared.error.QueryError.TheVariants.{Memory, TooManySegments}
+use Rattle.qm_script.specs.Asked.{asked}
+use Rattle.qm_script.specs.Found.{found_above, found_alive, found_matches}
+use Rattle.qm_script.specs.Parts.{document_count}
+use Rattle.qm_script.specs.Script as language
+use Rattle.qm_script.specs.ScriptSegments.{Script, all_segments, with_deleted, with_document_of, with_segment_ended}
+use Rattle.qm_script.specs.Spelled.{query_of}
+use Rattle.qm_script.specs.State.{State, with_documents, with_weight}
+use Rattle.qm_script.specs.Text.{listing_text}
+use Rattle.qm_script.specs.TextSegments.{IsTextRefusal}
+use Rattle.qm_script.specs.Under.{IsForDocuments, IsForScores, IsScoreRefusal}
+use Rattle.qm_script.specs.declared.answer.Answer.{Answer}
+use Rattle.qm_script.specs.declared.answer.Answer.TheVariants.{Silence, Listing, Refused, NotUnderstood}
+use Rattle.qm_script.specs.ProgramNumbers.{most_segments}
+use Rattle.qm_script.specs.declared.parse.Command.{Command}
+use Rattle.qm_script.specs.declared.parse.Command.TheVariants.{Nothing, AddDocument, SetWeight, EndSegment, DeleteDocument, ListDocuments, ListScores}
+use Rattle.qm_script.specs.declared.parse.Command.TheVariants.{CountMatches, ListAbove}
+
+-- why the segments of a script may be refused as too many to be searched
+abbrev pub IsSegmentsRefusal : Script → QueryError → Type 0
+IsSegmentsRefusal s TooManySegments = most_segments < length (all_segments s)
+IsSegmentsRefusal s error = ⊥
+
+-- a refusal of this number that can come
+abbrev pub IsRefusedBy : (QueryError → Type 0) → ℕ → Type 0
+IsRefusedBy can_come number = (error : QueryError) × (number ≡ refusal_number error) × can_come error
+
+-- a line that adds a document: its answer, and what it leaves
+abbrev pub AddsDocument : List ℕ → State → Answer → State → Type 0
+AddsDocument text s Silence t = t ≡ with_documents s (with_document_of s.documents text)
+AddsDocument text s (Refused number) t = (t ≡ s) × IsRefusedBy (IsTextRefusal s.documents.current text) number
+AddsDocument text s answer t = ⊥
+
+-- a line that deletes a document: its answer, and what it leaves
+abbrev pub DeletesDocument : ℕ → State → Answer → State → Type 0
+DeletesDocument number s Silence t = (number < document_count (all_segments s.documents)) × (t ≡ with_documents s (with_deleted s.documents number))
+DeletesDocument number s NotUnderstood t = (document_count (all_segments s.documents) ≤ number) × (t ≡ s)
+DeletesDocument number s answer t = ⊥
+
+-- why a line that lists what a query matches may be refused: the query can't be built, there are too many
+-- segments, its scores may pass the greatest; or want of memory. The one field of a script's documents serves
+-- every query
+abbrev pub IsLineRefusal : EnableScoring Searched → language.Query → Script → QueryError → Type 0
+IsLineRefusal enable q s error =
+    (error ≡ Memory) ⊎ ((asked q ≡ Err error) ⊎ (IsSegmentsRefusal s error ⊎ ((query : Query) × (asked q ≡ Ok query) × IsScoreRefusal enable query error)))
+
+-- a line that lists something of a query: its answer, and the text, which the query makes
+abbrev pub AnswersQuery : (Query → List ℕ) → EnableScoring Searched → language.Query → Script → Answer → List ℕ → Type 0
+AnswersQuery text_of enable q s Listing text = (query : Query) × (asked q ≡ Ok query) × (text ≡ text_of query)
+AnswersQuery text_of enable q s (Refused number) text = IsRefusedBy (IsLineRefusal enable q s) number
+AnswersQuery text_of enable q s answer text = ⊥
+
+-- the documents that a query matches, with their scores where these are wanted
+abbrev pub listed_text : EnableScoring Searched → Script → Query → List ℕ
+listed_text enable s query = listing_text (found_matches enable query (all_segments s))
+
+-- how many of them weren't deleted, in decimal digits
+abbrev pub count_text : EnableScoring Searched → Script → Query → List ℕ
+count_text enable s query = decimal (found_alive s.deleted enable query (all_segments s))
+
+-- those for which a pruned run calls, with their scores, where each segment begins at this threshold
+abbrev pub pruned_text : ℤ → EnableScoring Searched → Script → Query → List ℕ
+pruned_text threshold enable s query = listing_text (found_above threshold enable query (all_segments s))
+
+-- a line that lists documents alone
+abbrev pub ListsDocuments : language.Query → Script → Answer → List ℕ → Type 0
+ListsDocuments q s answer text = (enable : EnableScoring Searched) × IsForDocuments s enable × AnswersQuery (listed_text enable s) enable q s answer text
+
+-- a line that counts them
+abbrev pub CountsMatches : language.Query → Script → Answer → List ℕ → Type 0
+CountsMatches q s answer text = (enable : EnableScoring Searched) × IsForDocuments s enable × AnswersQuery (count_text enable s) enable q s answer text
+
+-- a line that lists documents with scores, by what the script says that words weigh
+abbrev pub ListsScores : language.Query → State → Answer → List ℕ → Type 0
+ListsScores q s answer text =
+    (searched : Searched) × (enable : EnableScoring Searched) × IsForScores s searched enable ×
+    AnswersQuery (listed_text enable s.documents) enable q s.documents answer text
+
+-- a line that lists those of them for which a pruned run calls
+abbrev pub ListsAbove : ℤ → language.Query → State → Answer → List ℕ → Type 0
+ListsAbove threshold q s answer text =
+    (searched : Searched) × (enable : EnableScoring Searched) × IsForScores s searched enable ×
+    AnswersQuery (pruned_text threshold enable s.documents) enable q s.documents answer text
+
+-- what is answered where a change of the documents or the weights came to this
+abbrev pub IsChangeAnswer : Result (Unit {0}) QueryError → Answer → Type 0
+IsChangeAnswer (Ok done) answer = answer ≡ Silence
+IsChangeAnswer (Err error) answer = (answer ≡ Refused (refusal_number error)) × (¬ (error ≡ Memory))
+
+-- what is answered where a listing came to this
+abbrev pub IsListingAnswer : Result (Unit {0}) QueryError → Answer → Type 0
+IsListingAnswer (Ok done) answer = answer ≡ Listing
+IsListingAnswer (Err error) answer = answer ≡ Refused (refusal_number error)
+
+-- A line's answer, what it lists, and what it leaves, by what stood before it and what it asks for: None
+-- where it isn't understood.
+abbrev pub Step : State → Option Command → Answer → List ℕ → State → Type 0
+Step s None answer text t = (answer ≡ NotUnderstood) × (t ≡ s)
+Step s (Some Nothing) answer text t = (answer ≡ Silence) × (t ≡ s)
+Step s (Some (AddDocument words)) answer text t = AddsDocument (string_bytes words) s answer t
+Step s (Some (SetWeight word weight)) answer text t = (answer ≡ Silence) × (t ≡ with_weight s (string_bytes word) (nat_abs weight.score))
+Step s (Some EndSegment) answer text t = (answer ≡ Silence) × (t ≡ with_documents s (with_segment_ended s.documents))
+Step s (Some (ListDocuments q)) answer text t = ListsDocuments (query_of q) s.documents answer text × (t ≡ s)
+Step s (Some (ListScores q)) answer text t = ListsScores (query_of q) s answer text × (t ≡ s)
+Step s (Some (DeleteDocument number)) answer text t = DeletesDocument number s answer t
+Step s (Some (CountMatches q)) answer text t = CountsMatches (query_of q) s.documents answer text × (t ≡ s)
+Step s (Some (ListAbove threshold q)) answer text t = ListsAbove threshold (query_of q) s answer text × (t ≡ s)
+
+-- the exit status of a script in which no other line is answered worse than this
+abbrev pub status_of : Answer → ℕ
+status_of Silence = 0
+status_of Listing = 0
+status_of (Refused number) = 1
+status_of NotUnderstood = 2
+
+-- what is written where a line has this number, this answer, and what it lists; each line ends at
+-- byte 10
+abbrev pub answer_text : ℕ → Answer → List ℕ → List ℕ
+answer_text line Silence listing = []
+answer_text line Listing listing = listing ++ 10 ∷ []
+answer_text line (Refused number) listing = codes "line " ++ (decimal line ++ (codes ": refused " ++ (decimal number ++ 10 ∷ [])))
+answer_text line NotUnderstood listing = codes "line " ++ (decimal line ++ (codes ": not understood" ++ 10 ∷ []))

@@ -1,0 +1,41 @@
+-- What a query finds in several segments, by what it is asked under.
+use Rattle.std.specs.Prelude.{◌≡◌, ℕ, ℤ, List, ◌++◌, Option, String, drop, false, map, string_bytes, take}
+use Rattle.std.specs.Fmt.{decimal}
+use Rattle.std.specs.Global.{Global}
+use Rattle.qm_postings.specs.Segment.{Segment}
+use Rattle.qm_postings.specs.Statistics.{Searched}
+use Rattle.qm_postings.specs.declared.segment_reader.SegmentReader.{SegmentReader}
+use Rattle.qm_query.specs.EnableScoring.{is_enabled}
+use Rattle.qm_query.specs.Query.{Query}
+use Rattle.qm_query.specs.declared.enable_scoring.EnableScoring.{EnableScoring}
+use Rattle.qm_script.specs.AllSegments.{all_listed}
+use Rattle.qm_script.specs.Counts.{alive_count}
+use Rattle.qm_script.specs.Parts.{document_count}
+use Rattle.qm_script.specs.Pruned.{all_pruned, parts_pruned}
+use Rattle.qm_script.specs.Under.{tree_of}
+
+-- the segments of readers
+abbrev pub segments_of : List SegmentReader → List Segment
+segments_of readers = map (λ r. r.segment) readers
+
+-- each document that matches, with its score where scores are wanted
+abbrev pub found_matches : EnableScoring Searched → Query → List Segment → List (ℕ × Option ℤ)
+found_matches enable query segments = all_listed (is_enabled enable) (tree_of enable query) segments
+
+-- each for which a pruned run calls, with its score, where each segment begins at this threshold
+abbrev pub found_above : ℤ → EnableScoring Searched → Query → List Segment → List (ℕ × Option ℤ)
+found_above threshold enable query segments = all_pruned threshold (tree_of enable query) segments
+
+-- the same, where the segments behind the first ones are the parts of one
+abbrev pub found_above_in_parts : ℤ → EnableScoring Searched → Query → ℕ → List Segment → List (ℕ × Option ℤ)
+found_above_in_parts threshold enable query ended segments =
+    let tree = tree_of enable query in
+    found_above threshold enable query (take ended segments) ++ parts_pruned threshold tree (document_count (take ended segments)) (drop ended segments)
+
+-- how many match that weren't deleted
+abbrev pub found_alive : List ℕ → EnableScoring Searched → Query → List Segment → ℕ
+found_alive deleted enable query segments = alive_count deleted (all_listed false (tree_of enable query) segments)
+
+-- a text, and behind what it was a number in decimal digits
+abbrev pub AddsNumber : String Global → String Global → ℕ → Type 0
+AddsNumber before after n = string_bytes after ≡ string_bytes before ++ decimal n

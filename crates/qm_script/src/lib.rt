@@ -1,0 +1,29 @@
+//! The language of scripts: lines that add documents, delete them and ask for what queries find, and
+//! what a script of such lines is answered.
+//!
+//! `docs/SCRIPT.md` has the language. [`run`] answers a script from any input to any output; the
+//! program `qm_search` joins it to standard input and output.
+#![tactic(auto)]
+
+mod answer;
+mod build_query;
+mod corpus;
+mod counting;
+mod document_line;
+mod documents;
+mod form;
+mod has_prefix;
+mod lines;
+mod listing;
+mod non_negative_score;
+mod parse;
+mod pruning;
+mod read_query;
+mod run;
+mod spelled_query;
+mod terms;
+mod unparsed;
+mod word_weights;
+mod words;
+
+pub use run::{RunError, run, run_buffered, text_of};

@@ -1,7 +1,0 @@
-use Rattle.std.proofs.Common.{◌≡◌, map, take}
-use Rattle.qm_search.specs.Asked.{term_of}
-use Rattle.qm_search.specs.Spelled.{texts}
-use Rattle.qm_search.proofs.terms.word_terms.Given as goal
-
-abbrev pub invariant-loop-word : goal.invariant-loop-word
-invariant-loop-word l = l.terms.items ≡ map term_of (texts (take l.word-index l.words))

@@ -1,5 +1,0 @@
-use Rattle.qm_search.proofs.Numbers.{number-below}
-use Rattle.qm_search.proofs.words.parse_document.Goals as goal
-
-pub returns : goal.returns
-returns c = number-below 18446744073709551616 c.args.text.now c.parse_digits.result c.parse_digits.ensures

@@ -1,7 +1,0 @@
--- Where a script begins.
-use Rattle.qm_search.specs.Fields.{script_fields}
-use Rattle.qm_search.specs.ScriptSegments.{Script, empty_script}
-
--- no segment was ended, and the open one has no document
-abbrev pub start_script : Script
-start_script = empty_script script_fields
