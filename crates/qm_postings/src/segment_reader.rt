@@ -1,17 +1,20 @@
 //! A segment, to be read.
 
-ghost use Rattle.std.specs.Prelude.{◌≡◌, ◌≤◌, ℕ, [], false, IsTrue, IsSome, IfSome, ◌↔◌, length, map};
+ghost use Rattle.std.specs.Prelude.{◌≡◌, ◌<◌, ◌≤◌, ℕ, [], None, false, IsTrue, IsOkUnless, IsSome, IfOk, IfSome, OnErr, OnOk, ◌↔◌, length, map};
 ghost use Rattle.std.specs.List.{range_with_len};
 ghost use Rattle.std.specs.Option.{IsNone};
 ghost use Rattle.qm_docset.specs.AliveBitSet.{alive_docs};
 ghost use Rattle.qm_docset.specs.BitSet.{set_has};
+ghost use Rattle.qm_postings.specs.Deletions.{HasSameAlive, IsAliveSet};
+ghost use Rattle.qm_postings.specs.Reading.{deleting};
 ghost use Rattle.qm_postings.specs.Segment.{alive_documents, is_alive, keeps_lengths, length_id};
 
 use crate::fieldnorm::FieldNormReader;
 use crate::inverted_index::InvertedIndex;
 use crate::term_arrays::BlockInfo;
-use qm_docset::{AliveBitSet, DocId, TERMINATED};
-use qm_schema::{Field, Schema, Term};
+use qm_docset::{AliveBitSet, BitSet, DocId, TERMINATED};
+use qm_schema::{Field, QueryError, Schema, Term};
+use std::alloc::Global;
 use std::marker::Model;
 
 /// A term of an index, the head of its text, the range of its postings in the arrays of all postings,
@@ -122,6 +125,24 @@ impl SegmentReader {
         self.alive.is_some()
     }
 
+    /// Deletes a document of the segment, as [`SegmentBuilder::delete`](crate::SegmentBuilder::delete)
+    /// does before it is built: the document keeps its number, as all others do, and its postings; to
+    /// delete it again changes nothing more. The first deletion costs a step and a bit for each document
+    /// of the segment, any other constant time and no memory.
+    ///
+    /// Refused with [`QueryError::Memory`] alone, and then nothing was deleted.
+    pub fn delete(&mut self, alloc: Global, doc: DocId) -> Result<(), QueryError>
+        requires exists { doc < length self.old.segment.documents }
+        ensures deleted { OnOk result (self.new ≡ deleting self.old doc) }
+        ensures unchanged { OnErr result (self.new ≡ self.old) }
+        ensures refused { IsOkUnless result QueryError.Memory }
+    {
+        let mut alive = alive_or_all(alloc, self.alive.take(), self.max_doc)?;
+        alive.remove(doc);
+        self.alive = Some(alive);
+        Ok(())
+    }
+
     /// The documents that weren't deleted, and `None` where none was. Constant time, and no memory.
     pub fn alive_bitset(&self) -> Option<&AliveBitSet>
         ensures none { IsNone result ↔ (self.now.segment.deleted ≡ []) }
@@ -152,4 +173,27 @@ impl SegmentReader {
         let ids = &self.lengths[field.field_id() as usize];
         Some(FieldNormReader::new(ids.as_slice()))
     }
+}
+
+// The alive ones of so many documents, by the set of them, and all where there is none. Takes memory and
+// a step for each document only then.
+fn alive_or_all(
+    alloc: Global,
+    alive: Option<AliveBitSet>,
+    count: DocId,
+) -> Result<AliveBitSet, QueryError>
+    requires set { IsAliveSet count alive }
+    ensures same { IfOk result (HasSameAlive count alive) }
+    ensures unset { OnErr result (alive ≡ None) }
+    ensures refused { IsOkUnless result QueryError.Memory }
+{
+    if let Some(alive) = alive {
+        return Ok(alive);
+    }
+    let mut documents = BitSet::with_max_value(alloc, count)?;
+    // those before it are there
+    for doc in 0..count {
+        documents.insert(doc);
+    }
+    Ok(AliveBitSet::from(documents))
 }
