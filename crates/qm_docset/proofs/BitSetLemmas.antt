@@ -1,5 +1,6 @@
 -- The words of a BitSet and its members.
-use Rattle.std.proofs.Common.{◌≡◌, ℕ, ◌+◌, ◌-◌, ◌*◌, ◌/◌, ◌%◌, ◌<◌, ◌≤◌, Bool, true, false, not, ◌&&◌, ◌||◌, ltb, nat_lt, ◌==◌, List, [], length, get_or, set, map}
+use Rattle.std.proofs.Common.{◌≡◌, ℕ, ◌+◌, ◌-◌, ◌*◌, ◌/◌, ◌%◌, ◌<◌, ◌≤◌, Bool, true, false, not, ◌&&◌, ◌||◌, ltb, nat_lt, ◌==◌, List, [], length, get_or, set}
+use Rattle.std.proofs.Common.{map}
 use Rattle.std.proofs.Common.{replicate, slice_get, option_map, Some, None, IsTrue, refl, sym, ap, ◌∙◌, inl, inr, arith, eq-eqb, ne_eqb, lt-ltb, le-ltb, le-leb}
 use Rattle.std.proofs.Common.{nat_le, eqb-true}
 use Rattle.std.proofs.lemmas.Bool.{cases_eq, cases_lt, lt-leb, and_parts, and_right, or_cases, false_from_ne_true}

@@ -26,5 +26,11 @@ returns-clause-set c =
     ∙ ap (λ b. cond b (Some n) (tree.get term_cmp old q)) (term_eq_laws.symm term q)
     ∙ ap (cond (eq_by_cmp term_cmp q term) (Some n)) (lookup-first_of q old.entries ∙ sym (get-from_entries term_cmp_total old.entries q))
     ∙ sym (get-insert term_cmp_total (from_entries old.entries) term n q)) in
-    ap (λ (m : FinMap term_cmp ℕ). record { schema = c.self.inside.schema; segments = c.self.inside.segments.items; weights = m; default_weight = c.self.inside.default_weight; norms = c.self.inside.norms }) same
+    ap (λ (m : FinMap term_cmp ℕ). record {
+      schema = c.self.inside.schema;
+      segments = c.self.inside.segments.items;
+      weights = m;
+      default_weight = c.self.inside.default_weight;
+      norms = c.self.inside.norms;
+    }) same
     ∙ ap (λ s. with_weight s term n) c.self.view_is

@@ -39,7 +39,8 @@ returns-clause-deleted c =
     let kept = segment_from inside.schema inside.block_len posted columns n in
     let terms = map (λ e. e.term) inside.terms.items in
     let before = left_out inside.alive n in
-    let same : HasSameAlive n inside.alive c.in_ok-alive.alive = subst (λ a. HasSameAlive n a c.in_ok-alive.alive) c.take.ensures.value c.in_ok-alive.ensures.same in
+    let same : HasSameAlive n inside.alive c.in_ok-alive.alive =
+    subst (λ a. HasSameAlive n a c.in_ok-alive.alive) c.take.ensures.value c.in_ok-alive.ensures.same in
     let reader : List ℕ → Reader = λ numbers. record { segment = without numbers kept; terms = terms } in
     ap reader (passing_too (is_left_out inside.alive) (is_left_out (Some c.remove.new.self)) doc n
     (removed_too inside.alive c.in_ok-alive.alive c.remove.new.self n doc same c.remove.ensures.alive))

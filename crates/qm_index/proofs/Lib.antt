@@ -1,0 +1,3 @@
+mod Marks
+mod Cutting
+mod Numbering
