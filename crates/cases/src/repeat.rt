@@ -1,6 +1,7 @@
-//! Words that a block repeats.
+//! What a case repeats: words of a block, and rows.
 
-use cases::Fault;
+use crate::fault::Fault;
+use crate::row::{Row, read_row};
 use std::alloc::Global;
 
 /// The line of these words, in which those in `repeat N ( .. )` stand N times, and those in
@@ -79,4 +80,77 @@ fn read_range(word: &str) -> Result<(u32, u32), Fault> {
         (Ok(first), Ok(end)) => Ok((first, end)),
         _ => Err(Fault::NotUnderstood),
     }
+}
+
+/// A text of the rows, each behind the number of its line, in which a row `repeat A..B ROW` is ROW once for
+/// each number, which takes the place of every `#` in it.
+pub fn spell_rows(alloc: Global, rows: &[Row<'_>]) -> Result<String, Fault> {
+    let mut text = String::new(alloc);
+    for row in rows {
+        match row.call.strip_prefix("repeat ") {
+            Some(call) => spell_times(alloc, row, call, &mut text)?,
+            None => spell_row(row, row.call, "#", &mut text)?,
+        }
+    }
+    Ok(text)
+}
+
+// Adds `A..B CALL` once for each number.
+fn spell_times(alloc: Global, row: &Row<'_>, call: &str, text: &mut String) -> Result<(), Fault> {
+    let (range, call) = call.split_once(' ').ok_or(Fault::NotUnderstood)?;
+    let (first, end) = read_range(range)?;
+    for number in first..end {
+        let number = format!(in alloc; "{number}")?;
+        spell_row(row, call, number.as_str(), text)?;
+    }
+    Ok(())
+}
+
+// Adds a row with this call, in which a number takes the place of `#`.
+fn spell_row(row: &Row<'_>, call: &str, number: &str, text: &mut String) -> Result<(), Fault> {
+    let each = if row.is_refused { "refused each " } else { "" };
+    write!(text, "{} {each}", row.line)?;
+    add_replaced(call, number, text)?;
+    text.push_str(" = ")?;
+    add_replaced(row.wanted, number, text)?;
+    Ok(text.push('\n')?)
+}
+
+// Adds a text, in which a number takes the place of `#`.
+fn add_replaced(spelled: &str, number: &str, text: &mut String) -> Result<(), Fault> {
+    let mut is_first = true;
+    for part in spelled.split('#') {
+        if !is_first {
+            text.push_str(number)?;
+        }
+        text.push_str(part)?;
+        is_first = false;
+    }
+    Ok(())
+}
+
+/// The rows of such a text.
+pub fn read_rows<'a>(alloc: Global, text: &'a str) -> Result<Vec<Row<'a>>, Fault> {
+    let mut rows = Vec::new(alloc);
+    for line in text.lines() {
+        let (number, row) = line.split_once(' ').ok_or(Fault::NotUnderstood)?;
+        let number = number.parse().map_err(|_| Fault::NotUnderstood)?;
+        rows.push(read_row(number, row))?;
+    }
+    Ok(rows)
+}
+
+/// Whether a block with these words and rows repeats anything.
+pub fn is_repeated(words: &[&str], rows: &[Row<'_>]) -> bool {
+    for word in words {
+        if *word == "repeat" {
+            return true;
+        }
+    }
+    for row in rows {
+        if row.call.starts_with("repeat ") {
+            return true;
+        }
+    }
+    false
 }
