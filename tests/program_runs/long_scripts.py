@@ -16,6 +16,10 @@ def check(program, report):
         ("a query after each of 1001 documents", *query_after_each_document()),
         ("7000 excluded words", *query_of_many_exclusions()),
         ("an answer of more than a megabyte", *answer_of_a_megabyte()),
+        ("a thousand segments, weights and deletions", *thousand_segments()),
+        ("a thousand deletions from the open segment", *thousand_deletions()),
+        ("a thousand weights of one word", *thousand_weights()),
+        ("a phrase and a prefix of 300 words", *phrase_of_many_words()),
     ]
     for ends in [(b"\r\n", b"\n"), (b"\n", b"\r\n")]:
         scripts.append((f"lines of 0 to 299 letters, ended by {ends}", *lines_of_each_length(*ends)))
@@ -68,6 +72,70 @@ def answer_of_a_megabyte():
     text = b" ".join(b"%d" % document for document in range(count)) + b"\n"
     assert len(text) > 1_000_000
     return b"doc a\n" * count + b"docs term a\n", text
+
+
+def thousand_segments():
+    """A thousand segments of two documents, each with a word that is weighed and stands in no other, and with a word
+    that stands in the first documents alone; these are deleted. The words of each query are all of the weighed ones."""
+    count = 1000
+    script = b"".join(b"weight w%d %d\ndoc w%d a\ndoc w%d\nsegment\n" % (i, 6 * i, i, i) for i in range(count))
+    script += b"".join(b"delete %d\n" % (2 * i) for i in range(count))
+    clauses = b"".join(b" ? term w%d" % i for i in range(count))
+    first, last = [b"%d" % (2 * i) for i in range(count)], [b"%d" % (2 * i + 1) for i in range(count)]
+    # 6i / 3 and 6i / 2
+    scores = [b"%d:%d %d:%d" % (2 * i, 2 * i, 2 * i + 1, 3 * i) for i in range(count)]
+    rows = [
+        (b"docs all", [b"%d" % document for document in range(2 * count)]),
+        (b"docs term a", first),
+        (b"scores term a", [document + b":333" for document in first]),
+        (b"docs bool 0 2 + all - term a", last),
+        (b"scores term w999", scores[999:]),
+        (b"prune 1998 term w999", [b"1999:2997"]),
+        # the threshold is the same where each segment begins
+        (b"prune 332 term a", [document + b":333" for document in first]),
+        (b"scores bool 1 1000" + clauses, scores),
+        (b"scores max 0 1000" + clauses.replace(b" ?", b""), scores),
+        # 3i is above 1500 from 501 on, and 2i from 751 on
+        (
+            b"prune 1500 bool 1 1000" + clauses,
+            [b"%d:%d" % (2 * i + 1, 3 * i) for i in range(501, 751)] + scores[751:],
+        ),
+        (b"docs prefix 1000 1 w", [b"%d" % document for document in range(2 * count)]),
+        (b"count all", [b"1000"]),
+        (b"count term a", [b"0"]),
+        (b"count term w999", [b"1"]),
+        (b"count bool 1 1000" + clauses, [b"1000"]),
+    ]
+    queries = b"".join(query + b"\n" for query, _ in rows)
+    return script + queries, b"".join(b" ".join(found) + b"\n" for _, found in rows)
+
+
+def thousand_deletions():
+    """A thousand documents, with a count behind each deletion."""
+    count = 1000
+    script = b"".join(b"doc w%d a\n" % i for i in range(count))
+    script += b"".join(b"delete %d\ncount term a\n" % i for i in range(count))
+    text = b"".join(b"%d\n" % (count - 1 - i) for i in range(count))
+    return script + b"docs term w999\ncount term w999\n", text + b"999\n0\n"
+
+
+def thousand_weights():
+    """A word that is weighed a thousand times, and another one of which nothing is said."""
+    script = b"doc a\ndoc b\n" + b"".join(b"weight a %d\nscores term a\n" % (2 * i) for i in range(1000))
+    # 2i / 2
+    return script + b"scores term b\n", b"".join(b"0:%d\n" % i for i in range(1000)) + b"1:500\n"
+
+
+def phrase_of_many_words():
+    """A document of 300 words, and one that lacks the last of them."""
+    words = b"".join(b" w%d" % i for i in range(300))
+    script = b"doc%b\ndoc%b\n" % (words, words.removesuffix(b" w299"))
+    script += b"scores phrase 0 300%b\ndocs phrase 0 299%b\n" % (words, words.removesuffix(b" w299"))
+    # w299 is the last of 111 words that begin with w2
+    for most in [110, 111]:
+        script += b"scores prefix %d 300%b\n" % (most, words.removesuffix(b"99"))
+    # 300 words weigh 300000, and 299 of them 299000, over 1 + 255
+    return script, b"0:1171\n0 1\n\n0:1167\n"
 
 
 def query_after_each_document():

@@ -38,6 +38,10 @@ LISTINGS = [
     *[b"doc a\n" * documents + b"docs all\n" for documents in range(1, 33)],
 ]
 
+# A script of which a run asks for memory more often than any other here, and so many requests at most.
+SEGMENTS = b"doc a\nsegment\n" * 1000 + b"delete 7\nweight a 6\nscores term a\n"
+MOST = 1 << 20
+
 # What a run may write that ended where it was refused one: whole lines, from the first on.
 ENDED = [b"".join(list(ANSWERS.values())[:count]) for count in range(len(ANSWERS) + 1)]
 
@@ -85,15 +89,16 @@ def check_all_after(program, report):
 
 def check_last(program, report):
     """Refuses the last request that a run makes, which is made for the answer of its last line."""
-    for script in LISTINGS:
-        outcome = last_refused(program, script)
+    for script, most in [*((it, MANY) for it in LISTINGS), (SEGMENTS, MOST)]:
+        outcome = last_refused(program, script, most)
         text = b"line %d: refused 13\n" % script.count(b"\n")
         report.expect(f"the last request of {script[-40:]!r} is refused", text, 1, outcome)
 
 
-def last_refused(program, script):
-    """The run whose last request alone is refused: it is the greatest number that is refused at all."""
-    refused, least, most = None, 1, MANY
+def last_refused(program, script, most):
+    """The run whose last request alone is refused, of at most so many: it is the greatest number that is refused at
+    all."""
+    refused, least = None, 1
     while least < most:
         number = (least + most) // 2
         outcome = program.run_faulty(script, request=number)

@@ -3,6 +3,7 @@
 use crate::block::{Block, Player};
 use crate::fault::Fault;
 use crate::memory::{Memory, end_refusals, is_heard};
+use crate::repeat::{expand, is_repeated, read_rows, spell_rows};
 use crate::report::Report;
 use crate::row::{Row, read_row};
 use crate::words::{behind, words_of};
@@ -74,12 +75,48 @@ fn play_head<P: Player>(
     if memory == Memory::None && !is_heard(alloc) {
         report.wrong(line, "no refusal of memory is heard")?;
     }
-    let played = if row.is_refused {
+    let played = if is_repeated(block.words, rows) {
+        play_expanded(alloc, player, block, row.is_refused, report)
+    } else {
+        play_block(alloc, player, block, row.is_refused, report)
+    };
+    end(&row, rows.len(), played, report)
+}
+
+// Plays a block whose words, or some of whose rows, are repeated.
+fn play_expanded<P: Player>(
+    alloc: Global,
+    player: &mut P,
+    block: Block<'_>,
+    is_refused: bool,
+    report: &mut Report,
+) -> Result<(), Fault> {
+    let head = expand(alloc, block.words)?;
+    let words = words_of(alloc, head.as_str())?;
+    let text = spell_rows(alloc, block.rows)?;
+    let rows = read_rows(alloc, text.as_str())?;
+    let (words, rows) = (words.as_slice(), rows.as_slice());
+    let block = Block {
+        words,
+        rows,
+        ..block
+    };
+    play_block(alloc, player, block, is_refused, report)
+}
+
+// Plays a block once, or again and again.
+fn play_block<P: Player>(
+    alloc: Global,
+    player: &mut P,
+    block: Block<'_>,
+    is_refused: bool,
+    report: &mut Report,
+) -> Result<(), Fault> {
+    if is_refused {
         play_refused(alloc, player, block, report)
     } else {
         play_once(alloc, player, block, report)
-    };
-    end(&row, rows.len(), played, report)
+    }
 }
 
 // Plays a block once.

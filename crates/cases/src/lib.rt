@@ -14,6 +14,7 @@ mod memory;
 mod moves;
 mod play;
 mod pruning;
+mod repeat;
 mod report;
 mod row;
 mod words;

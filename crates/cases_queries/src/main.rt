@@ -10,7 +10,6 @@ mod asked;
 mod changes;
 mod combiners;
 mod documents;
-mod expand;
 mod explained;
 mod form;
 mod getters;

@@ -3,8 +3,6 @@
 use crate::ask_query::QueryAsker;
 use crate::ask_scoring::{ScoringAsker, scoring_of};
 use crate::ask_weight::WeightAsker;
-use crate::expand::expand;
-use crate::form::has_word;
 use crate::given::read_world;
 use crate::query::read_query;
 use crate::scorer_blocks::{play_found, play_query_scorer, play_tree, play_weight_scorer};
@@ -13,9 +11,7 @@ use crate::tree_runs::RunAsker;
 use crate::weigh::Scales;
 use crate::weight::read_weight;
 use crate::world::World;
-use cases::{
-    Block, Fault, Memory, Moves, Player, Report, behind, play_asked, score, word, words_of,
-};
+use cases::{Block, Fault, Memory, Moves, Player, Report, behind, play_asked, score, word};
 use std::alloc::Global;
 use std::cell::Cell;
 
@@ -41,13 +37,7 @@ impl Player for Queries {
             self.world = read_world(alloc, block.rows, report)?;
             return Ok(());
         }
-        if !has_word(block.words, "repeat") {
-            return play_block(alloc, &self.world, block, report);
-        }
-        let line = expand(alloc, block.words)?;
-        let words = words_of(alloc, line.as_str())?;
-        let words = words.as_slice();
-        play_block(alloc, &self.world, Block { words, ..block }, report)
+        play_block(alloc, &self.world, block, report)
     }
 }
 

@@ -1,0 +1,156 @@
+//! What a case repeats: words of a block, and rows.
+
+use crate::fault::Fault;
+use crate::row::{Row, read_row};
+use std::alloc::Global;
+
+/// The line of these words, in which those in `repeat N ( .. )` stand N times, and those in
+/// `repeat A..B ( .. )` once for each number, which takes the place of `#`.
+pub fn expand(alloc: Global, words: &[&str]) -> Result<String, Fault> {
+    let mut line = String::new(alloc);
+    for part in words.split(|word| *word == "repeat") {
+        if line.as_str().is_empty() {
+            add_words(part, "#", &mut line)?;
+            // so that no later part stands first
+            line.push(' ')?;
+        } else {
+            add_repeated(alloc, part, &mut line)?;
+        }
+    }
+    Ok(line)
+}
+
+// Adds `N ( .. ) ..`: what is repeated, and what stands behind it.
+fn add_repeated(alloc: Global, words: &[&str], line: &mut String) -> Result<(), Fault> {
+    let [range, "(", rest @ ..] = words else {
+        return Err(Fault::NotUnderstood);
+    };
+    let (first, end) = read_range(range)?;
+    let mut inside = Vec::new(alloc);
+    let mut is_inside = true;
+    for word in rest {
+        if *word == ")" {
+            add_times(alloc, inside.as_slice(), first, end, line)?;
+            is_inside = false;
+        } else if is_inside {
+            inside.push(*word)?;
+        } else {
+            add_word(word, line)?;
+        }
+    }
+    if is_inside {
+        return Err(Fault::NotUnderstood);
+    }
+    Ok(())
+}
+
+fn add_times(
+    alloc: Global,
+    words: &[&str],
+    first: u32,
+    end: u32,
+    line: &mut String,
+) -> Result<(), Fault> {
+    for number in first..end {
+        let number = format!(in alloc; "{number}")?;
+        add_words(words, number.as_str(), line)?;
+    }
+    Ok(())
+}
+
+// Adds words, with another one in place of `#`.
+fn add_words(words: &[&str], number: &str, line: &mut String) -> Result<(), Fault> {
+    for word in words {
+        add_word(if *word == "#" { number } else { word }, line)?;
+    }
+    Ok(())
+}
+
+fn add_word(word: &str, line: &mut String) -> Result<(), Fault> {
+    line.push_str(word)?;
+    Ok(line.push(' ')?)
+}
+
+fn read_range(word: &str) -> Result<(u32, u32), Fault> {
+    let (first, end) = match word.split_once("..") {
+        Some((first, end)) => (first, end),
+        None => ("0", word),
+    };
+    match (first.parse(), end.parse()) {
+        (Ok(first), Ok(end)) => Ok((first, end)),
+        _ => Err(Fault::NotUnderstood),
+    }
+}
+
+/// A text of the rows, each behind the number of its line, in which a row `repeat A..B ROW` is ROW once for
+/// each number, which takes the place of every `#` in it.
+pub fn spell_rows(alloc: Global, rows: &[Row<'_>]) -> Result<String, Fault> {
+    let mut text = String::new(alloc);
+    for row in rows {
+        match row.call.strip_prefix("repeat ") {
+            Some(call) => spell_times(alloc, row, call, &mut text)?,
+            None => spell_row(row, row.call, "#", &mut text)?,
+        }
+    }
+    Ok(text)
+}
+
+// Adds `A..B CALL` once for each number.
+fn spell_times(alloc: Global, row: &Row<'_>, call: &str, text: &mut String) -> Result<(), Fault> {
+    let (range, call) = call.split_once(' ').ok_or(Fault::NotUnderstood)?;
+    let (first, end) = read_range(range)?;
+    for number in first..end {
+        let number = format!(in alloc; "{number}")?;
+        spell_row(row, call, number.as_str(), text)?;
+    }
+    Ok(())
+}
+
+// Adds a row with this call, in which a number takes the place of `#`.
+fn spell_row(row: &Row<'_>, call: &str, number: &str, text: &mut String) -> Result<(), Fault> {
+    let each = if row.is_refused { "refused each " } else { "" };
+    write!(text, "{} {each}", row.line)?;
+    add_replaced(call, number, text)?;
+    text.push_str(" = ")?;
+    add_replaced(row.wanted, number, text)?;
+    Ok(text.push('\n')?)
+}
+
+// Adds a text, in which a number takes the place of `#`.
+fn add_replaced(spelled: &str, number: &str, text: &mut String) -> Result<(), Fault> {
+    let mut is_first = true;
+    for part in spelled.split('#') {
+        if !is_first {
+            text.push_str(number)?;
+        }
+        text.push_str(part)?;
+        is_first = false;
+    }
+    Ok(())
+}
+
+/// The rows of such a text.
+pub fn read_rows<'a>(alloc: Global, text: &'a str) -> Result<Vec<Row<'a>>, Fault> {
+    let mut rows = Vec::new(alloc);
+    for line in text.lines() {
+        let (number, row) = line.split_once(' ').ok_or(Fault::NotUnderstood)?;
+        let number = number.parse().map_err(|_| Fault::NotUnderstood)?;
+        rows.push(read_row(number, row))?;
+    }
+    Ok(rows)
+}
+
+/// Whether a block with these words and rows repeats anything.
+pub fn is_repeated(words: &[&str], rows: &[Row<'_>]) -> bool {
+    for word in words {
+        if *word == "repeat" {
+            return true;
+        }
+    }
+    for row in rows {
+        if row.call.starts_with("repeat ") {
+            return true;
+        }
+    }
+    false
+}
