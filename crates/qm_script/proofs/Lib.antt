@@ -11,7 +11,6 @@ mod ScriptLines
 mod Running
 mod ReadBack
 mod LineReadBack
-mod GivenWeights
 mod States
 mod TreeParts
 mod PartListings

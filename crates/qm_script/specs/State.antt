@@ -5,7 +5,6 @@ use Rattle.qm_schema.specs.Term.{term_cmp}
 use Rattle.qm_script.specs.Asked.{term_of}
 use Rattle.qm_script.specs.ScriptSegments.{Script, script}
 use Rattle.qm_script.specs.Start.{start_script}
-use Rattle.qm_script.specs.Weights.{given}
 use Rattle.qm_script.specs.declared.corpus.Corpus.{Corpus}
 
 pub record State : Type 0 where
@@ -14,7 +13,7 @@ pub record State : Type 0 where
   pub weights : FinMap term_cmp ℕ
 
 abbrev pub state : Corpus → State
-state c = record { documents = script c.documents; weights = given c.weights }
+state c = record { documents = script c.documents; weights = c.searcher.weights }
 
 -- no document, and no word was given a weight
 abbrev pub start_state : State

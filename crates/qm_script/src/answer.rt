@@ -189,7 +189,7 @@ fn list_scores(
     ensures unchanged { OnOk result (state corpus.new ≡ state corpus.old) }
 {
     match build_query(alloc, spelled) {
-        Ok(query) => match corpus.build_scored_segments(alloc, has_prefix(spelled)) {
+        Ok(query) => match corpus.build_segments(alloc, has_prefix(spelled)) {
             Ok(()) => {
                 let enable = EnableScoring::enabled_from_searcher(corpus.searcher());
                 let written = write_matches(alloc, corpus.segments(), enable, &query, text);
@@ -215,7 +215,7 @@ fn list_above(
     ensures unchanged { OnOk result (state corpus.new ≡ state corpus.old) }
 {
     match build_query(alloc, spelled) {
-        Ok(query) => match corpus.build_scored_segments(alloc, has_prefix(spelled)) {
+        Ok(query) => match corpus.build_segments(alloc, has_prefix(spelled)) {
             Ok(()) => {
                 let enable = EnableScoring::enabled_from_searcher(corpus.searcher());
                 let written = write_pruned(

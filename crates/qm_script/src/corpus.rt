@@ -1,22 +1,21 @@
 //! The documents of a script, and the weights of its words.
 
-ghost use Rattle.std.specs.Prelude.{◌≡◌, ◌+◌, Some, true, ◌≤◌, ◌*◌, ◌⊎◌, IfErr, IfOk, IsErr, IsOkUnless, IsSome, OnErr, OnOk, length, map, nat_abs, string_bytes};
+ghost use Rattle.std.specs.Prelude.{◌≡◌, ◌+◌, true, ◌≤◌, ◌*◌, ◌⊎◌, IfErr, IfOk, IsErr, IsOkUnless, OnErr, OnOk, length, map, nat_abs, string_bytes};
 ghost use Rattle.std.specs.List.Sorted.{IsNonDecreasing};
-ghost use Rattle.std.specs.Option.{ForSome};
 ghost use Rattle.qm_docset.specs.declared.numbers.TheConstants.{TERMINATED};
 ghost use Rattle.qm_script.specs.Parts.{document_count};
-ghost use Rattle.qm_script.specs.ProgramNumbers.{most_segments};
+ghost use Rattle.qm_script.specs.ProgramNumbers.{most_segments, ungiven_weight};
 ghost use Rattle.qm_script.specs.ScriptSegments.{AreOnePart, AreSegments, Deletes, IsBuilt, IsWhole, all_segments, script, with_document_of, with_segment_ended};
 ghost use Rattle.qm_script.specs.Start.{start_script};
 ghost use Rattle.qm_script.specs.TextSegments.{IsTextRefusal};
-ghost use Rattle.qm_script.specs.Weights.{IsWeighedBy, given};
+ghost use Rattle.qm_script.specs.Weights.{IsWeighedBy};
 ghost use Rattle.qm_script.specs.Asked.{term_of};
 ghost use Rattle.std.specs.FinMap.{empty, insert};
 ghost use Rattle.std.specs.List.{range_with_len};
 
 use crate::documents::Documents;
 use crate::non_negative_score::NonNegativeScore;
-use crate::word_weights::WordWeights;
+use crate::terms::word_term;
 use qm_docset::Score;
 use qm_postings::{Searcher, SegmentReader};
 use qm_schema::{QueryError, Schema};
@@ -30,15 +29,14 @@ const DEFAULT_WEIGHT: Score = 1000;
 const MAX_SEGMENTS: usize = 4294967295;
 
 /// The documents of a script, and the weights of words.
-///
-/// The statistics are built anew where scores are asked for after a weight.
 #[derive(Drop)]
 pub(crate) struct Corpus {
     documents: Documents,
-    weights: WordWeights,
-    searcher: Option<Searcher>,
-    ghost fields: { ForSome searcher (λ s. s.schema ≡ documents.schema) },
-    ghost weighed: { ForSome searcher (IsWeighedBy (given weights)) },
+    // what words weigh; it has no segments
+    searcher: Searcher,
+    ghost fields: { searcher.schema ≡ documents.schema },
+    ghost others: { searcher.default_weight ≡ ungiven_weight },
+    ghost norms: { searcher.norms ≡ range_with_len 0 256 },
 }
 
 impl Corpus {
@@ -47,12 +45,14 @@ impl Corpus {
     /// A script at its beginning: one open segment without documents, and no weight.
     pub(crate) fn new(alloc: Global) -> Result<Corpus, QueryError>
         ensures documents { IfOk result (λ corpus. script corpus.documents ≡ start_script) }
-        ensures weights { IfOk result (λ corpus. given corpus.weights ≡ empty) }
+        ensures weights { IfOk result (λ corpus. corpus.searcher.weights ≡ empty) }
     {
+        let documents = Documents::new(alloc)?;
+        let schema = documents.schema().clone(alloc)?;
+        let searcher = unweighed(alloc, schema)?;
         Ok(Corpus {
-            documents: Documents::new(alloc)?,
-            weights: WordWeights::new(alloc),
-            searcher: None,
+            documents,
+            searcher,
         })
     }
 
@@ -60,7 +60,7 @@ impl Corpus {
     pub(crate) fn add_document(&mut self, alloc: Global, text: String) -> Result<(), QueryError>
         ensures added { OnOk result (script self.new.documents ≡ with_document_of (script self.old.documents) (string_bytes text)) }
         ensures unchanged { OnErr result (script self.new.documents ≡ script self.old.documents) }
-        ensures weights { self.new.weights ≡ self.old.weights }
+        ensures weights { self.new.searcher ≡ self.old.searcher }
         ensures refused { IfErr result (λ e. (e ≡ QueryError.Memory) ⊎ IsTextRefusal (script self.old.documents).current (string_bytes text) e) }
     {
         self.documents.add_document(alloc, text)
@@ -69,7 +69,7 @@ impl Corpus {
     /// Ends the open segment, and opens another.
     pub(crate) fn end_segment(&mut self, alloc: Global) -> Result<(), QueryError>
         ensures ended { OnOk result (script self.new.documents ≡ with_segment_ended (script self.old.documents)) }
-        ensures weights { self.new.weights ≡ self.old.weights }
+        ensures weights { self.new.searcher ≡ self.old.searcher }
         ensures refused { IsOkUnless result QueryError.Memory }
     {
         self.documents.end_segment(alloc)
@@ -80,7 +80,7 @@ impl Corpus {
     /// deleted documents.
     pub(crate) fn delete(&mut self, number: u64) -> Result<bool, AllocError>
         ensures deleted { IfOk result (λ exists. Deletes number (script self.old.documents) exists (script self.new.documents)) }
-        ensures weights { self.new.weights ≡ self.old.weights }
+        ensures weights { self.new.searcher ≡ self.old.searcher }
     {
         self.documents.delete(number)
     }
@@ -94,12 +94,12 @@ impl Corpus {
         weight: NonNegativeScore,
     ) -> Result<(), QueryError>
         ensures documents { self.new.documents ≡ self.old.documents }
-        ensures set { OnOk result (given self.new.weights ≡ insert (given self.old.weights) (term_of word.now) (nat_abs weight.score)) }
-        ensures kept { OnErr result (given self.new.weights ≡ given self.old.weights) }
+        ensures set { OnOk result (self.new.searcher.weights ≡ insert self.old.searcher.weights (term_of word.now) (nat_abs weight.score)) }
+        ensures kept { OnErr result (self.new.searcher.weights ≡ self.old.searcher.weights) }
         ensures refused { IsOkUnless result QueryError.Memory }
     {
-        self.searcher = None;
-        self.weights.set(alloc, word, weight)
+        let term = word_term(alloc, word)?;
+        self.searcher.set_weight(term, weight.score())
     }
 
     /// Builds what is to be searched of all documents, for [`Corpus::segments`]; the open segment as one
@@ -107,7 +107,7 @@ impl Corpus {
     /// there are more segments than can be searched at once.
     pub(crate) fn build_segments(&mut self, alloc: Global, is_whole: bool) -> Result<(), QueryError>
         ensures script { script self.new.documents ≡ script self.old.documents }
-        ensures weights { self.new.weights ≡ self.old.weights }
+        ensures weights { self.new.searcher ≡ self.old.searcher }
         ensures built { OnOk result (IsBuilt self.new.documents) }
         ensures whole { OnOk result (is_whole ≡ true → IsWhole self.new.documents) }
         ensures few { OnOk result (length (all_segments (script self.old.documents)) ≤ most_segments) }
@@ -121,37 +121,6 @@ impl Corpus {
         } else {
             self.documents.build_open_segment(alloc)
         }
-    }
-
-    /// Builds what words weigh, for [`Corpus::searcher`].
-    pub(crate) fn build_searcher(&mut self, alloc: Global) -> Result<(), QueryError>
-        ensures built { OnOk result (IsSome self.new.searcher) }
-        ensures documents { self.new.documents ≡ self.old.documents }
-        ensures weights { self.new.weights ≡ self.old.weights }
-        ensures refused { IsOkUnless result QueryError.Memory }
-    {
-        if self.searcher.is_none() {
-            self.searcher = Some(self.weigh(alloc)?);
-        }
-        Ok(())
-    }
-
-    /// Both, for a line that lists scores.
-    pub(crate) fn build_scored_segments(
-        &mut self,
-        alloc: Global,
-        is_whole: bool,
-    ) -> Result<(), QueryError>
-        ensures script { script self.new.documents ≡ script self.old.documents }
-        ensures weights { self.new.weights ≡ self.old.weights }
-        ensures built { OnOk result (IsBuilt self.new.documents) }
-        ensures whole { OnOk result (is_whole ≡ true → IsWhole self.new.documents) }
-        ensures few { OnOk result (length (all_segments (script self.old.documents)) ≤ most_segments) }
-        ensures searcher { OnOk result (IsSome self.new.searcher) }
-        ensures refused { IfErr result (λ e. (e ≡ QueryError.Memory) ⊎ IsSegmentsRefusal (script self.old.documents) e) }
-    {
-        self.build_segments(alloc, is_whole)?;
-        self.build_searcher(alloc)
     }
 
     /// All documents, in order, where [`Corpus::build_segments`] was called after the last one.
@@ -179,14 +148,12 @@ impl Corpus {
         self.documents.deleted()
     }
 
-    /// What words weigh. Asks that [`Corpus::build_searcher`] was called after the last weight.
+    /// What words weigh. Constant time.
     pub(crate) fn searcher(&self) -> &Searcher
-        requires { IsSome self.now.searcher }
-        ensures searcher { Some result.now ≡ self.now.searcher }
-        ensures weights { IsWeighedBy (given self.now.weights) result.now }
+        ensures weights { IsWeighedBy self.now.searcher.weights result.now }
         ensures fields { result.now.schema ≡ (script self.now.documents).current.schema }
     {
-        self.searcher.as_ref().unwrap()
+        &self.searcher
     }
 
     /// The fields of the documents.
@@ -195,25 +162,24 @@ impl Corpus {
     {
         self.documents.schema()
     }
+}
 
-    // Kept out of its caller, which else would make room for a kilobyte of norms for every query.
-    #[inline(never)]
-    fn weigh(&self, alloc: Global) -> Result<Searcher, QueryError>
-        ensures fields { IfOk result (λ searcher. searcher.schema ≡ self.now.documents.schema) }
-        ensures weights { IfOk result (IsWeighedBy (given self.now.weights)) }
-        ensures refused { IsOkUnless result QueryError.Memory }
-    {
-        let weights = self.weights.pairs(alloc)?;
-        let schema = self.documents.schema().clone(alloc)?;
-        Searcher::new(
-            alloc,
-            schema,
-            Vec::new(alloc),
-            weights,
-            DEFAULT_WEIGHT,
-            norms(),
-        )
-    }
+// What words weigh where none was given a weight, over no segments.
+fn unweighed(alloc: Global, schema: Schema) -> Result<Searcher, QueryError>
+    ensures fields { IfOk result (λ s. s.schema ≡ schema) }
+    ensures weights { IfOk result (λ s. s.weights ≡ empty) }
+    ensures others { IfOk result (λ s. s.default_weight ≡ ungiven_weight) }
+    ensures norms { IfOk result (λ s. s.norms ≡ range_with_len 0 256) }
+    ensures refused { IsOkUnless result QueryError.Memory }
+{
+    Searcher::new(
+        alloc,
+        schema,
+        Vec::new(alloc),
+        Vec::new(alloc),
+        DEFAULT_WEIGHT,
+        norms(),
+    )
 }
 
 // The norm of each length id: a document is as long as it has words.

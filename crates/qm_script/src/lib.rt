@@ -23,7 +23,6 @@ mod run;
 mod spelled_query;
 mod terms;
 mod unparsed;
-mod word_weights;
 mod words;
 
 pub use run::{RunError, run, run_buffered, text_of};

@@ -8,7 +8,7 @@ use Rattle.qm_script.specs.ScriptSegments.{AreOnePart, AreSegments, Script, all_
 use Rattle.qm_script.specs.Spelled.{query_of}
 use Rattle.qm_script.specs.State.{state}
 use Rattle.qm_script.specs.Text.{IsListing, listing_text}
-use Rattle.qm_script.specs.Weights.{IsWeighedBy, given}
+use Rattle.qm_script.specs.Weights.{IsWeighedBy}
 use Rattle.qm_script.proofs.Answering.{IsForScores-refused, above-same, for_scores, listing-answer, nothing_searched, segments-answer, unbuilt-answer}
 use Rattle.qm_script.proofs.answer.list_above.Goals as goal
 
@@ -27,29 +27,29 @@ returns-in-Ok-clause-answer c =
     let s = state c.args.corpus.now in
     let q = query_of c.args.spelled.now in
     let text = string_bytes c.args.text.now in
-    let e = c.in-Err-build_scored_segments.error in
+    let e = c.in-Err-build_segments.error in
     IfOk-weaker c.answer_change.result (IsChangeAnswer (Err e)) (λ a. ListsAbove c.args.threshold q s a text)
     (λ a is. (
       nothing_searched s,
       for_scores s,
       IsForScores-refused s,
       segments-answer (pruned_text c.args.threshold (for_scores s) s.documents)
-          (for_scores s) s.documents q text e a is c.in-Err-build_scored_segments.ensures.refused,
+          (for_scores s) s.documents q text e a is c.in-Err-build_segments.ensures.refused,
     )) c.answer_change.ensures
 
-pub returns-in-Ok-build_scored_segments-clause-answer : goal.returns-in-Ok-build_scored_segments-clause-answer
-returns-in-Ok-build_scored_segments-clause-answer c =
+pub returns-in-Ok-build_segments-clause-answer : goal.returns-in-Ok-build_segments-clause-answer
+returns-in-Ok-build_segments-clause-answer c =
     let s = script c.args.corpus.now.documents in
     let q = query_of c.args.spelled.now in
     let threshold = c.args.threshold in
     let text = string_bytes c.write_pruned-written.new.text in
     let segments = map (λ r. r.segment) c.segments.result.now in
-    let same = c.build_scored_segments.ensures.script in
+    let same = c.build_segments.ensures.script in
     let enable = c.enabled_from_searcher-enable.result in
     let query = built_query c.in-Ok.query in
     let are = subst (λ t. AreSegments t segments) same c.segments.ensures.segments in
     let one : c.has_prefix.result ≡ true →
-    AreOnePart s segments = λ has. subst (λ t. AreOnePart t segments) same (c.segments.ensures.whole (c.in-Ok-build_scored_segments.ensures.whole has)) in
+    AreOnePart s segments = λ has. subst (λ t. AreOnePart t segments) same (c.segments.ensures.whole (c.in-Ok-build_segments.ensures.whole has)) in
     let ended : length (all_segments s) ≡ c.ended.result + 1 = ap (λ t. length (all_segments t)) (sym same) ∙ c.ended.ensures in
     let listed = above-same threshold c.has_prefix.result enable s q query c.ended.result segments c.has_prefix.ensures c.in-Ok.ensures ended are one in
     let written = subst (λ t. OnOk c.write_pruned-written.result (IsListing (found_above_in_parts t enable query c.ended.result segments) text))
@@ -60,8 +60,7 @@ returns-in-Ok-build_scored_segments-clause-answer c =
       record {
         fields = fields;
         scores = c.enabled_from_searcher-enable.ensures.provider;
-        weights = subst (λ w. IsWeighedBy (given
-            w) c.searcher.result.now) c.build_scored_segments.ensures.weights c.searcher.ensures.weights;
+        weights = subst (λ w. IsWeighedBy w c.searcher.result.now) (ap (λ s. s.weights) c.build_segments.ensures.weights) c.searcher.ensures.weights;
       },
       listing-answer (pruned_text threshold enable s) enable
           s q text query (found_above_in_parts threshold enable query c.ended.result segments) c.write_pruned-written.result c.answer_listing.result (fields
