@@ -7,9 +7,7 @@ use Rattle.qm_docset.specs.Entry.{head_document}
 use Rattle.qm_docset.specs.declared.numbers.TheConstants.{TERMINATED}
 use Rattle.qm_postings.proofs.BlockLemmas.{block_of_place, blocks_count, infos_count, ends_at_end, head_end}
 use Rattle.qm_postings.specs.Blocks.{no_block as no_postings_block}
-use Rattle.qm_postings.specs.FieldNorms.{is_made_constant, norm_ids}
 use Rattle.qm_postings.specs.SegmentPostings.{postings_blocks}
-use Rattle.qm_term.specs.Bm25Weight.{weighing}
 use Rattle.qm_term.specs.Members.{Block, blocks_from, blocks_left, end_at}
 use Rattle.qm_term.specs.Pivot.{head}
 use Rattle.qm_term.specs.TermBlocks.{member_of}

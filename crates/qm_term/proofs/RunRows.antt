@@ -19,8 +19,11 @@ pub law : (s : TermScorerWithMaxScore) → IsRunScorer s → IsMember (wand_memb
 unfolding wand_member
 law s h = IsMember-scorer s.scorer h.valid
 
+pub member_score_le : (m : Member) → IsMember m → first_score m ≤ m.top
+member_score_le m h = hit_score_le m.blocks m.top 0 m.entries h.entries h.bounds
+
 pub score_le_top : (s : TermScorerWithMaxScore) → IsRunScorer s → first_score (wand_member s) ≤ (wand_member s).top
-score_le_top s h = let m = law s h in hit_score_le (wand_member s).blocks (wand_member s).top 0 (wand_member s).entries m.entries m.bounds
+score_le_top s h = member_score_le (wand_member s) (law s h)
 
 pub scores_le_tops : (ss : List TermScorerWithMaxScore) → All IsRunScorer ss →
     sum_by (λ s. first_score (wand_member s)) ss ≤ sum_by (λ s. (wand_member s).top) ss

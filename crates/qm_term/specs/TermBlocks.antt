@@ -2,7 +2,6 @@
 use Rattle.std.specs.Prelude.{◌≡◌, ℕ, ℤ, ◌≤◌, List, map}
 use Rattle.qm_docset.specs.Entry.{Entry, head_document}
 use Rattle.qm_postings.specs.Blocks.{looked_at}
-use Rattle.qm_postings.specs.FieldNorms.{is_made_constant, norm_ids}
 use Rattle.qm_postings.specs.SegmentPostings.{looked_block, postings_blocks, postings_left}
 use Rattle.qm_term.specs.Bm25.{bm25_bound}
 use Rattle.qm_term.specs.Bm25Weight.{weighing}

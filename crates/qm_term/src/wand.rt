@@ -5,7 +5,6 @@
 
 mod front;
 pub(crate) mod heads;
-pub(crate) mod places;
 mod rows;
 mod run;
 mod single;

@@ -18,11 +18,8 @@ ghost use Rattle.qm_term.specs.WandRun.{IsNewRun, IsRun, PrunesTerms, RunFinishe
 ghost use Rattle.qm_term.specs.WandRun.{run_combiner, run_lists, run_threshold, run_ticks, run_turns, run_union};
 
 use crate::term_scorer::TermScorer;
-use crate::wand::front::{TermScorerWithMaxScore, score_front};
-use crate::wand::heads::{
-    Head, align, bounds_at, find_pivot, front_len, is_alone, pass, settle, skip_one,
-};
-use crate::wand::places::gather;
+use crate::wand::front::{TermScorerWithMaxScore, score_level};
+use crate::wand::heads::{Head, align, bounds_at, find_pivot, front_len, pass, settle, skip_one};
 use crate::wand::rows::{heads_of, row_of, tops_fit};
 use crate::wand::single::{call_at, is_above};
 use crate::wand::ticks::{Ticks, WandCount};
@@ -178,17 +175,6 @@ pub(super) fn turn_row<C: BoundedBySum, F: FnMut(DocId, Score) -> Score>(
     ensures turn { result.found ≡ true → TakesTurn (InRange F.step) (C.combined combiner)
         threshold callback.old (row_lists scorers.old heads.old) result.threshold callback.new (row_lists scorers.new heads.new) result.ticked }
 {
-    if is_alone(heads, threshold) {
-        let alone = heads[0].doc;
-        let scored = score_pivot(
-            heads, scorers, 1, alone, combiner, threshold, ticks, callback,
-        );
-        return Turned {
-            found: true,
-            ticked: true,
-            threshold: scored,
-        };
-    }
     let p = find_pivot(heads, threshold);
     if p >= TERMINATED {
         return Turned {
@@ -246,53 +232,8 @@ fn score_pivot<C: BoundedBySum, F: FnMut(DocId, Score) -> Score>(
     ensures turn { Turn (InRange F.step)
         threshold callback.old p (pos (C.combined combiner (front_scores p (row_lists scorers.old heads.old)))) result callback.new }
 {
-    let score = score_level(heads, scorers, n, p, combiner, ticks);
+    let score = score_level(heads, scorers, n, combiner, ticks);
     let after = call_at(threshold, p, score, callback);
     pass(heads, scorers, n);
     after
-}
-
-// The score of the document on which the first scorers stand.
-fn score_level<C: BoundedBySum>(
-    heads: &mut [Head],
-    scorers: &mut [TermScorerWithMaxScore<'_>],
-    n: usize,
-    p: DocId,
-    combiner: C,
-    ticks: &mut Ticks,
-) -> Score
-    requires row { IsRow scorers.old heads.old }
-    requires level { IsLevel n p heads.old }
-    requires below { p < TERMINATED }
-    requires fits { total_top (row_lists scorers.old heads.old) ≤ greatest_score }
-    requires room { ticks_of ticks.old + 1 < 2 ^ 128 }
-    ensures row { IsRow scorers.new heads.new }
-    ensures lists { IsPermutation (row_lists scorers.old heads.old) (row_lists scorers.new heads.new) }
-    ensures level { IsLevel n p heads.new }
-    ensures score { result ≡ pos (C.combined combiner (front_scores p (row_lists scorers.old heads.old))) }
-    ensures tick { ticks_of ticks.new ≡ ticks_of ticks.old + 1 }
-{
-    let start = gather(heads, scorers, n);
-    score_from(scorers, start, n, combiner, ticks)
-}
-
-// What the combiner makes of the scores of so many scorers, from a place on.
-fn score_from<C: BoundedBySum>(
-    scorers: &mut [TermScorerWithMaxScore<'_>],
-    start: usize,
-    n: usize,
-    combiner: C,
-    ticks: &mut Ticks,
-) -> Score
-    requires valid { All IsRunScorer scorers.old }
-    requires within { start + n ≤ length scorers.old }
-    requires here { All (λ s. head (wand_member s) < TERMINATED) (take n (drop start scorers.old)) }
-    requires fits { sum_by (λ s. (wand_member s).top) (take n (drop start scorers.old)) ≤ greatest_score }
-    requires room { ticks_of ticks.old + 1 < 2 ^ 128 }
-    ensures score { result ≡ pos (C.combined combiner (map (λ s. first_score (wand_member s)) (take n (drop start scorers.old)))) }
-    ensures same { scorers.new ≡ scorers.old }
-    ensures tick { ticks_of ticks.new ≡ ticks_of ticks.old + 1 }
-{
-    let mut combiner = combiner;
-    score_front(&mut scorers[start..], n, &mut combiner, ticks)
 }

@@ -2,7 +2,7 @@ use Rattle.std.proofs.Common.{◌∙◌, ap, inr, subst, sym}
 use Rattle.qm_combine.specs.Rescored.{limited}
 use Rattle.qm_postings.specs.Blocks.{HaveLeastIds}
 use Rattle.qm_postings.specs.FieldIndex.{term_limits}
-use Rattle.qm_postings.specs.FieldNorms.{is_made_constant, norm_ids}
+use Rattle.qm_postings.specs.FieldNorms.{norm_ids}
 use Rattle.qm_postings.specs.Segment.{postings_of}
 use Rattle.qm_postings.specs.SegmentPostings.{postings_blocks, postings_left}
 use Rattle.qm_term.specs.Bm25.{bm25_bound}

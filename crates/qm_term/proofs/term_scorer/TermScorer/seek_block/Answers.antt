@@ -1,6 +1,6 @@
 use Rattle.std.proofs.Common.{ap, refl, subst, sym}
 use Rattle.qm_combine.specs.Rescored.{limited}
-use Rattle.qm_postings.specs.FieldNorms.{is_made_constant, norm_ids}
+use Rattle.qm_postings.specs.FieldNorms.{norm_ids}
 use Rattle.qm_term.specs.Bm25.{bm25_bound}
 use Rattle.qm_term.specs.Bm25Weight.{weighing}
 use Rattle.qm_term.specs.TermBlocks.{scored_looked}

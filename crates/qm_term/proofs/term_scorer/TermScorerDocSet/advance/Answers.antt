@@ -1,7 +1,7 @@
 use Rattle.std.proofs.Common.{◌∙◌, ap, subst, sym, refl}
 use Rattle.qm_combine.specs.Rescored.{limited}
 use Rattle.qm_combine.specs.RescoredFacts.{drop-rescored, head_document-rescored}
-use Rattle.qm_postings.specs.FieldNorms.{is_made_constant, norm_ids}
+use Rattle.qm_postings.specs.FieldNorms.{norm_ids}
 use Rattle.qm_term.specs.Bm25.{bm25_bound}
 use Rattle.qm_term.specs.Bm25Weight.{weighing}
 use Rattle.qm_term.specs.TermBlocks.{scored_looked}

@@ -1,6 +1,5 @@
 use Rattle.std.proofs.Common.{subst, sym, ap, refl}
-use Rattle.qm_postings.specs.FieldNorms.{is_made_constant, norm_ids}
-use Rattle.qm_term.specs.Bm25Weight.{weighing}
+use Rattle.qm_postings.specs.FieldNorms.{norm_ids}
 use Rattle.qm_term.specs.TermBlocks.{scored_looked}
 use Rattle.qm_term.specs.TermScorer.{AreCovered, scored_by}
 use Rattle.qm_term.specs.TermScorerFacts.{AreCovered-drop, IsBoundedBy-drop, bounded_after, ReadsAs-self, keeps_scoring}

@@ -9,17 +9,13 @@ use Rattle.qm_term.specs.Runs.{InRange}
 use Rattle.qm_term.specs.RunScorers.{wand_member}
 use Rattle.qm_term.proofs.RowMoves.{row_below}
 use Rattle.qm_term.proofs.RowRecords.{row_members}
-use Rattle.qm_term.proofs.RowSides.{no_pivot_shown, pivot_shown, shown_tops, some_front}
+use Rattle.qm_term.proofs.RowShown.{no_pivot_shown, pivot_shown, shown_tops, some_front}
 use Rattle.qm_term.proofs.WandBounds.{low_before_pivot, skip_le_end, skip_past}
 use Rattle.qm_term.proofs.WandOrder.{postings_permuted, total_permuted}
 use Rattle.qm_term.proofs.WandPlain.{score_may}
 use Rattle.qm_term.proofs.WandRows.{pivot_bounds_le}
 use Rattle.qm_term.proofs.WandSteps.{AreCut-one, fewer_cut, fewer_scored, passes_cut, passes_skip, pivot_scores, scores_pivot, tops_cut, tops_past, tops_to}
 use Rattle.qm_term.proofs.WandSteps.{total_top_to}
-use Rattle.std.proofs.Common.{get_or}
-use Rattle.qm_term.specs.Heads.{IsAlone}
-use Rattle.qm_term.proofs.RowAlone.{alone_above, alone_on, alone_pivot, alone_same}
-use Rattle.qm_term.proofs.RowRecords.{zeros}
 use Rattle.qm_term.specs.contracts.wand.run.turn_row.F-FnMut as fnmut
 use Rattle.qm_term.proofs.wand.run.turn_row.Goals as goal
 
@@ -263,130 +259,3 @@ returns-clause-turn g c =
     }
 
 -- ---- the first stands alone
-
-pub is_alone-requires-clause-fits : goal.is_alone-requires-clause-fits
-is_alone-requires-clause-fits g c =
-    omega (arith, shown_tops (map wand_member c.args.scorers.now) c.args.heads.now c.requires.row.heads.records.each, c.requires.fits)
-
-pub score_pivot-scored-requires-clause-level : goal.score_pivot-scored-requires-clause-level
-score_pivot-scored-requires-clause-level g c =
-    let ss = c.args.scorers.now in
-    let hs = c.args.heads.now in
-    let ms = map wand_member ss in
-    let ls = row_lists ss hs in
-    let th = c.args.threshold in
-    let is : to_z w64 (of_z w64 th) ≡ th = to_z-of_z w64 th c.ranges.threshold in
-    let records = c.requires.row.heads.records in
-    let h : AreMembers ls = row_members ss hs c.requires.row.heads in
-    let a : IsAlone th hs = subst (λ (t : ℤ). IsAlone t hs) is (c.is_alone.ensures c.if-is_alone.true) in
-    let p = (get_or hs 0 zeros).doc in
-    let v = alone_pivot th ms hs records a in
-    let above = alone_above th ms hs records a in
-    let on_p = alone_on th ms hs records a in
-    let same : map (to p) ls ≡ ls = alone_same th ms hs records a in
-    let combined = g.C.ScoreCombiner.combined c.args.combiner in
-    let sum : combined (scores_of p ls) ≡ combined (front_scores p ls) = ap combined (pivot_scores th p ls h v on_p ∙ ap (front_scores p) same) in
-    a.level zeros
-
-pub score_pivot-scored-requires-clause-below : goal.score_pivot-scored-requires-clause-below
-score_pivot-scored-requires-clause-below g c =
-    let ss = c.args.scorers.now in
-    let hs = c.args.heads.now in
-    let ms = map wand_member ss in
-    let ls = row_lists ss hs in
-    let th = c.args.threshold in
-    let is : to_z w64 (of_z w64 th) ≡ th = to_z-of_z w64 th c.ranges.threshold in
-    let records = c.requires.row.heads.records in
-    let h : AreMembers ls = row_members ss hs c.requires.row.heads in
-    let a : IsAlone th hs = subst (λ (t : ℤ). IsAlone t hs) is (c.is_alone.ensures c.if-is_alone.true) in
-    let p = (get_or hs 0 zeros).doc in
-    let v = alone_pivot th ms hs records a in
-    let above = alone_above th ms hs records a in
-    let on_p = alone_on th ms hs records a in
-    let same : map (to p) ls ≡ ls = alone_same th ms hs records a in
-    let combined = g.C.ScoreCombiner.combined c.args.combiner in
-    let sum : combined (scores_of p ls) ≡ combined (front_scores p ls) = ap combined (pivot_scores th p ls h v on_p ∙ ap (front_scores p) same) in
-    a.below zeros
-
-pub score_pivot-scored-requires-clause-callable : goal.score_pivot-scored-requires-clause-callable
-score_pivot-scored-requires-clause-callable g c =
-    let ss = c.args.scorers.now in
-    let hs = c.args.heads.now in
-    let ms = map wand_member ss in
-    let ls = row_lists ss hs in
-    let th = c.args.threshold in
-    let is : to_z w64 (of_z w64 th) ≡ th = to_z-of_z w64 th c.ranges.threshold in
-    let records = c.requires.row.heads.records in
-    let h : AreMembers ls = row_members ss hs c.requires.row.heads in
-    let a : IsAlone th hs = subst (λ (t : ℤ). IsAlone t hs) is (c.is_alone.ensures c.if-is_alone.true) in
-    let p = (get_or hs 0 zeros).doc in
-    let v = alone_pivot th ms hs records a in
-    let above = alone_above th ms hs records a in
-    let on_p = alone_on th ms hs records a in
-    let same : map (to p) ls ≡ ls = alone_same th ms hs records a in
-    let combined = g.C.ScoreCombiner.combined c.args.combiner in
-    let sum : combined (scores_of p ls) ≡ combined (front_scores p ls) = ap combined (pivot_scores th p ls h v on_p ∙ ap (front_scores p) same) in
-    let w = fnmut.words g.row.C g.row.F g.F.FnMut in
-    let may = score_may combined (g.met.C.BoundedBySum.within_sum c.args.combiner) (InRange w.step) th p ls
-    (map (past p) (map (to p) ls)) h (scores_pivot th p ls h v on_p above) w.pre c.args.callback.now c.requires.callable in
-    rw (is, sym sum) may.0
-
-pub returns-then-is_alone-clause-fits : goal.returns-then-is_alone-clause-fits
-returns-then-is_alone-clause-fits g c =
-    let ss = c.args.scorers.now in
-    let hs = c.args.heads.now in
-    let ms = map wand_member ss in
-    let ls = row_lists ss hs in
-    let th = c.args.threshold in
-    let is : to_z w64 (of_z w64 th) ≡ th = to_z-of_z w64 th c.ranges.threshold in
-    let records = c.requires.row.heads.records in
-    let h : AreMembers ls = row_members ss hs c.requires.row.heads in
-    let a : IsAlone th hs = subst (λ (t : ℤ). IsAlone t hs) is (c.is_alone.ensures c.if-is_alone.true) in
-    let p = (get_or hs 0 zeros).doc in
-    let v = alone_pivot th ms hs records a in
-    let above = alone_above th ms hs records a in
-    let on_p = alone_on th ms hs records a in
-    let same : map (to p) ls ≡ ls = alone_same th ms hs records a in
-    let combined = g.C.ScoreCombiner.combined c.args.combiner in
-    let sum : combined (scores_of p ls) ≡ combined (front_scores p ls) = ap combined (pivot_scores th p ls h v on_p ∙ ap (front_scores p) same) in
-    total_permuted (λ m. m.top) (map (past p) ls) (row_lists c.score_pivot-scored.new.scorers c.score_pivot-scored.new.heads) c.score_pivot-scored.ensures.lists
-    ∙ tops_past p ls
-
-pub returns-then-is_alone-clause-turn : goal.returns-then-is_alone-clause-turn
-returns-then-is_alone-clause-turn g c =
-    let ss = c.args.scorers.now in
-    let hs = c.args.heads.now in
-    let ms = map wand_member ss in
-    let ls = row_lists ss hs in
-    let th = c.args.threshold in
-    let is : to_z w64 (of_z w64 th) ≡ th = to_z-of_z w64 th c.ranges.threshold in
-    let records = c.requires.row.heads.records in
-    let h : AreMembers ls = row_members ss hs c.requires.row.heads in
-    let a : IsAlone th hs = subst (λ (t : ℤ). IsAlone t hs) is (c.is_alone.ensures c.if-is_alone.true) in
-    let p = (get_or hs 0 zeros).doc in
-    let v = alone_pivot th ms hs records a in
-    let above = alone_above th ms hs records a in
-    let on_p = alone_on th ms hs records a in
-    let same : map (to p) ls ≡ ls = alone_same th ms hs records a in
-    let combined = g.C.ScoreCombiner.combined c.args.combiner in
-    let sum : combined (scores_of p ls) ≡ combined (front_scores p ls) = ap combined (pivot_scores th p ls h v on_p ∙ ap (front_scores p) same) in
-    let ns = map (past p) (map (to p) ls) in
-    let last = row_lists c.score_pivot-scored.new.scorers c.score_pivot-scored.new.heads in
-    let after = c.score_pivot-scored.result in
-    let is_after : to_z w64 (of_z w64 after) ≡ after = to_z-of_z w64 after (record { sfits = c.score_pivot-scored.type_inv }) in
-    let moved : IsPermutation ns last = subst (λ (xs : List Member). IsPermutation (map (past p) xs) last) (sym same) c.score_pivot-scored.ensures.lists in
-    λ _. record {
-      pivot = p;
-      lists = ns;
-      found = v;
-      fewer = omega (arith, fewer_scored th p ls h v on_p, postings_permuted ns last moved);
-      order = moved;
-      turn = inr (inr (record {
-        bounds = above;
-        lists = refl;
-        all_are_on = on_p;
-        tick = refl;
-        turn = rw (is_after, sum) (rw is at c.score_pivot-scored.ensures.turn);
-        scores = scores_pivot th p ls h v on_p above;
-      }));
-    }
