@@ -4,11 +4,13 @@ use Rattle.std.proofs.Common.{append_assoc, length-append, add-one, suc, drop}
 use Rattle.std.specs.List.{flat_map}
 use Rattle.std.proofs.Math.Seq.{drop-cons}
 use Rattle.qm_postings.specs.Segment.{Segment}
-use Rattle.qm_postings.specs.declared.segment_reader.SegmentReader.{SegmentReader}
+use Rattle.qm_postings.specs.Reading.{Reader}
 use Rattle.qm_script.specs.AllSegments.{all_listed, listed, listed_from, wanted_score}
-use Rattle.qm_script.specs.Parts.{AreParts, document_count}
+use Rattle.qm_index.specs.Indexed.{AreMerged, AreSearched, all_segments}
+use Rattle.qm_index.specs.Parts.{AreParts, segments_of}
+use Rattle.qm_script.specs.Parts.{document_count}
 use Rattle.qm_script.specs.PrefixFree.{has_no_prefix}
-use Rattle.qm_script.specs.ScriptSegments.{AreOnePart, AreSegments, Script, all_segments}
+use Rattle.qm_script.specs.ScriptSegments.{Script}
 use Rattle.qm_weight.specs.Tree.{Tree}
 use Rattle.qm_script.proofs.PartListings.{IsByDocument, IsByDocuments, items-few_parts, items-few_segments, items-parts, items-segments, items_from}
 use Rattle.qm_script.proofs.TreeParts.{score-documents, score-same}
@@ -24,12 +26,12 @@ module _ (tree : Tree) where
   listed-items scored first (s ∷ segments) = ap (λ l. listed scored tree first s ++ l) (listed-items scored (first + length s.documents) segments)
 
   by-document : (scored : Bool) → has_no_prefix tree ≡ true → IsByDocument (numbered_item scored)
-  by-document false free n s t d e schema document = refl
-  by-document true free n s t d e schema document = ap (λ k. (n, Some (pos k))) (score-same tree free s t d e schema document 1)
+  by-document false free n s t d e schema document alive = refl
+  by-document true free n s t d e schema document alive = ap (λ k. (n, Some (pos k))) (score-same tree free s t d e schema document 1)
 
   by-documents : (scored : Bool) → IsByDocuments (numbered_item scored)
-  by-documents false n s t d schema documents = refl
-  by-documents true n s t d schema documents = ap (λ k. (n, Some (pos k))) (score-documents s t schema documents tree 1 d)
+  by-documents false n s t d schema documents alive = refl
+  by-documents true n s t d schema documents alive = ap (λ k. (n, Some (pos k))) (score-documents s t schema documents tree 1 d)
 
   -- the parts of a segment, for a tree without prefixes
   pub listed-parts : (scored : Bool) (whole : Segment) (parts : List Segment) → has_no_prefix tree ≡ true →
@@ -44,25 +46,25 @@ module _ (tree : Tree) where
       listed-items scored first parts ∙ items-few_parts tree (numbered_item scored) (by-documents scored) first whole parts few are
 
   -- a tree without prefixes
-  pub listed-segments : (scored : Bool) (script : Script) (segments : List Segment) → has_no_prefix tree ≡ true →
-      AreSegments script segments → all_listed scored tree segments ≡ all_listed scored tree (all_segments script)
-  listed-segments scored script segments free are =
-      listed-items scored 0 segments
-      ∙ items-segments tree (numbered_item scored) script segments free (by-document scored free) are
+  pub listed-segments : (scored : Bool) (script : Script) (readers : List Reader) → has_no_prefix tree ≡ true →
+      AreSearched script readers → all_listed scored tree (segments_of readers) ≡ all_listed scored tree (all_segments script)
+  listed-segments scored script readers free are =
+      listed-items scored 0 (segments_of readers)
+      ∙ items-segments tree (numbered_item scored) script readers free (by-document scored free) are
       ∙ sym (listed-items scored 0 (all_segments script))
 
   -- any tree, where the open segment is in one part at most
-  pub listed-one_part : (scored : Bool) (script : Script) (segments : List Segment) →
-      AreOnePart script segments → all_listed scored tree segments ≡ all_listed scored tree (all_segments script)
-  listed-one_part scored script segments are =
-      listed-items scored 0 segments
-      ∙ items-few_segments tree (numbered_item scored) script segments (by-documents scored) are.segments are.one
+  pub listed-one_part : (scored : Bool) (script : Script) (readers : List Reader) →
+      AreMerged script readers → all_listed scored tree (segments_of readers) ≡ all_listed scored tree (all_segments script)
+  listed-one_part scored script readers are =
+      listed-items scored 0 (segments_of readers)
+      ∙ items-few_segments tree (numbered_item scored) script readers (by-documents scored) are.searched are.one
       ∙ sym (listed-items scored 0 (all_segments script))
 
 -- A loop over segments: one more is listed.
 
-module _ (scored : Bool) (tree : Tree) (readers : List SegmentReader) (i : ℕ)
-    (item : SegmentReader) (within : i < length readers) (is : item ≡ get_or readers i item) where
+module _ (scored : Bool) (tree : Tree) (readers : List Reader) (i : ℕ)
+    (item : Reader) (within : i < length readers) (is : item ≡ get_or readers i item) where
   pub row-next : drop i readers ≡ item ∷ drop (i + 1) readers
   row-next = drop-cons readers i item within ∙ ap (λ r. r ∷ drop (suc i) readers) (sym is) ∙ ap (λ k. item ∷ drop k readers) (sym (add-one i))
 

@@ -1,27 +1,63 @@
 -- What a query's tree lists over the parts of a segment, one after another, is what it lists over the
 -- segment.
-use Rattle.std.proofs.Common.{◌≡◌, ℕ, ◌+◌, ◌<◌, true, List, [], ◌∷◌, ◌++◌, length, map, filter, refl, ap, sym, ◌∙◌, arith, append_assoc, append-nil}
-use Rattle.std.proofs.Common.{length-append, add-zero, zero-add}
-use Rattle.std.specs.List.{flat_map, range_with_len}
-use Rattle.std.proofs.lemmas.List.{map-append}
+use Rattle.std.proofs.Common.{◌≡◌, ℕ, ◌+◌, ◌-◌, ◌<◌, ◌≤◌, ◌==◌, ◌&&◌, Bool, true, not, nat_lt, min, List, [], ◌∷◌, ◌++◌, length, map, filter, refl, ap, sym, ◌∙◌, arith}
+use Rattle.std.proofs.Common.{append-nil, add-zero, zero-add, lt-ltb, le-ltb, inl, inr, take, drop, length-take}
+use Rattle.std.specs.List.{list_any, range_with_len}
+use Rattle.std.proofs.lemmas.Bool.{cases_lt}
+use Rattle.std.proofs.lemmas.List.{get_or-drop, get_or-take, length-drop, map-append, take_all}
 use Rattle.std.proofs.lemmas.List.Elements.{filter-append}
-use Rattle.qm_docset.specs.Entry.{Entry}
-use Rattle.qm_docset.specs.Gather.{scored}
-use Rattle.qm_postings.specs.Segment.{Document, Segment}
-use Rattle.qm_script.specs.Parts.{AreParts}
+use Rattle.qm_docset.specs.Members.{members_between}
+use Rattle.qm_index.specs.Indexed.{AreSearched, all_segments}
+use Rattle.qm_index.specs.Parts.{AreParts, ArePartsFrom, part_of, segments_of}
+use Rattle.qm_postings.specs.Reading.{Reader}
+use Rattle.qm_postings.specs.Segment.{Document, Segment, is_alive, is_deleted, no_document}
+use Rattle.qm_postings.proofs.DeletedDocuments.{among_members}
 use Rattle.qm_script.specs.PrefixFree.{has_no_prefix}
-use Rattle.qm_script.specs.ScriptSegments.{AreSegments, Script, all_segments}
-use Rattle.qm_weight.specs.Tree.{Tree, matches, matching, score}
+use Rattle.qm_script.specs.ScriptSegments.{Script}
+use Rattle.qm_weight.specs.Tree.{Tree, matches, matching}
 use Rattle.qm_script.proofs.Ranges.{map-filter-shifted, range-append}
-use Rattle.qm_script.proofs.TreeParts.{document-part, document_at, matches-same, matching-documents, score-same}
+use Rattle.qm_script.proofs.TreeParts.{document_at, matches-same, matching-documents}
 
--- an item is made of its number, the schema and one document
+-- an item is made of its number, the schema, one document, and whether this was deleted
 abbrev pub IsByDocument : {Y : Type 0} → (ℕ → Segment → ℕ → Y) → Type 0
-IsByDocument item = (n : ℕ) (s t : Segment) (d e : ℕ) → s.schema ≡ t.schema → document_at s d ≡ document_at t e → item n s d ≡ item n t e
+IsByDocument item = (n : ℕ) (s t : Segment) (d e : ℕ) → s.schema ≡ t.schema → document_at s d ≡ document_at t e →
+    is_alive s d ≡ is_alive t e → item n s d ≡ item n t e
 
--- an item is made of its number, the schema and the documents
+-- an item is made of its number, the schema and the documents, and of which are deleted
 abbrev pub IsByDocuments : {Y : Type 0} → (ℕ → Segment → ℕ → Y) → Type 0
-IsByDocuments item = (n : ℕ) (s t : Segment) (d : ℕ) → s.schema ≡ t.schema → s.documents ≡ t.documents → item n s d ≡ item n t d
+IsByDocuments item = (n : ℕ) (s t : Segment) (d : ℕ) → s.schema ≡ t.schema → s.documents ≡ t.documents →
+    is_alive s d ≡ is_alive t d → item n s d ≡ item n t d
+
+-- ---- a part
+
+module _ (whole p : Segment) (first : ℕ) (is : p ≡ part_of whole first (length p.documents)) where
+  pub part-within : first ≤ length whole.documents → first + length p.documents ≤ length whole.documents
+  part-within below =
+      let long = ap (λ s. length s.documents) is ∙ length-take (length p.documents) (drop first whole.documents) in
+      omega (arith, long, length-drop first whole.documents, below)
+
+  pub document-part : (d : ℕ) → d < length p.documents → document_at p d ≡ document_at whole (first + d)
+  document-part d below =
+      ap (λ s. document_at s d) is ∙ get_or-take (length p.documents) (drop first whole.documents) d no_document below
+      ∙ get_or-drop first whole.documents d no_document
+
+  pub alive-part : first + length p.documents ≤ length whole.documents → (d : ℕ) → d < length p.documents → is_alive p d ≡ is_alive whole (first + d)
+  alive-part within d below =
+      ap (λ b. b && not (is_deleted p d)) (lt-ltb d (length p.documents) below)
+      ∙ ap not (ap (λ s. is_deleted s d) is ∙ among_members (λ x. is_deleted whole (first + x)) (length p.documents) d below)
+      ∙ ap (λ b. b && not (is_deleted whole (first + d))) (sym (lt-ltb (first + d) (length whole.documents) (omega (arith, within, below))))
+
+-- one part that has all documents
+module _ (whole p : Segment) (is : p ≡ part_of whole 0 (length p.documents)) (all : 0 + length p.documents ≡ length whole.documents) where
+  pub documents-whole : p.documents ≡ whole.documents
+  documents-whole = ap (λ s. s.documents) is ∙ take_all (length p.documents) whole.documents (omega (arith, all))
+
+  pub alive-whole : (d : ℕ) → is_alive p d ≡ is_alive whole d
+  alive-whole d = elim (cases_lt d (length p.documents)) [
+    | inl below ↦ alive-part whole p 0 is (omega (arith, all)) d below ∙ ap (is_alive whole) (zero-add d)
+    | inr past ↦ ap (λ b. b && not (is_deleted p d)) (le-ltb d (length p.documents) past)
+        ∙ ap (λ b. b && not (is_deleted whole d)) (sym (le-ltb d (length whole.documents) (omega (arith, past, all))))
+  ]
 
 -- An item for each document that a tree matches: it is made of the document's number over all segments,
 -- and of what it says.
@@ -47,58 +83,54 @@ module _ {Y : Type 0} (tree : Tree) (item : ℕ → Segment → ℕ → Y) where
         ∙ map-append (λ d. item (first + d) whole d) (filter (matches tree whole) (range_with_len a n)) (filter (matches tree whole) (range_with_len (a + n) m))
 
     -- a part of it
-    part : (before after : List Document) (p : Segment) → whole.documents ≡ before ++ (p.documents ++ after) →
-        p.schema ≡ whole.schema → items (first + length before) p ≡ stretch (length before) (length p.documents)
-    part before after p cut schema =
-        let document : (d : ℕ) → d < length p.documents → document_at p (0 + d) ≡ document_at whole (length before + d) =
-        λ d below. ap (document_at p) (zero-add d) ∙ document-part whole p before after d cut below in
-        map-filter-shifted (matches tree p) (matches tree whole) (λ d. item (first + length before + d) p d)
-        (λ d. item (first + d) whole d) 0 (length before) (length p.documents)
-        (λ d below. matches-same tree free p whole (0 + d) (length before + d) schema (document d below))
+    part : (before : ℕ) (p : Segment) → p ≡ part_of whole before (length p.documents) → before + length p.documents ≤ length whole.documents →
+        items (first + before) p ≡ stretch before (length p.documents)
+    part before p is within =
+        let schema : p.schema ≡ whole.schema = ap (λ s. s.schema) is in
+        let document : (d : ℕ) → d < length p.documents → document_at p (0 + d) ≡ document_at whole (before + d) =
+        λ d below. ap (document_at p) (zero-add d) ∙ document-part whole p before is d below in
+        let alive : (d : ℕ) → d < length p.documents → is_alive p (0 + d) ≡ is_alive whole (before + d) =
+        λ d below. ap (is_alive p) (zero-add d) ∙ alive-part whole p before is within d below in
+        map-filter-shifted (matches tree p) (matches tree whole) (λ d. item (first + before + d) p d)
+        (λ d. item (first + d) whole d) 0 before (length p.documents)
+        (λ d below. matches-same tree free p whole (0 + d) (before + d) schema (document d below))
         (λ d below.
-        let number : first + length before + (0 + d) ≡ first + (length before + d) = omega arith in
-        ap (λ n. item n p (0 + d)) number ∙ item-same (first + (length before + d)) p whole (0 + d) (length before + d) schema (document d below))
+        let number : first + before + (0 + d) ≡ first + (before + d) = omega arith in
+        ap (λ n. item n p (0 + d)) number
+        ∙ item-same (first + (before + d)) p whole (0 + d) (before + d) schema (document d below) (alive d below))
 
     -- all parts from some on
-    parts-from : (before : List Document) (parts : List Segment) → whole.documents ≡ before ++ flat_map (λ p. p.documents) parts → map (λ p. p.schema) parts
-        ≡ map (λ p. whole.schema) parts → items_from (first + length before) parts ≡ stretch (length before) (length (flat_map (λ p. p.documents) parts))
-    parts-from before [] cut schemas = refl
-    parts-from before (p ∷ parts) cut schemas =
-        let rest = flat_map (λ (s : Segment). s.documents) parts in
-        let schema : p.schema ≡ whole.schema = cc in
-        let schemas_after : map (λ (s : Segment). s.schema) parts ≡ map (λ s. whole.schema) parts = cc in
-        let next : length (before ++ p.documents) ≡ length before + length p.documents = length-append before p.documents in
-        let number : first + length before + length p.documents ≡ first + length (before ++ p.documents) = omega arith in
-        ap (λ l. l ++ items_from (first + length before + length p.documents) parts) (part before rest p cut schema)
-        ∙ ap (λ k. stretch (length before) (length p.documents) ++ items_from k parts) number
-        ∙ ap (λ l. stretch (length before) (length p.documents) ++ l)
-        (parts-from (before ++ p.documents) parts (cut ∙ sym (append_assoc before p.documents rest)) schemas_after)
-        ∙ ap (λ k. stretch (length before) (length p.documents) ++ stretch k (length rest)) next
-        ∙ sym (stretch-append (length before) (length p.documents) (length rest))
-        ∙ ap (stretch (length before)) (sym (length-append p.documents rest))
+    parts-from : (before : ℕ) (parts : List Segment) → before ≤ length whole.documents → ArePartsFrom before whole parts →
+        items_from (first + before) parts ≡ stretch before (length whole.documents - before)
+    parts-from before [] below are = let none : length whole.documents - before ≡ 0 = omega (arith, are) in ap (stretch before) (sym none)
+    parts-from before (p ∷ parts) below are =
+        let n = length p.documents in
+        let within = part-within whole p before are.0 below in
+        let number : first + before + n ≡ first + (before + n) = omega arith in
+        let all : n + (length whole.documents - (before + n)) ≡ length whole.documents - before = omega (arith, within) in
+        ap (λ l. l ++ items_from (first + before + n) parts) (part before p are.0 within)
+        ∙ ap (λ k. stretch before n ++ items_from k parts) number
+        ∙ ap (λ l. stretch before n ++ l) (parts-from (before + n) parts within are.1)
+        ∙ sym (stretch-append before n (length whole.documents - (before + n)))
+        ∙ ap (stretch before) all
 
     -- all parts
     pub items-parts : (parts : List Segment) → AreParts whole parts → items_from first parts ≡ items first whole
-    items-parts parts are =
-        ap (λ k. items_from k parts) (sym (add-zero first))
-        ∙ parts-from [] parts (sym are.documents) are.schemas
-        ∙ ap (λ ds. stretch 0 (length ds)) are.documents
+    items-parts parts are = ap (λ k. items_from k parts) (sym (add-zero first)) ∙ parts-from 0 parts (omega arith) are
 
   -- one part, whatever the tree
   module _ (item-same : IsByDocuments item) where
-    pub items-documents : (first : ℕ) (s t : Segment) → s.schema ≡ t.schema → s.documents ≡ t.documents → items first s ≡ items first t
-    items-documents first s t schema documents =
-        ap (λ ds. map (λ d. item (first + d) s d) ds) (matching-documents s t schema documents tree)
-        ∙ (λ i. map (λ d. item-same (first + d) s t d schema documents i) (matching tree t))
-
     -- at most one part
     pub items-few_parts : (first : ℕ) (whole : Segment) (parts : List Segment) →
         length parts < 2 → AreParts whole parts → items_from first parts ≡ items first whole
     items-few_parts first whole [] few are =
-        ap (λ ds. map (λ d. item (first + d) whole d) (filter (matches tree whole) (range_with_len 0 (length ds)))) are.documents
+        ap (λ n. map (λ d. item (first + d) whole d) (filter (matches tree whole) (range_with_len 0 n))) are
     items-few_parts first whole (p ∷ []) few are =
-        let schema : p.schema ≡ whole.schema = cc in
-        append-nil (items first p) ∙ items-documents first p whole schema (sym (append-nil p.documents) ∙ are.documents)
+        let schema : p.schema ≡ whole.schema = ap (λ s. s.schema) are.0 in
+        let documents = documents-whole whole p are.0 are.1 in
+        append-nil (items first p)
+        ∙ ap (λ ds. map (λ d. item (first + d) p d) ds) (matching-documents p whole schema documents tree)
+        ∙ (λ i. map (λ d. item-same (first + d) p whole d schema documents (alive-whole whole p are.0 are.1 d) i) (matching tree whole))
     items-few_parts first whole (p ∷ q ∷ parts) few are = let none : ⊥ = omega (few, arith) in absurd none
 
   -- segments behind others
@@ -110,41 +142,19 @@ module _ {Y : Type 0} (tree : Tree) (item : ℕ → Segment → ℕ → Y) where
 
 -- ---- the segments of a script, of which the open one is in parts
 
-module _ {Y : Type 0} (tree : Tree) (item : ℕ → Segment → ℕ → Y) (script : Script) (segments : List Segment) where
+module _ {Y : Type 0} (tree : Tree) (item : ℕ → Segment → ℕ → Y) (script : Script) (readers : List Reader) where
   -- a tree without prefixes
-  pub items-segments : has_no_prefix tree ≡ true → IsByDocument item → AreSegments script segments →
-      items_from tree item 0 segments ≡ items_from tree item 0 (all_segments script)
+  pub items-segments : has_no_prefix tree ≡ true → IsByDocument item → AreSearched script readers →
+      items_from tree item 0 (segments_of readers) ≡ items_from tree item 0 (all_segments script)
   items-segments free item-same are =
       ap (items_from tree item 0) are.all
       ∙ items_from-append tree item 0 script.ended are.parts script.current
-      (λ n. items-parts tree item free item-same script.current n are.parts are.parts_of_current)
+      (λ n. items-parts tree item free item-same script.current n are.parts are.of_current)
 
   -- any tree, where the open segment has at most one part
-  pub items-few_segments : IsByDocuments item → (are : AreSegments script segments) →
-      length are.parts < 2 → items_from tree item 0 segments ≡ items_from tree item 0 (all_segments script)
+  pub items-few_segments : IsByDocuments item → (are : AreSearched script readers) →
+      length are.parts < 2 → items_from tree item 0 (segments_of readers) ≡ items_from tree item 0 (all_segments script)
   items-few_segments item-same are few =
       ap (items_from tree item 0) are.all
       ∙ items_from-append tree item 0 script.ended are.parts script.current
-      (λ n. items-few_parts tree item item-same n script.current are.parts few are.parts_of_current)
-
--- ---- the documents that a tree matches, and each with its score
-
--- the documents that the tree matches, numbered over some segments from this number on
-abbrev pub matching_from : Tree → ℕ → List Segment → List ℕ
-matching_from tree first segments = items_from tree (λ n s d. n) first segments
-
--- each with its score
-abbrev pub list_from : Tree → ℕ → ℕ → List Segment → List Entry
-list_from tree b first segments = items_from tree (λ n s d. scored n (score tree b s d)) first segments
-
-pub matching-parts : (tree : Tree) → has_no_prefix tree ≡ true → (first : ℕ) (whole : Segment) (parts : List Segment) →
-    AreParts whole parts → matching_from tree first parts ≡ matching_from tree first (whole ∷ [])
-matching-parts tree free first whole parts are =
-    items-parts tree (λ n s d. n) free (λ n s t d e schema document. refl) whole first parts are ∙ sym (append-nil (map (λ d. first + d) (matching tree whole)))
-
-pub list-parts : (tree : Tree) → has_no_prefix tree ≡ true → (b first : ℕ) (whole : Segment) (parts : List Segment) →
-    AreParts whole parts → list_from tree b first parts ≡ list_from tree b first (whole ∷ [])
-list-parts tree free b first whole parts are =
-    items-parts tree (λ n s d. scored n (score tree b s d)) free
-    (λ n s t d e schema document. ap (scored n) (score-same tree free s t d e schema document b)) whole first parts are
-    ∙ sym (append-nil (map (λ d. scored (first + d) (score tree b whole d)) (matching tree whole)))
+      (λ n. items-few_parts tree item item-same n script.current are.parts few are.of_current)

@@ -1,8 +1,7 @@
 -- What a query's tree matches and scores over the parts of a segment is what it does over the segment.
-use Rattle.std.proofs.Common.{◌≡◌, ℕ, ◌+◌, ◌*◌, ◌<◌, Bool, true, false, ◌&&◌, if◌then◌else◌, List, [], ◌∷◌, ◌++◌, length, map, filter, slice_index_or, get_or}
+use Rattle.std.proofs.Common.{◌≡◌, ℕ, ◌+◌, ◌*◌, Bool, true, false, ◌&&◌, if◌then◌else◌, List, [], ◌∷◌, length, map, filter, slice_index_or}
 use Rattle.std.proofs.Common.{Option, None, Some, refl, ap, sym, ◌∙◌}
 use Rattle.std.proofs.lemmas.Bool.{false≢true}
-use Rattle.std.proofs.lemmas.List.{get_or-append-add, get_or_append_left}
 use Rattle.std.specs.List.{range_with_len, sum}
 use Rattle.qm_docset.specs.Gather.{scored}
 use Rattle.qm_schema.specs.Schema.{FieldFacts}
@@ -99,13 +98,6 @@ module _ (tree : Tree) (free : has_no_prefix tree ≡ true) (s t : Segment) (d e
 
   pub score-same : (b : ℕ) → score tree b s d ≡ score tree b t e
   score-same b = score-alone tree b s d free ∙ ap (λ a. score tree b a 0) same ∙ sym (score-alone tree b t e free)
-
--- a document of a part, and where it stands in the whole
-pub document-part : (whole part : Segment) (before after : List Document) (d : ℕ) → whole.documents ≡ before ++ (part.documents ++ after) →
-    d < length part.documents → document_at part d ≡ document_at whole (length before + d)
-document-part whole part before after d cut below =
-    sym (get_or-append-add before (part.documents ++ after) d no_document ∙ get_or_append_left part.documents after no_document d below)
-    ∙ ap (λ ds. get_or ds (length before + d) no_document) (sym cut)
 
 -- ---- the schema and the documents decide, whatever the tree
 

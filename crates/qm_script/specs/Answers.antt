@@ -1,5 +1,5 @@
 -- What the program answers to a line, what it leaves, and the text of each answer.
-use Rattle.std.specs.Prelude.{◌≡◌, ℕ, ◌<◌, ◌≤◌, ◌⊎◌, ℤ, Option, None, Some, Result, Ok, Err, List, [], ◌∷◌, ◌++◌, codes, length, nat_abs, string_bytes}
+use Rattle.std.specs.Prelude.{◌≡◌, ℕ, true, false, ◌⊎◌, ℤ, Option, None, Some, Result, Ok, Err, List, [], ◌∷◌, ◌++◌, codes, length, nat_abs, string_bytes}
 use Rattle.std.specs.Fmt.{decimal}
 use Rattle.qm_postings.specs.Statistics.{Searched}
 use Rattle.qm_query.specs.Query.{Query}
@@ -9,9 +9,9 @@ use Rattle.qm_schema.specs.declared.error.QueryError.{QueryError}
 use Rattle.qm_schema.specs.declared.error.QueryError.TheVariants.{Memory, TooManySegments}
 use Rattle.qm_script.specs.Asked.{asked}
 use Rattle.qm_script.specs.Found.{found_above, found_alive, found_matches}
-use Rattle.qm_script.specs.Parts.{document_count}
 use Rattle.qm_script.specs.Script as language
-use Rattle.qm_script.specs.ScriptSegments.{Script, all_segments, with_deleted, with_document_of, with_segment_ended}
+use Rattle.qm_index.specs.Indexed.{Deletes, all_segments, with_segment_ended}
+use Rattle.qm_script.specs.ScriptSegments.{Script, with_document_of}
 use Rattle.qm_script.specs.Spelled.{query_of}
 use Rattle.qm_script.specs.State.{State, with_documents, with_weight}
 use Rattle.qm_script.specs.Text.{listing_text}
@@ -23,11 +23,6 @@ use Rattle.qm_script.specs.ProgramNumbers.{most_segments}
 use Rattle.qm_script.specs.declared.parse.Command.{Command}
 use Rattle.qm_script.specs.declared.parse.Command.TheVariants.{Nothing, AddDocument, SetWeight, EndSegment, DeleteDocument, ListDocuments, ListScores}
 use Rattle.qm_script.specs.declared.parse.Command.TheVariants.{CountMatches, ListAbove}
-
--- why the segments of a script may be refused as too many to be searched
-abbrev pub IsSegmentsRefusal : Script → QueryError → Type 0
-IsSegmentsRefusal s TooManySegments = most_segments < length (all_segments s)
-IsSegmentsRefusal s error = ⊥
 
 -- a refusal of this number that can come
 abbrev pub IsRefusedBy : (QueryError → Type 0) → ℕ → Type 0
@@ -41,22 +36,32 @@ AddsDocument text s answer t = ⊥
 
 -- a line that deletes a document: its answer, and what it leaves
 abbrev pub DeletesDocument : ℕ → State → Answer → State → Type 0
-DeletesDocument number s Silence t = (number < document_count (all_segments s.documents)) × (t ≡ with_documents s (with_deleted s.documents number))
-DeletesDocument number s NotUnderstood t = (document_count (all_segments s.documents) ≤ number) × (t ≡ s)
+DeletesDocument number s Silence t = Deletes number s.documents true t.documents × (t.weights ≡ s.weights)
+DeletesDocument number s NotUnderstood t = Deletes number s.documents false t.documents × (t.weights ≡ s.weights)
 DeletesDocument number s answer t = ⊥
 
--- why a line that lists what a query matches may be refused: the query can't be built, there are too many
--- segments, its scores may pass the greatest; or want of memory. The one field of a script's documents serves
--- every query
-abbrev pub IsLineRefusal : EnableScoring Searched → language.Query → Script → QueryError → Type 0
-IsLineRefusal enable q s error =
-    (error ≡ Memory) ⊎ ((asked q ≡ Err error) ⊎ (IsSegmentsRefusal s error ⊎ ((query : Query) × (asked q ≡ Ok query) × IsScoreRefusal enable query error)))
+-- why the open segment may not be ended: there are as many segments as can be searched at once
+pub record IsLastSegment (s : Script) (error : QueryError) : Type 0 where
+  pub error_is : error ≡ TooManySegments
+  pub number : length (all_segments s) ≡ most_segments
+
+-- a line that ends it: its answer, and what it leaves
+abbrev pub EndsSegment : State → Answer → State → Type 0
+EndsSegment s Silence t = t ≡ with_documents s (with_segment_ended s.documents)
+EndsSegment s (Refused number) t = (t ≡ s) × IsRefusedBy (IsLastSegment s.documents) number
+EndsSegment s answer t = ⊥
+
+-- why a line that lists what a query matches may be refused: the query can't be built, its scores may pass the
+-- greatest; or want of memory. The one field of a script's documents serves every query
+abbrev pub IsLineRefusal : EnableScoring Searched → language.Query → QueryError → Type 0
+IsLineRefusal enable q error =
+    (error ≡ Memory) ⊎ ((asked q ≡ Err error) ⊎ ((query : Query) × (asked q ≡ Ok query) × IsScoreRefusal enable query error))
 
 -- a line that lists something of a query: its answer, and the text, which the query makes
-abbrev pub AnswersQuery : (Query → List ℕ) → EnableScoring Searched → language.Query → Script → Answer → List ℕ → Type 0
-AnswersQuery text_of enable q s Listing text = (query : Query) × (asked q ≡ Ok query) × (text ≡ text_of query)
-AnswersQuery text_of enable q s (Refused number) text = IsRefusedBy (IsLineRefusal enable q s) number
-AnswersQuery text_of enable q s answer text = ⊥
+abbrev pub AnswersQuery : (Query → List ℕ) → EnableScoring Searched → language.Query → Answer → List ℕ → Type 0
+AnswersQuery text_of enable q Listing text = (query : Query) × (asked q ≡ Ok query) × (text ≡ text_of query)
+AnswersQuery text_of enable q (Refused number) text = IsRefusedBy (IsLineRefusal enable q) number
+AnswersQuery text_of enable q answer text = ⊥
 
 -- the documents that a query matches, with their scores where these are wanted
 abbrev pub listed_text : EnableScoring Searched → Script → Query → List ℕ
@@ -64,7 +69,7 @@ listed_text enable s query = listing_text (found_matches enable query (all_segme
 
 -- how many of them weren't deleted, in decimal digits
 abbrev pub count_text : EnableScoring Searched → Script → Query → List ℕ
-count_text enable s query = decimal (found_alive s.deleted enable query (all_segments s))
+count_text enable s query = decimal (found_alive enable query (all_segments s))
 
 -- those for which a pruned run calls, with their scores, where each segment begins at this threshold
 abbrev pub pruned_text : ℤ → EnableScoring Searched → Script → Query → List ℕ
@@ -72,23 +77,23 @@ pruned_text threshold enable s query = listing_text (found_above threshold enabl
 
 -- a line that lists documents alone
 abbrev pub ListsDocuments : language.Query → Script → Answer → List ℕ → Type 0
-ListsDocuments q s answer text = (enable : EnableScoring Searched) × IsForDocuments s enable × AnswersQuery (listed_text enable s) enable q s answer text
+ListsDocuments q s answer text = (enable : EnableScoring Searched) × IsForDocuments s enable × AnswersQuery (listed_text enable s) enable q answer text
 
 -- a line that counts them
 abbrev pub CountsMatches : language.Query → Script → Answer → List ℕ → Type 0
-CountsMatches q s answer text = (enable : EnableScoring Searched) × IsForDocuments s enable × AnswersQuery (count_text enable s) enable q s answer text
+CountsMatches q s answer text = (enable : EnableScoring Searched) × IsForDocuments s enable × AnswersQuery (count_text enable s) enable q answer text
 
 -- a line that lists documents with scores, by what the script says that words weigh
 abbrev pub ListsScores : language.Query → State → Answer → List ℕ → Type 0
 ListsScores q s answer text =
     (searched : Searched) × (enable : EnableScoring Searched) × IsForScores s searched enable ×
-    AnswersQuery (listed_text enable s.documents) enable q s.documents answer text
+    AnswersQuery (listed_text enable s.documents) enable q answer text
 
 -- a line that lists those of them for which a pruned run calls
 abbrev pub ListsAbove : ℤ → language.Query → State → Answer → List ℕ → Type 0
 ListsAbove threshold q s answer text =
     (searched : Searched) × (enable : EnableScoring Searched) × IsForScores s searched enable ×
-    AnswersQuery (pruned_text threshold enable s.documents) enable q s.documents answer text
+    AnswersQuery (pruned_text threshold enable s.documents) enable q answer text
 
 -- what is answered where a change of the documents or the weights came to this
 abbrev pub IsChangeAnswer : Result (Unit {0}) QueryError → Answer → Type 0
@@ -107,7 +112,7 @@ Step s None answer text t = (answer ≡ NotUnderstood) × (t ≡ s)
 Step s (Some Nothing) answer text t = (answer ≡ Silence) × (t ≡ s)
 Step s (Some (AddDocument words)) answer text t = AddsDocument (string_bytes words) s answer t
 Step s (Some (SetWeight word weight)) answer text t = (answer ≡ Silence) × (t ≡ with_weight s (string_bytes word) (nat_abs weight.score))
-Step s (Some EndSegment) answer text t = (answer ≡ Silence) × (t ≡ with_documents s (with_segment_ended s.documents))
+Step s (Some EndSegment) answer text t = EndsSegment s answer t
 Step s (Some (ListDocuments q)) answer text t = ListsDocuments (query_of q) s.documents answer text × (t ≡ s)
 Step s (Some (ListScores q)) answer text t = ListsScores (query_of q) s answer text × (t ≡ s)
 Step s (Some (DeleteDocument number)) answer text t = DeletesDocument number s answer t

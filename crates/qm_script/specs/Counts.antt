@@ -1,7 +1,10 @@
--- How many of the documents that are listed weren't deleted.
-use Rattle.std.specs.Prelude.{ℕ, ℤ, not, List, Option, filter, length}
-use Rattle.qm_postings.specs.Positions.{is_in}
+-- How many of the documents that a tree matches weren't deleted.
+use Rattle.std.specs.Prelude.{ℕ, List}
+use Rattle.std.specs.List.{sum_by}
+use Rattle.qm_postings.specs.Segment.{Segment}
+use Rattle.qm_weight.specs.Counts as one
+use Rattle.qm_weight.specs.Tree.{Tree}
 
--- how many of these documents, each with its number over all segments, have no deleted number
-abbrev pub alive_count : List ℕ → List (ℕ × Option ℤ) → ℕ
-alive_count deleted items = length (filter (λ i. not (is_in i.0 deleted)) items)
+-- how many documents of some segments it matches that weren't deleted
+abbrev pub alive_count : Tree → List Segment → ℕ
+alive_count tree segments = sum_by (λ s. one.alive_count tree s) segments

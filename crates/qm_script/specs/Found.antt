@@ -4,7 +4,7 @@ use Rattle.std.specs.Fmt.{decimal}
 use Rattle.std.specs.Global.{Global}
 use Rattle.qm_postings.specs.Segment.{Segment}
 use Rattle.qm_postings.specs.Statistics.{Searched}
-use Rattle.qm_postings.specs.declared.segment_reader.SegmentReader.{SegmentReader}
+use Rattle.qm_postings.specs.Reading.{Reader}
 use Rattle.qm_query.specs.EnableScoring.{is_enabled}
 use Rattle.qm_query.specs.Query.{Query}
 use Rattle.qm_query.specs.declared.enable_scoring.EnableScoring.{EnableScoring}
@@ -15,7 +15,7 @@ use Rattle.qm_script.specs.Pruned.{all_pruned, parts_pruned}
 use Rattle.qm_script.specs.Under.{tree_of}
 
 -- the segments of readers
-abbrev pub segments_of : List SegmentReader → List Segment
+abbrev pub segments_of : List Reader → List Segment
 segments_of readers = map (λ r. r.segment) readers
 
 -- each document that matches, with its score where scores are wanted
@@ -33,8 +33,8 @@ found_above_in_parts threshold enable query ended segments =
     found_above threshold enable query (take ended segments) ++ parts_pruned threshold tree (document_count (take ended segments)) (drop ended segments)
 
 -- how many match that weren't deleted
-abbrev pub found_alive : List ℕ → EnableScoring Searched → Query → List Segment → ℕ
-found_alive deleted enable query segments = alive_count deleted (all_listed false (tree_of enable query) segments)
+abbrev pub found_alive : EnableScoring Searched → Query → List Segment → ℕ
+found_alive enable query segments = alive_count (tree_of enable query) segments
 
 -- a text, and behind what it was a number in decimal digits
 abbrev pub AddsNumber : String Global → String Global → ℕ → Type 0

@@ -2,6 +2,7 @@
 use Rattle.std.specs.Prelude.{ℕ, List}
 use Rattle.std.specs.FinMap.{FinMap, empty, insert}
 use Rattle.qm_schema.specs.Term.{term_cmp}
+use Rattle.qm_index.specs.Indexed.{statistics}
 use Rattle.qm_script.specs.Asked.{term_of}
 use Rattle.qm_script.specs.ScriptSegments.{Script, script}
 use Rattle.qm_script.specs.Start.{start_script}
@@ -13,7 +14,7 @@ pub record State : Type 0 where
   pub weights : FinMap term_cmp ℕ
 
 abbrev pub state : Corpus → State
-state c = record { documents = script c.documents; weights = c.searcher.weights }
+state c = record { documents = script c; weights = (statistics c.index).weights }
 
 -- no document, and no word was given a weight
 abbrev pub start_state : State

@@ -1,12 +1,11 @@
 -- The segment that the texts of some documents make.
-use Rattle.std.specs.Prelude.{◌≡◌, ℕ, List, [], ◌∷◌, length, map, min, String, string_bytes}
-use Rattle.std.specs.Global.{Global}
+use Rattle.std.specs.Prelude.{◌≡◌, ℕ, List, [], ◌∷◌, length, min}
 use Rattle.qm_postings.specs.Document.{Draft, text_terms, words_of}
 use Rattle.qm_postings.specs.Segment.{Document, IsGood, Segment, document_of, with_document}
 use Rattle.qm_schema.specs.Schema.{FieldFacts}
 use Rattle.qm_schema.specs.declared.error.QueryError.{QueryError}
 use Rattle.qm_schema.specs.declared.error.QueryError.TheVariants.{TooManyDocuments, BadDocument}
-use Rattle.qm_script.specs.ProgramNumbers.{block_length, body_field, most_documents}
+use Rattle.qm_script.specs.ProgramNumbers.{body_field, most_documents}
 
 -- a document with the words of a text
 unfoldable pub text_draft : List ℕ → Draft
@@ -23,10 +22,6 @@ IsBadText schema text = ¬ IsGood schema (text_draft text)
 -- a segment with the document of one text more
 abbrev pub with_text : Segment → List ℕ → Segment
 with_text segment text = with_document segment (text_document segment.schema text)
-
--- the segment of a document for each text, in order
-abbrev pub segment_of : List FieldFacts → List (String Global) → Segment
-segment_of schema texts = record { schema = schema; block_len = block_length; documents = map (λ t. text_document schema (string_bytes t)) texts; deleted = [] }
 
 -- why a segment may refuse the document of a text, want of memory aside
 abbrev pub IsTextRefusal : Segment → List ℕ → QueryError → Type 0

@@ -92,7 +92,7 @@ pub(crate) fn answer_command(
         Some(Command::EndSegment) => answer_change(corpus.end_segment(alloc)),
         Some(Command::ListDocuments(query)) => list_documents(alloc, corpus, &query, text),
         Some(Command::ListScores(query)) => list_scores(alloc, corpus, &query, text),
-        Some(Command::DeleteDocument(number)) => answer_deletion(corpus, number),
+        Some(Command::DeleteDocument(number)) => answer_deletion(alloc, corpus, number),
         Some(Command::CountMatches(query)) => count_matches(alloc, corpus, &query, text),
         Some(Command::ListAbove(threshold, query)) => list_above(
             alloc, corpus, threshold, &query, text,
@@ -102,10 +102,10 @@ pub(crate) fn answer_command(
 
 // A deletion is silent; a line that deletes a document that is not there is not understood.
 #[tactic(auto, using(crate::proofs::States::is_state))]
-fn answer_deletion(corpus: &mut Corpus, number: u64) -> Result<Answer, AllocError>
+fn answer_deletion(alloc: Global, corpus: &mut Corpus, number: u64) -> Result<Answer, AllocError>
     ensures { IfOk result (λ answer. DeletesDocument number (state corpus.old) answer (state corpus.new)) }
 {
-    if corpus.delete(number)? {
+    if corpus.delete(alloc, number)? {
         Ok(Answer::Silence)
     } else {
         Ok(Answer::NotUnderstood)
@@ -137,14 +137,13 @@ fn list_documents(
     ensures unchanged { OnOk result (state corpus.new ≡ state corpus.old) }
 {
     match build_query(alloc, spelled) {
-        Ok(query) => match corpus.build_segments(alloc, has_prefix(spelled)) {
-            Ok(()) => {
-                let enable = EnableScoring::disabled_from_schema(corpus.schema());
-                let written = write_matches(alloc, corpus.segments(), enable, &query, text);
-                Ok(answer_listing(written))
-            }
-            Err(error) => answer_change(Err(error)),
-        },
+        Ok(query) => {
+            corpus.build_segments(alloc, has_prefix(spelled))?;
+            let searcher = corpus.searcher();
+            let enable = EnableScoring::disabled_from_searcher(searcher);
+            let written = write_matches(alloc, searcher.segment_readers(), enable, &query, text);
+            Ok(answer_listing(written))
+        }
         Err(error) => Ok(Answer::Refused(error.number())),
     }
 }
@@ -162,16 +161,11 @@ fn count_matches(
     ensures unchanged { OnOk result (state corpus.new ≡ state corpus.old) }
 {
     match build_query(alloc, spelled) {
-        Ok(query) => match corpus.build_segments(alloc, has_prefix(spelled)) {
-            Ok(()) => {
-                let enable = EnableScoring::disabled_from_schema(corpus.schema());
-                let segments = corpus.segments();
-                let deleted = corpus.deleted();
-                let written = write_count(alloc, segments, enable, &query, deleted, text);
-                Ok(answer_listing(written))
-            }
-            Err(error) => answer_change(Err(error)),
-        },
+        Ok(query) => {
+            corpus.build_segments(alloc, has_prefix(spelled))?;
+            let written = write_count(alloc, corpus.searcher(), &query, text);
+            Ok(answer_listing(written))
+        }
         Err(error) => Ok(Answer::Refused(error.number())),
     }
 }
@@ -189,14 +183,13 @@ fn list_scores(
     ensures unchanged { OnOk result (state corpus.new ≡ state corpus.old) }
 {
     match build_query(alloc, spelled) {
-        Ok(query) => match corpus.build_segments(alloc, has_prefix(spelled)) {
-            Ok(()) => {
-                let enable = EnableScoring::enabled_from_searcher(corpus.searcher());
-                let written = write_matches(alloc, corpus.segments(), enable, &query, text);
-                Ok(answer_listing(written))
-            }
-            Err(error) => answer_change(Err(error)),
-        },
+        Ok(query) => {
+            corpus.build_segments(alloc, has_prefix(spelled))?;
+            let searcher = corpus.searcher();
+            let enable = EnableScoring::enabled_from_searcher(searcher);
+            let written = write_matches(alloc, searcher.segment_readers(), enable, &query, text);
+            Ok(answer_listing(written))
+        }
         Err(error) => Ok(Answer::Refused(error.number())),
     }
 }
@@ -215,22 +208,20 @@ fn list_above(
     ensures unchanged { OnOk result (state corpus.new ≡ state corpus.old) }
 {
     match build_query(alloc, spelled) {
-        Ok(query) => match corpus.build_segments(alloc, has_prefix(spelled)) {
-            Ok(()) => {
-                let enable = EnableScoring::enabled_from_searcher(corpus.searcher());
-                let written = write_pruned(
-                    alloc,
-                    corpus.segments(),
-                    corpus.ended(),
-                    enable,
-                    &query,
-                    threshold,
-                    text,
-                );
-                Ok(answer_listing(written))
-            }
-            Err(error) => answer_change(Err(error)),
-        },
+        Ok(query) => {
+            corpus.build_segments(alloc, has_prefix(spelled))?;
+            let searcher = corpus.searcher();
+            let written = write_pruned(
+                alloc,
+                searcher.segment_readers(),
+                corpus.ended(),
+                EnableScoring::enabled_from_searcher(searcher),
+                &query,
+                threshold,
+                text,
+            );
+            Ok(answer_listing(written))
+        }
         Err(error) => Ok(Answer::Refused(error.number())),
     }
 }

@@ -1,88 +1,90 @@
 //! The documents of a script, and the weights of its words.
 
-ghost use Rattle.std.specs.Prelude.{◌≡◌, ◌+◌, true, ◌≤◌, ◌*◌, ◌⊎◌, IfErr, IfOk, IsErr, IsOkUnless, OnErr, OnOk, length, map, nat_abs, string_bytes};
-ghost use Rattle.std.specs.List.Sorted.{IsNonDecreasing};
-ghost use Rattle.qm_docset.specs.declared.numbers.TheConstants.{TERMINATED};
-ghost use Rattle.qm_script.specs.Parts.{document_count};
-ghost use Rattle.qm_script.specs.ProgramNumbers.{most_segments, ungiven_weight};
-ghost use Rattle.qm_script.specs.ScriptSegments.{AreOnePart, AreSegments, Deletes, IsBuilt, IsWhole, all_segments, script, with_document_of, with_segment_ended};
-ghost use Rattle.qm_script.specs.Start.{start_script};
-ghost use Rattle.qm_script.specs.TextSegments.{IsTextRefusal};
-ghost use Rattle.qm_script.specs.Weights.{IsWeighedBy};
-ghost use Rattle.qm_script.specs.Asked.{term_of};
+ghost use Rattle.std.specs.Prelude.{◌≡◌, ◌+◌, true, ◌≤◌, ◌*◌, ◌⊎◌, IfErr, IfOk, IsErrOf, IsOkUnless, OnErr, OnOk, length, map, nat_abs, string_bytes};
 ghost use Rattle.std.specs.FinMap.{empty, insert};
 ghost use Rattle.std.specs.List.{range_with_len};
+ghost use Rattle.std.specs.List.Sorted.{IsNonDecreasing};
+ghost use Rattle.qm_docset.specs.declared.numbers.TheConstants.{TERMINATED};
+ghost use Rattle.qm_index.specs.Indexed.{indexed, statistics};
+ghost use Rattle.qm_script.specs.Asked.{term_of};
+ghost use Rattle.qm_script.specs.Fields.{script_fields};
+ghost use Rattle.qm_script.specs.Parts.{document_count};
+ghost use Rattle.qm_script.specs.ProgramNumbers.{block_length, most_segments, ungiven_weight};
+ghost use Rattle.qm_script.specs.TextSegments.{IsTextRefusal};
+ghost use Rattle.qm_script.specs.Weights.{IsWeighedBy};
 
-use crate::documents::Documents;
 use crate::non_negative_score::NonNegativeScore;
-use crate::terms::word_term;
+use crate::terms::{body, word_term};
 use qm_docset::Score;
-use qm_postings::{Searcher, SegmentReader};
-use qm_schema::{QueryError, Schema};
+use qm_index::Index;
+use qm_postings::Searcher;
+use qm_schema::{IndexRecordOption, QueryError, Schema};
 use std::alloc::{AllocError, Global};
-use std::collections::BTreeSet;
+
+/// How many postings a block has.
+const BLOCK_LEN: u32 = 128;
 
 /// What a word weighs where the script gives it no weight.
 const DEFAULT_WEIGHT: Score = 1000;
 
-/// How many segments can be searched at once.
-const MAX_SEGMENTS: usize = 4294967295;
-
-/// The documents of a script, and the weights of words.
+/// The documents of a script, in segments, and what words weigh.
 #[derive(Drop)]
 pub(crate) struct Corpus {
-    documents: Documents,
-    // what words weigh; it has no segments
-    searcher: Searcher,
-    ghost fields: { searcher.schema ≡ documents.schema },
-    ghost others: { searcher.default_weight ≡ ungiven_weight },
-    ghost norms: { searcher.norms ≡ range_with_len 0 256 },
+    index: Index,
+    ghost fields: { (indexed index).current.schema ≡ script_fields },
+    ghost blocks: { (indexed index).current.block_len ≡ block_length },
+    ghost others: { (statistics index).default_weight ≡ ungiven_weight },
+    ghost norms: { (statistics index).norms ≡ range_with_len 0 256 },
 }
 
 impl Corpus {
-    ghost use Rattle.qm_script.specs.Answers.{IsSegmentsRefusal};
+    ghost use Rattle.qm_index.specs.Indexed.{AreMerged, AreSearched, Deletes, all_segments, with_segment_ended};
+    ghost use Rattle.qm_script.specs.ScriptSegments.{IsBuilt, IsWhole, script, with_document_of};
+    ghost use Rattle.qm_script.specs.Start.{start_script};
 
     /// A script at its beginning: one open segment without documents, and no weight.
     pub(crate) fn new(alloc: Global) -> Result<Corpus, QueryError>
-        ensures documents { IfOk result (λ corpus. script corpus.documents ≡ start_script) }
-        ensures weights { IfOk result (λ corpus. corpus.searcher.weights ≡ empty) }
+        ensures documents { IfOk result (λ corpus. script corpus ≡ start_script) }
+        ensures weights { IfOk result (λ corpus. (statistics corpus.index).weights ≡ empty) }
     {
-        let documents = Documents::new(alloc)?;
-        let schema = documents.schema().clone(alloc)?;
-        let searcher = unweighed(alloc, schema)?;
-        Ok(Corpus {
-            documents,
-            searcher,
-        })
+        let schema = schema(alloc)?;
+        let index = Index::new(alloc, schema, DEFAULT_WEIGHT, norms(), BLOCK_LEN)?;
+        Ok(Corpus { index })
     }
 
     /// Adds a document with the words of this text to the open segment. A refused one adds nothing.
     pub(crate) fn add_document(&mut self, alloc: Global, text: String) -> Result<(), QueryError>
-        ensures added { OnOk result (script self.new.documents ≡ with_document_of (script self.old.documents) (string_bytes text)) }
-        ensures unchanged { OnErr result (script self.new.documents ≡ script self.old.documents) }
-        ensures weights { self.new.searcher ≡ self.old.searcher }
-        ensures refused { IfErr result (λ e. (e ≡ QueryError.Memory) ⊎ IsTextRefusal (script self.old.documents).current (string_bytes text) e) }
+        ensures added { OnOk result (script self.new ≡ with_document_of (script self.old) (string_bytes text)) }
+        ensures unchanged { OnErr result (script self.new ≡ script self.old) }
+        ensures weights { statistics self.new.index ≡ statistics self.old.index }
+        ensures refused { IfErr result (λ e. (e ≡ QueryError.Memory) ⊎ IsTextRefusal (script self.old).current (string_bytes text) e) }
     {
-        self.documents.add_document(alloc, text)
+        let texts = vec![in alloc; (body(), text)]?;
+        self.index.add_document(alloc, texts)
     }
 
-    /// Ends the open segment, and opens another.
+    /// Ends the open segment, and opens another. Refused with `TooManySegments` where there are as many
+    /// as can be searched at once.
     pub(crate) fn end_segment(&mut self, alloc: Global) -> Result<(), QueryError>
-        ensures ended { OnOk result (script self.new.documents ≡ with_segment_ended (script self.old.documents)) }
-        ensures weights { self.new.searcher ≡ self.old.searcher }
-        ensures refused { IsOkUnless result QueryError.Memory }
+        ensures ended { OnOk result (script self.new ≡ with_segment_ended (script self.old)) }
+        ensures unchanged { OnErr result (script self.new ≡ script self.old) }
+        ensures weights { statistics self.new.index ≡ statistics self.old.index }
+        ensures many { IsErrOf result QueryError.TooManySegments → length (all_segments (script self.old)) ≡ most_segments }
+        ensures refused { IfErr result (λ e. (e ≡ QueryError.Memory) ⊎ (e ≡ QueryError.TooManySegments)) }
     {
-        self.documents.end_segment(alloc)
+        self.index.end_segment(alloc)
     }
 
     /// Deletes the document of this number over all segments, and answers whether there is one. Its only
-    /// error is the want of memory. Costs the number of segments, and the logarithm of the number of
-    /// deleted documents.
-    pub(crate) fn delete(&mut self, number: u64) -> Result<bool, AllocError>
-        ensures deleted { IfOk result (λ exists. Deletes number (script self.old.documents) exists (script self.new.documents)) }
-        ensures weights { self.new.searcher ≡ self.old.searcher }
+    /// error is the want of memory.
+    pub(crate) fn delete(&mut self, alloc: Global, number: u64) -> Result<bool, AllocError>
+        ensures deleted { IfOk result (λ exists. Deletes number (script self.old) exists (script self.new)) }
+        ensures weights { statistics self.new.index ≡ statistics self.old.index }
     {
-        self.documents.delete(number)
+        match self.index.delete(alloc, number) {
+            Ok(exists) => Ok(exists),
+            Err(_) => Err(AllocError),
+        }
     }
 
     /// Gives a word its weight from now on. Costs the logarithm of the number of words that were given
@@ -93,93 +95,62 @@ impl Corpus {
         word: &str,
         weight: NonNegativeScore,
     ) -> Result<(), QueryError>
-        ensures documents { self.new.documents ≡ self.old.documents }
-        ensures set { OnOk result (self.new.searcher.weights ≡ insert self.old.searcher.weights (term_of word.now) (nat_abs weight.score)) }
-        ensures kept { OnErr result (self.new.searcher.weights ≡ self.old.searcher.weights) }
+        ensures documents { script self.new ≡ script self.old }
+        ensures set { OnOk result ((statistics self.new.index).weights ≡ insert (statistics self.old.index).weights (term_of word.now) (nat_abs weight.score)) }
+        ensures kept { OnErr result ((statistics self.new.index).weights ≡ (statistics self.old.index).weights) }
         ensures refused { IsOkUnless result QueryError.Memory }
     {
         let term = word_term(alloc, word)?;
-        self.searcher.set_weight(term, weight.score())
+        self.index.set_weight(term, weight.score())
     }
 
-    /// Builds what is to be searched of all documents, for [`Corpus::segments`]; the open segment as one
-    /// where it is to be whole, which costs all its documents. Refused with `TooManySegments` where
-    /// there are more segments than can be searched at once.
-    pub(crate) fn build_segments(&mut self, alloc: Global, is_whole: bool) -> Result<(), QueryError>
-        ensures script { script self.new.documents ≡ script self.old.documents }
-        ensures weights { self.new.searcher ≡ self.old.searcher }
-        ensures built { OnOk result (IsBuilt self.new.documents) }
-        ensures whole { OnOk result (is_whole ≡ true → IsWhole self.new.documents) }
-        ensures few { OnOk result (length (all_segments (script self.old.documents)) ≤ most_segments) }
-        ensures refused { IfErr result (λ e. (e ≡ QueryError.Memory) ⊎ IsSegmentsRefusal (script self.old.documents) e) }
+    /// Builds what is to be searched of all documents, for [`Corpus::searcher`]; the open segment as one
+    /// where it is to be whole, which costs all its documents. Its only error is the want of memory.
+    pub(crate) fn build_segments(&mut self, alloc: Global, is_whole: bool) -> Result<(), AllocError>
+        ensures script { script self.new ≡ script self.old }
+        ensures weights { statistics self.new.index ≡ statistics self.old.index }
+        ensures built { OnOk result (IsBuilt self.new) }
+        ensures whole { OnOk result (is_whole ≡ true → IsWhole self.new) }
     {
-        if self.documents.ended() >= MAX_SEGMENTS {
-            return Err(QueryError::TooManySegments);
-        }
-        if is_whole {
-            self.documents.build_open_segment_whole(alloc)
+        let built = if is_whole {
+            self.index.merge(alloc)
         } else {
-            self.documents.build_open_segment(alloc)
+            self.index.refresh(alloc)
+        };
+        match built {
+            Ok(()) => Ok(()),
+            Err(_) => Err(AllocError),
         }
     }
 
-    /// All documents, in order, where [`Corpus::build_segments`] was called after the last one.
-    pub(crate) fn segments(&self) -> &[SegmentReader]
-        requires built { IsBuilt self.now.documents }
-        requires few { length (all_segments (script self.now.documents)) ≤ most_segments }
-        ensures segments { AreSegments (script self.now.documents) (map (λ r. r.segment) result.now) }
-        ensures whole { IsWhole self.now.documents → AreOnePart (script self.now.documents) (map (λ r. r.segment) result.now) }
-        ensures few { document_count (map (λ r. r.segment) result.now) ≤ most_segments * TERMINATED }
-    {
-        self.documents.segments()
-    }
-
-    /// How many segments were ended: the segments behind these are the parts of the open one.
-    pub(crate) fn ended(&self) -> usize
-        ensures { length (all_segments (script self.now.documents)) ≡ result + 1 }
-    {
-        self.documents.ended()
-    }
-
-    /// The numbers of the deleted documents over all segments.
-    pub(crate) fn deleted(&self) -> &BTreeSet<u64>
-        ensures { result.now.keys ≡ (script self.now.documents).deleted }
-    {
-        self.documents.deleted()
-    }
-
-    /// What words weigh. Constant time.
+    /// What is searched, where [`Corpus::build_segments`] was called after the last document. Constant
+    /// time.
     pub(crate) fn searcher(&self) -> &Searcher
-        ensures weights { IsWeighedBy self.now.searcher.weights result.now }
-        ensures fields { result.now.schema ≡ (script self.now.documents).current.schema }
+        requires built { IsBuilt self.now }
+        ensures segments { AreSearched (script self.now) result.now.segments }
+        ensures whole { IsWhole self.now → AreMerged (script self.now) result.now.segments }
+        ensures few { document_count (map (λ r. r.segment) result.now.segments) ≤ most_segments * TERMINATED }
+        ensures weights { IsWeighedBy (statistics self.now.index).weights result.now }
+        ensures fields { result.now.schema ≡ (script self.now).current.schema }
     {
-        &self.searcher
+        self.index.searcher()
     }
 
-    /// The fields of the documents.
-    pub(crate) fn schema(&self) -> &Schema
-        ensures { result.now ≡ (script self.now.documents).current.schema }
+    /// How many segments were ended: those of the searcher behind them are the parts of the open one.
+    pub(crate) fn ended(&self) -> usize
+        ensures { length (all_segments (script self.now)) ≡ result + 1 }
     {
-        self.documents.schema()
+        self.index.ended()
     }
 }
 
-// What words weigh where none was given a weight, over no segments.
-fn unweighed(alloc: Global, schema: Schema) -> Result<Searcher, QueryError>
-    ensures fields { IfOk result (λ s. s.schema ≡ schema) }
-    ensures weights { IfOk result (λ s. s.weights ≡ empty) }
-    ensures others { IfOk result (λ s. s.default_weight ≡ ungiven_weight) }
-    ensures norms { IfOk result (λ s. s.norms ≡ range_with_len 0 256) }
-    ensures refused { IsOkUnless result QueryError.Memory }
+// The fields of a script's documents.
+fn schema(alloc: Global) -> Result<Schema, QueryError>
+    ensures { IfOk result (λ schema. schema ≡ script_fields) }
 {
-    Searcher::new(
-        alloc,
-        schema,
-        Vec::new(alloc),
-        Vec::new(alloc),
-        DEFAULT_WEIGHT,
-        norms(),
-    )
+    let mut builder = Schema::builder(alloc);
+    builder.add_text_field("body", Some(IndexRecordOption::WithFreqsAndPositions), true)?;
+    Ok(builder.build())
 }
 
 // The norm of each length id: a document is as long as it has words.

@@ -10,7 +10,6 @@ mod build_query;
 mod corpus;
 mod counting;
 mod document_line;
-mod documents;
 mod form;
 mod has_prefix;
 mod lines;
