@@ -1,16 +1,18 @@
 -- The words and the states of a window, by their places.
 use Rattle.std.proofs.Common.{◌≡◌, ◌≢◌, ℕ, zero, suc, ◌∷◌, ◌+◌, ◌-◌, ◌*◌, ◌/◌, ◌%◌, ◌<◌, ◌≤◌, ◌==◌, ◌||◌, ◌&&◌, Bool, true, false, not, cond, nat_le, nat_lt}
-use Rattle.std.proofs.Common.{List, [], length, slice_get, Some, None, get_or, set, eq-eqb, ne_eqb, lt-ltb, refl, ap, sym, ◌∙◌, inl, inr, arith, true≢false}
-use Rattle.std.proofs.lemmas.Bool.{cases_lt, cases_eq, le-leb, lt-leb, leb-true, and_right}
+use Rattle.std.proofs.Common.{List, [], length, slice_get, Some, None, get_or, set, eq-eqb, ne_eqb, lt-ltb, refl, ap, sym, ◌∙◌, inl, inr, arith, true≢false, vec_len}
+use Rattle.std.proofs.lemmas.Bool.{cases_Bool, cases_lt, cases_eq, le-leb, lt-leb, leb-true, and_right}
 use Rattle.std.proofs.lemmas.List.{get_or-set_same, get_or-set_other, get_or_read, length-map}
 use Rattle.qm_docset.specs.declared.tiny_set.TinySet.{TinySet}
 use Rattle.qm_docset.specs.TinySet.{tiny_has, tiny_members}
 use Rattle.qm_docset.specs.Members.{members_between}
 use Rattle.qm_docset.specs.Words.{words_have}
 use Rattle.qm_combine.specs.WindowStates.{state_of_place}
+use Rattle.qm_combine.specs.Window.{window_combiner, window_has, window_state}
+use Rattle.qm_combine.specs.declared.union.window.Window.{Window}
 use Rattle.qm_docset.proofs.MembersLemmas.{HasNone, IsFirst, and_true, members_between-none, members_between-same, members_between-shift, members_between-skip}
 use Rattle.qm_docset.proofs.MemberEntries.{first-from_Some, none-from_None, Some-from_first}
-use Rattle.qm_docset.proofs.BitSetLemmas.{words_have-insert, words_have-at, words_have-past}
+use Rattle.qm_docset.proofs.BitSetLemmas.{words_have-at, words_have-past}
 
 module _ (start : ℕ) (words : List TinySet) where
   -- whether the words have a document
@@ -60,43 +62,40 @@ get_or-past [] i a h = refl
 get_or-past (x ∷ xs) zero a h = absurd (omega arith)
 get_or-past (x ∷ xs) (suc i) a h = get_or-past xs i a (omega arith)
 
--- One place is added: its word, and its state.
-module _ (words : List TinySet) (place : ℕ) (was word : TinySet) (inside : place / 64 < length words) (read : was ≡ get_or words (place / 64) was)
-    (added : (x : ℕ) → tiny_has word x ≡ (x == place % 64 || tiny_has was x)) where
-  -- whether it was there already
-  pub words_have-was : tiny_has was (place % 64) ≡ words_have words place
-  words_have-was =
-      let is : 64 * (place / 64) + place % 64 ≡ place = omega arith in
-      let old = get_or_read words (place / 64) was inside read (record { bits = 0 }) in
-      ap (λ (w : TinySet). tiny_has w (place % 64)) old ∙ sym (ap (words_have words) (sym is) ∙ words_have-at words (place / 64) (place % 64) (omega arith))
+-- whether a place was there already, by its word
+pub words_have-was : (words : List TinySet) (place : ℕ) (was : TinySet) → place / 64 < length words → was ≡ get_or words (place / 64) was
+    → tiny_has was (place % 64) ≡ words_have words place
+words_have-was words place was inside read =
+    let is : 64 * (place / 64) + place % 64 ≡ place = omega arith in
+    let old = get_or_read words (place / 64) was inside read (record { bits = 0 }) in
+    ap (λ (w : TinySet). tiny_has w (place % 64)) old ∙ sym (ap (words_have words) (sym is) ∙ words_have-at words (place / 64) (place % 64) (omega arith))
 
+-- One place is added to the words, and its state to the states.
+module _ (words more : List TinySet) (place : ℕ) (added : (x : ℕ) → words_have more x ≡ (x == place || words_have words x)) where
   module _ {C : Type 0} (states : List C) (cleared state : C) (room : place < length states) where
-    pub state_of_place-put : state_of_place (set words (place / 64) word) (set states place state) cleared place ≡ state
+    pub state_of_place-put : state_of_place more (set states place state) cleared place ≡ state
     state_of_place-put =
-        let here : words_have (set words (place / 64) word) place ≡ true = words_have-insert words place was word inside read added place
-        ∙ rw (eq-eqb place place refl) in
+        let here : words_have more place ≡ true = added place ∙ rw (eq-eqb place place refl) in
         rw (here, get_or-set_same states place state cleared room)
 
-    pub state_of_place-other : (x : ℕ) → x ≢ place
-        → state_of_place (set words (place / 64) word) (set states place state) cleared x ≡ state_of_place words states cleared x
+    pub state_of_place-other : (x : ℕ) → x ≢ place → state_of_place more (set states place state) cleared x ≡ state_of_place words states cleared x
     state_of_place-other x other =
-        let same : words_have (set words (place / 64) word) x ≡ words_have words x = words_have-insert words place was word inside read added x
-        ∙ rw (ne_eqb x place other) in
+        let same : words_have more x ≡ words_have words x = added x ∙ rw (ne_eqb x place other) in
         rw (same, get_or-set_other states place x state cleared other)
 
-  -- the state that it had: cleared where it is new
-  module _ {C : Type 0} (states : List C) (cleared : C) (is_new : Bool) (tested : is_new ≡ not (tiny_has was (place % 64))) where
-    pub state_of_place-new : is_new ≡ true → state_of_place words states cleared place ≡ cleared
-    state_of_place-new new =
-        let none : words_have words place ≡ false = sym words_have-was ∙ not-true (tiny_has was (place % 64)) (sym tested ∙ new) in
-        rw none
+-- the state that a place had: cleared where it is new
+module _ {C : Type 0} (words : List TinySet) (place : ℕ) (states : List C) (cleared : C) (is_new : Bool) (tested : is_new ≡ not (words_have words place)) where
+  pub state_of_place-new : is_new ≡ true → state_of_place words states cleared place ≡ cleared
+  state_of_place-new new =
+      let none : words_have words place ≡ false = not-true (words_have words place) (sym tested ∙ new) in
+      rw none
 
-    pub state_of_place-old : is_new ≡ false → (state : C) → state ≡ get_or states place state → place < length states
-        → state_of_place words states cleared place ≡ state
-    state_of_place-old old state is room =
-        let there : words_have words place ≡ true = sym words_have-was ∙ not-false (tiny_has was (place % 64)) (sym tested ∙ old) in
-        let known = get_or_read states place state room is cleared in
-        rw there (sym known)
+  pub state_of_place-old : is_new ≡ false → (state : C) → state ≡ get_or states place state → place < length states
+      → state_of_place words states cleared place ≡ state
+  state_of_place-old old state is room =
+      let there : words_have words place ≡ true = not-false (words_have words place) (sym tested ∙ old) in
+      let known = get_or_read states place state room is cleared in
+      rw there (sym known)
 
 -- states that read alike are alike
 pub state_of_place-same : {C : Type 0} (words : List TinySet) (states others : List C) (cleared : C)
@@ -295,4 +294,15 @@ has_at-put start doc words more low is d =
             | inr other ↦ rw (ne_eqb d doc other, ne_eqb (d - start) (doc - start) (omega arith)) refl
           ] in
           has_at-from start more d past ∙ is (d - start) ∙ rw (same, has_at-from start words d past) refl
+    ]
+
+-- where no state was made, all count as cleared
+pub window_state-none : {C : Type 0} (w : Window C) → vec_len w.states ≡ 0 → (d : ℕ) → window_state w d ≡ window_combiner w
+unfolding window_state
+window_state-none w none d =
+    let read : get_or w.states.items (d - w.start) w.combiner ≡ w.combiner =
+    get_or-past w.states.items (d - w.start) w.combiner (omega (arith, none, w.states.ok.0)) in
+    elim (cases_Bool (window_has w d)) [
+      | inl here ↦ rw here read
+      | inr gone ↦ rw gone refl
     ]

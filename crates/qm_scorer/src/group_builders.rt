@@ -17,9 +17,10 @@ use crate::bounds::GREATEST_SCORE;
 use crate::builders::bound_of;
 use crate::group_node::{GroupNode, Shape, next_match};
 use crate::intersection_node::{IntersectionNode, align};
-use crate::union_node::{FIRST_SPAN, UnionNode, go_on};
+use crate::union_node::{UnionNode, go_on};
 use qm_combine::{
-    DoNothingCombiner, EmptyScorer, Scorer, Window, by_cost, least_document, sum_of_bounds,
+    DoNothingCombiner, EmptyScorer, FIRST_SPAN, Scorer, Window, by_cost, least_document,
+    sum_of_bounds,
 };
 use qm_docset::DocSet;
 use qm_schema::QueryError;

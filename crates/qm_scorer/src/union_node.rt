@@ -9,28 +9,25 @@ ghost use Rattle.qm_combine.specs.Union.{least_head, total_top};
 ghost use Rattle.qm_combine.specs.Window.{IsUntil, window_combiner, window_end, window_has, window_start, window_state};
 ghost use Rattle.qm_scorer.specs.AnyCombiner.{any_cleared, any_combined, any_step};
 ghost use Rattle.qm_scorer.specs.Tree.{HasParts, IsTree, IsTreePlaced, tree_entries, tree_top};
-ghost use Rattle.qm_scorer.specs.United.{AreMembersStanding, IsTakenIn, IsUnionNode, union_limits, union_list, union_lists};
+ghost use Rattle.qm_scorer.specs.United.{AreMembersStanding, IsAdded, IsTakenIn, IsUnionNode, union_limits, union_list, union_lists};
 ghost use Rattle.qm_scorer.specs.declared.any_scorer.AnyScorer.{size-AnyScorer};
 ghost use Rattle.qm_scorer.specs.declared.union_node.UnionNode.{size-UnionNode};
 
 use crate::any_combiner::AnyCombiner;
 use crate::any_scorer::{AnyScorer, doc_tree, reach_tree, score_tree, seek_tree};
-use qm_combine::{HORIZON, Scorer, Window};
+use qm_combine::{SEEK_SPAN, Scorer, Window};
 use qm_docset::{COLLECT_BLOCK_BUFFER_LEN, DocId, Score, SeekDangerResult, TERMINATED};
-
-/// Out of how many documents the first window is filled, and one after a seek past the members'
-/// documents: it isn't known that more are wanted.
-pub(crate) const FIRST_SPAN: u32 = 64;
 
 /// The documents that any of its members has, each with what a combiner makes of the members' scores
 /// there.
 ///
 /// It goes by windows as [`BufferedUnionScorer`](qm_combine::BufferedUnionScorer) does: the documents of
-/// all members are taken into a [`Window`], with their scores, out of 64 documents at first, and out of
-/// four times as many, up to [`HORIZON`], behind a window that had one in sixteen. The members stand
-/// behind the window, ahead of the node's own document. A seek in the window moves no member, one past
-/// the least document that the members stand on sends those below its target there, and begins with 64
-/// documents again. A seek at or below the document does nothing.
+/// all members are taken into a [`Window`], with their scores where the combiner takes scores, out of
+/// [`FIRST_SPAN`](qm_combine::FIRST_SPAN) documents at first, and then as
+/// [`next_span`](Window::next_span) says. The members stand behind the window, ahead of the node's own
+/// document. A seek in the window moves no member, one past the least document that the members stand on
+/// sends those below its target there, and begins with [`SEEK_SPAN`] documents. A seek at or below the
+/// document does nothing.
 #[cycle(any)]
 #[derive(Drop)]
 pub struct UnionNode<'a, S> {
@@ -130,11 +127,40 @@ fn take_by_steps<'a, S: Scorer>(
     let mut doc = doc_tree(member);
     // what the tree had below the document is added
     while doc < bound && doc < TERMINATED {
-        let score = score_tree(member);
-        window.add(doc, score as Score);
+        take_document(window, member, doc);
         doc = seek_tree(member, doc + 1);
     }
     doc
+}
+
+// Adds the document that a tree stands on, with its score there: a window that keeps no states takes
+// none, and none is asked for.
+#[cycle(moves)]
+#[tactic(auto, using(crate::specs::MoveFacts::moves))]
+fn take_document<'a, S: Scorer>(
+    window: &mut Window<AnyCombiner>,
+    member: &mut AnyScorer<'a, S>,
+    doc: DocId,
+)
+    requires valid { IsTree S.DocSet member.old }
+    requires placed { IsTreePlaced S.DocSet member.old }
+    requires here { doc ≡ head_document (tree_entries S.DocSet member.old) }
+    requires some { doc < TERMINATED }
+    requires span { (window_start window.old ≤ doc) × (doc < window_end window.old) }
+    requires room { HasRoomFor any_step any_cleared (tree_top S.DocSet member.old) (window_state window.old doc) }
+    ensures entries { tree_entries S.DocSet member.new ≡ tree_entries S.DocSet member.old }
+    ensures top { tree_top S.DocSet member.new ≡ tree_top S.DocSet member.old }
+    ensures valid { IsTree S.DocSet member.new }
+    ensures placed { IsTreePlaced S.DocSet member.new }
+    ensures depth { size-AnyScorer _ member.new ≤ size-AnyScorer _ member.old }
+    ensures added { IsAdded window.old window.new doc (head_score (tree_entries S.DocSet member.old)) }
+{
+    if window.keeps_no_states() {
+        window.mark(doc);
+    } else {
+        let score = score_tree(member);
+        window.add(doc, score as Score);
+    }
 }
 
 // Lets the window begin at the node's document, and takes into it all that the members have in its
@@ -197,20 +223,6 @@ pub(crate) fn go_on<'a, S: Scorer>(node: &mut UnionNode<'a, S>, span: u32) -> Do
     node.doc
 }
 
-// Out of how many documents the next window is to be filled: where there are few, more would only
-// move the members further than may be wanted.
-fn next_span<'a, S: Scorer>(node: &UnionNode<'a, S>) -> u32
-    requires until { IsUntil node.now.window }
-    ensures { (1 ≤ result) × (result ≤ 4096) }
-{
-    let span = node.span.max(FIRST_SPAN).min(HORIZON);
-    if span < HORIZON && node.window.len() >= span / 16 {
-        (span * 4).min(HORIZON)
-    } else {
-        span
-    }
-}
-
 // Moves those members that stand below the target to their first document at or past it, and answers
 // the least document that one of them then stands on.
 #[cycle(moves)]
@@ -254,10 +266,11 @@ pub(crate) fn seek_union<'a, S: Scorer>(node: &mut UnionNode<'a, S>, target: Doc
         return doc;
     }
     if target <= node.ahead {
-        return go_on(node, next_span(node));
+        let span = node.window.next_span(node.span);
+        return go_on(node, span);
     }
     node.ahead = reach_each(node, target);
-    go_on(node, FIRST_SPAN)
+    go_on(node, SEEK_SPAN)
 }
 
 // Drops what lies below the target, and says whether the target is the first that is left. The node
@@ -309,7 +322,8 @@ fn go_to<'a, S: Scorer>(node: &mut UnionNode<'a, S>, target: DocId) -> DocId
         node.doc = doc;
         return doc;
     }
-    go_on(node, next_span(node))
+    let span = node.window.next_span(node.span);
+    go_on(node, span)
 }
 
 // Goes to the node's next document.
@@ -375,7 +389,8 @@ pub(crate) fn total_union<'a, S: Scorer>(node: &mut UnionNode<'a, S>) -> u32
     while node.doc < TERMINATED {
         node.window.drop_below(node.doc);
         count += node.window.len();
-        go_on(node, next_span(node));
+        let span = node.window.next_span(node.span);
+        go_on(node, span);
     }
     count
 }

@@ -1,7 +1,7 @@
 //! A window of documents, each with what a combiner makes of the scores that were added to it.
 
 ghost use Rattle.std.specs.Prelude.{◌≡◌, ℕ, ◌+◌, ◌*◌, ◌<◌, ◌≤◌, ◌≢◌, ◌==◌, ◌||◌, ◌++◌};
-ghost use Rattle.std.specs.Prelude.{length, map, min, slice_index_or, take, vec_capacity, vec_len};
+ghost use Rattle.std.specs.Prelude.{length, map, min, not, slice_index_or, take, vec_capacity, vec_len};
 ghost use Rattle.qm_docset.specs.Entry.{head_document, head_score};
 ghost use Rattle.qm_docset.specs.Lists.{IsPlaced, Lists};
 ghost use Rattle.qm_docset.specs.TinySet.{tiny_members};
@@ -19,6 +19,13 @@ use std::alloc::Global;
 
 /// How many documents a [`Window`] spans.
 pub const HORIZON: u32 = 4096;
+
+/// Out of how many documents a union fills its first window: it isn't known that more are wanted.
+pub const FIRST_SPAN: u32 = 64;
+
+/// The same after a seek past the documents that its members stand on, after which further seeks are
+/// likely.
+pub const SEEK_SPAN: u32 = 8;
 
 /// The documents that scores were added to, out of the [`HORIZON`] from its start on, each with what a
 /// combiner makes of its scores.
@@ -47,7 +54,8 @@ impl<C: ScoreCombiner> Window<C> {
     ghost use Rattle.qm_docset.specs.Entry.{from};
     ghost use Rattle.qm_combine.specs.Combiner.{HasRoomFor};
     ghost use Rattle.qm_combine.specs.Windowed.{scores_of};
-    ghost use Rattle.qm_combine.specs.Window.{IsUntil, window_combiner, window_end, window_from, window_has, window_last, window_start, window_state};
+    ghost use Rattle.qm_combine.specs.Window.{IsUntil, KeepsNoStates, window_combiner, window_end, window_from, window_has};
+    ghost use Rattle.qm_combine.specs.Window.{window_last, window_start, window_state};
 
     /// A window from document 0 on that has no document. The combiner is cleared first.
     ///
@@ -128,7 +136,8 @@ impl<C: ScoreCombiner> Window<C> {
     }
 
     /// Adds a score to a document that the window spans; one that it lacked begins cleared. Asks that
-    /// the score is not below 0 and that the document's state has room for it.
+    /// the score is not below 0 and that the document's state has room for it. Makes no state where the
+    /// window keeps none.
     pub fn add(&mut self, doc: DocId, score: Score)
         requires span { (window_start self.old ≤ doc) × (doc < window_end self.old) }
         requires score { pos 0 ≤ℤ score }
@@ -140,6 +149,10 @@ impl<C: ScoreCombiner> Window<C> {
         ensures until { IsUntil self.old → IsUntil self.new }
         ensures combiner { window_combiner self.new ≡ window_combiner self.old }
     {
+        if self.keeps_no_states() {
+            self.mark(doc);
+            return;
+        }
         let place = (doc - self.start) as usize;
         self.last = self.last.max(doc);
         let mut scorer = ConstScorer::new(AllScorer::new(1), score);
@@ -152,12 +165,36 @@ impl<C: ScoreCombiner> Window<C> {
         );
     }
 
+    /// Whether it keeps no state of any document, since its combiner takes no score: then
+    /// [`mark`](Window::mark) does what [`add`](Window::add) does, whatever the score.
+    pub fn keeps_no_states(&self) -> bool
+        ensures { result ≡ true → KeepsNoStates C.step self.now }
+    {
+        self.states.is_empty() && !self.combiner.takes_scores()
+    }
+
+    /// Adds a document that the window spans, without a score: asks that it keeps no states.
+    pub fn mark(&mut self, doc: DocId)
+        requires span { (window_start self.old ≤ doc) × (doc < window_end self.old) }
+        requires stateless { KeepsNoStates C.step self.old }
+        ensures start { window_start self.new ≡ window_start self.old }
+        ensures documents { (d : ℕ) → window_has self.new d ≡ (d == doc || window_has self.old d) }
+        ensures state { (score : ℕ) → window_state self.new doc ≡ C.step (window_state self.old doc) score }
+        ensures others { (d : ℕ) → d ≢ doc → window_state self.new d ≡ window_state self.old d }
+        ensures until { IsUntil self.old → IsUntil self.new }
+        ensures combiner { window_combiner self.new ≡ window_combiner self.old }
+        ensures stateless { KeepsNoStates C.step self.new }
+    {
+        self.last = self.last.max(doc);
+        mark_place(self.buckets.as_mut_slice(), (doc - self.start) as usize);
+    }
+
     /// Adds for each document below `bound` that a scorer has left its score there, and answers the
     /// document at or past `bound` that the scorer then stands on.
     ///
     /// Asks that the scorer is placed, at or past the window's start, that `bound` is at most the
     /// window's end, and that each state has room for the scorer's `max_score`. The combiner asks for
-    /// the scores: one that needs none asks for none. Costs a step of the scorer for each document.
+    /// the scores: one that takes none asks for none. Costs a step of the scorer for each document.
     pub fn take_in<S: Scorer>(&mut self, scorer: &mut S, bound: DocId) -> DocId
         requires scorer { IsPlaced S.DocSet scorer.old }
         requires bound { bound ≤ window_end self.old }
@@ -174,6 +211,9 @@ impl<C: ScoreCombiner> Window<C> {
         ensures until { IsUntil self.old → IsUntil self.new }
         ensures combiner { window_combiner self.new ≡ window_combiner self.old }
     {
+        if self.keeps_no_states() {
+            return self.mark_in(scorer, bound);
+        }
         let start = self.start;
         let end = bound.min(TERMINATED);
         let cleared = self.combiner;
@@ -186,6 +226,37 @@ impl<C: ScoreCombiner> Window<C> {
             put(buckets, states, cleared, (doc - start) as usize, scorer);
             last = doc;
             doc = scorer.advance();
+        }
+        self.last = self.last.max(last);
+        doc
+    }
+
+    // Adds each document below `bound` that a cursor has left, without a score, and answers the document
+    // at or past `bound` that the cursor then stands on.
+    fn mark_in<D: DocSet>(&mut self, docset: &mut D, bound: DocId) -> DocId
+        requires docset { IsPlaced D.DocSet docset.old }
+        requires bound { bound ≤ window_end self.old }
+        requires first { window_start self.old ≤ head_document (D.entries docset.old) }
+        ensures head { result ≡ head_document (D.entries docset.new) }
+        ensures left { Lists D.DocSet docset.new (from bound (D.entries docset.old)) (D.limits docset.old) }
+        ensures documents { (d : ℕ) → d < bound →
+            window_has self.new d ≡ (window_has self.old d || nat_le 1 (length (scores_of d (D.entries docset.old)))) }
+        ensures beyond { (d : ℕ) → bound ≤ d → window_has self.new d ≡ window_has self.old d }
+        ensures states { self.new.states ≡ self.old.states }
+        ensures start { window_start self.new ≡ window_start self.old }
+        ensures until { IsUntil self.old → IsUntil self.new }
+        ensures combiner { window_combiner self.new ≡ window_combiner self.old }
+    {
+        let start = self.start;
+        let past = bound.min(TERMINATED);
+        let buckets = self.buckets.as_mut_slice();
+        let mut last = start;
+        let mut doc = docset.doc();
+        // what the cursor had below the document is added, none of it past the last
+        while doc < past {
+            mark_place(buckets, (doc - start) as usize);
+            last = doc;
+            doc = docset.advance();
         }
         self.last = self.last.max(last);
         doc
@@ -301,6 +372,21 @@ impl<C: ScoreCombiner> Window<C> {
         }
         count
     }
+
+    /// Out of how many documents a union is to fill its next window, where it filled this one out of
+    /// `span`: four times as many, up to [`HORIZON`], where this one has one in sixteen, and else as
+    /// many. Where there are few, more would only move the members further than may be wanted.
+    pub fn next_span(&self, span: u32) -> u32
+        requires until { IsUntil self.now }
+        ensures { (1 ≤ result) × (result ≤ 4096) }
+    {
+        let span = span.max(1).min(HORIZON);
+        if span < HORIZON && self.len() >= span / 16 {
+            (span * 4).min(HORIZON)
+        } else {
+            span
+        }
+    }
 }
 
 /// Makes the states up to a place that were not made yet, each cleared. Takes no memory.
@@ -315,6 +401,16 @@ fn make_states<C: ScoreCombiner>(states: &mut Vec<C>, cleared: C, place: usize)
     while states.len() <= place {
         states.push(cleared).unwrap();
     }
+}
+
+/// Adds a place to the words, and says whether it is new.
+fn mark_place(buckets: &mut [TinySet], place: usize) -> bool
+    requires place { place < 4096 }
+    requires buckets { length buckets.old ≡ 64 }
+    ensures new { result ≡ not (words_have buckets.old place) }
+    ensures documents { (x : ℕ) → words_have buckets.new x ≡ (x == place || words_have buckets.old x) }
+{
+    buckets[place / 64].insert_mut((place % 64) as u32)
 }
 
 /// Adds a scorer's score at a place of a window; a place that is new begins cleared.
@@ -340,7 +436,7 @@ fn put<S: Scorer, C: ScoreCombiner>(
     ensures left { Lists S.DocSet scorer.new (S.entries scorer.old) (S.limits scorer.old) }
 {
     make_states(states, cleared, place);
-    let is_new = buckets[place / 64].insert_mut((place % 64) as u32);
+    let is_new = mark_place(buckets, place);
     let mut state = if is_new { cleared } else { states[place] };
     state.update(scorer);
     states[place] = state;

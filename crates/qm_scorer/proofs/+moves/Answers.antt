@@ -65,7 +65,7 @@ use Rattle.qm_scorer.specs.United.{IsUnionNode, union_limits, union_list, union_
 use Rattle.qm_scorer.specs.declared.union_node.UnionNode.{UnionNode, size-UnionNode, size_is-UnionNode}
 use Rattle.qm_scorer.proofs.Refilling.{IsRefilling, refilled-behind, refilled-entries, refilled-here, refilling-first, refilling-more, refilling-none}
 use Rattle.qm_scorer.proofs.Refilling.{refilling-room}
-use Rattle.qm_scorer.proofs.Taking.{head_score-within, taken-room, taken_to-all, taken_to-more, taken_to-none}
+use Rattle.qm_scorer.proofs.Taking.{head_score-within, room-for, taken-next, taken_to-all, taken_to-more, taken_to-none}
 use Rattle.qm_scorer.proofs.Uniting.{cut_twice, least_head-cut_from, parts-same, united-made}
 use Rattle.qm_scorer.proofs.+moves.Goals.{group_node::danger_group-else-doc-target-via-else-doc-target}
 use Rattle.qm_scorer.proofs.+moves.Goals.{group_node::danger_group-else-doc-target-via-then-doc-target+else-target-lt-TERMINATED}
@@ -532,16 +532,22 @@ union_node::take_by_steps-loop-doc-init g t c =
       depth = omega arith;
     }
 
-pub union_node::take_by_steps-add-requires-clause-room : goal.union_node::take_by_steps-add-requires-clause-room
-union_node::take_by_steps-add-requires-clause-room g t c =
+pub union_node::take_by_steps-take_document-requires : goal.union_node::take_by_steps-take_document-requires
+union_node::take_by_steps-take_document-requires g t c κs within =
     let D = g.S.DocSet in
     let m = c.args.member.now in
-    let inv = c.loop-doc.invariant in
-    let n : ℕ = nat_abs (to_z w64 c.score_tree-score.result) in
-    let is : n ≡ c.score_tree-score.result = ap nat_abs (to_z_pos w64 c.score_tree-score.result (omega (arith, c.score_tree-score.ensures.fits))) in
-    let within = head_score-within 0 _ _ (tree-ascends D g.met.S.DocSet.ascending c.loop-doc.member inv.valid) in
-    taken-room c.args.window.now c.loop-doc.window c.loop-doc.doc n (tree_top D m) (tree_entries D m) inv.taken (c.requires.room c.loop-doc.doc)
-    (omega (arith, is, c.score_tree-score.ensures.score, within, inv.top))
+    let h = c.loop-doc.invariant in
+    let doc = c.loop-doc.doc in
+    let below : doc < TERMINATED = omega (arith, c.if-doc-lt-TERMINATED.true) in
+    let start : c.args.window.now.start ≡ c.loop-doc.window.start = sym h.taken.start in
+    let room = taken-next c.args.window.now c.loop-doc.window doc (tree_top D c.loop-doc.member) (tree_top D m) (tree_entries D m) h.taken
+    (c.requires.room doc) h.top in (
+      first_of (omega (arith, c.decreases, h.depth), search (rules, aq.the_lemmas)),
+      (
+        search rules,
+        (h.valid, (h.placed, (h.here, (below, ((omega (arith, start, h.low), omega (arith, start, c.loop-doc-test.true, c.requires.bound)), room))))),
+      ),
+    )
 
 pub union_node::take_by_steps-loop-doc-smaller : goal.union_node::take_by_steps-loop-doc-smaller
 union_node::take_by_steps-loop-doc-smaller g t c =
@@ -551,7 +557,7 @@ union_node::take_by_steps-loop-doc-smaller g t c =
       c.seek_tree-doc.ensures.head,
       ap head_document c.seek_tree-doc.ensures.entries,
       head_document-from
-          (c.loop-doc.doc + 1) (tree_entries g.S.DocSet c.score_tree-score.new.scorer) (omega arith),
+          (c.loop-doc.doc + 1) (tree_entries g.S.DocSet c.take_document.new.member) (omega arith),
     )
 
 pub union_node::take_by_steps-loop-doc-preserved : goal.union_node::take_by_steps-loop-doc-preserved
@@ -564,7 +570,7 @@ union_node::take_by_steps-loop-doc-preserved g t c =
     let next = c.seek_tree-doc.result in
     let inv = c.loop-doc.invariant in
     let sought = c.seek_tree-doc.ensures in
-    let asked = c.score_tree-score.ensures in
+    let asked = c.take_document.ensures in
     let below : doc < TERMINATED = omega (arith, c.if-doc-lt-TERMINATED.true) in
     let left : tree_entries D c.loop-doc.member ≡ from doc es = inv.left ∙ ap (λ n. from n es) (omega (arith, c.loop-doc-test.true)) in
     let here : doc ≡ head_document (from doc es) = inv.here ∙ ap head_document left in
@@ -573,8 +579,7 @@ union_node::take_by_steps-loop-doc-preserved g t c =
     ∙ from-next 0 _ (from doc es) (AreEntries-from_low doc 0 _ es ascends) in
     let goes : next ≡ head_document (drop 1 (from doc es)) = sought.head ∙ ap head_document rest in
     let past = next-past _ es ascends doc next here below goes in
-    let e = c.add.ensures in
-    let score = ap nat_abs (to_z_pos w64 c.score_tree-score.result (omega (arith, asked.fits))) ∙ asked.score ∙ ap head_score left in
+    let score = ap head_score left in
     record {
       here = sought.head;
       left = rest ∙ step_min _ es ascends doc next here below goes c.args.bound c.loop-doc-test.true;
@@ -582,17 +587,37 @@ union_node::take_by_steps-loop-doc-preserved g t c =
       valid = sought.valid;
       placed = sought.placed;
       low = omega (arith, inv.low, past);
-      taken = taken_to-more _ es ascends c.args.window.now c.loop-doc.window c.add.new.self doc next _ inv.taken
-          (record {
-            documents = e.documents;
-            state = e.state;
-            others = e.others;
-            start = e.start;
-            until = e.until;
-            combiner =
-                e.combiner;
-          }) score here below goes;
+      taken = taken_to-more _ es ascends c.args.window.now c.loop-doc.window c.take_document.new.window doc next _ inv.taken asked.added score here below goes;
       depth = omega (arith, sought.depth, asked.depth, inv.depth);
+    }
+
+-- one document of a tree
+
+pub union_node::take_document-returns-then-keeps_no_states-clause-added : goal.union_node::take_document-returns-then-keeps_no_states-clause-added
+union_node::take_document-returns-then-keeps_no_states-clause-added g t c =
+    let e = c.mark.ensures in
+    record { documents = e.documents; state = e.state _; others = e.others; start = e.start; until = e.until; combiner = e.combiner }
+
+pub union_node::take_document-add-requires-clause-room : goal.union_node::take_document-add-requires-clause-room
+union_node::take_document-add-requires-clause-room g t c =
+    let D = g.S.DocSet in
+    let m = c.args.member.now in
+    let n : ℕ = nat_abs (to_z w64 c.score_tree-score.result) in
+    let is : n ≡ c.score_tree-score.result = ap nat_abs (to_z_pos w64 c.score_tree-score.result (omega (arith, c.score_tree-score.ensures.fits))) in
+    let within = head_score-within 0 _ _ (tree-ascends D g.met.S.DocSet.ascending m c.requires.valid) in
+    room-for _ n (tree_top D m) c.requires.room (omega (arith, is, c.score_tree-score.ensures.score, within))
+
+pub union_node::take_document-returns-else-keeps_no_states-clause-added : goal.union_node::take_document-returns-else-keeps_no_states-clause-added
+union_node::take_document-returns-else-keeps_no_states-clause-added g t c =
+    let e = c.add.ensures in
+    let score = ap nat_abs (to_z_pos w64 c.score_tree-score.result (omega (arith, c.score_tree-score.ensures.fits))) ∙ c.score_tree-score.ensures.score in
+    record {
+      documents = e.documents;
+      state = e.state ∙ ap (any_step _) score;
+      others = e.others;
+      start = e.start;
+      until = e.until;
+      combiner = e.combiner;
     }
 
 pub union_node::take_by_steps-returns-else-doc-lt-TERMINATED-clause-entries : goal.union_node::take_by_steps-returns-else-doc-lt-TERMINATED-clause-entries
@@ -866,7 +891,7 @@ union_node::seek_union-go_on-requires g t c κs within =
         search rules,
         (
           record { valid = h.members.valid; placed = h.members.placed },
-          (h.own.parts, (c.next_span.ensures, (h.own.standing.next, h.own.standing.behind))),
+          (h.own.parts, (c.next_span-span.ensures, (h.own.standing.next, h.own.standing.behind))),
         ),
       ),
     )
@@ -2019,10 +2044,10 @@ any_scorer::score_other-returns-in-Union g t c =
     scored-as D (Union node) (Union (record node { value = new })) c.in-Union.is (rw (c.in-Union.is, outs-Union node) refl)
     (scored-Union D node new lent (subst (IsTree D) c.in-Union.is c.requires.valid) is.score is.fits is.same)
 
-pub union_node::take_by_steps-score_tree-score-requires : goal.union_node::take_by_steps-score_tree-score-requires
-union_node::take_by_steps-score_tree-score-requires g t c κs within =
-    let h = c.loop-doc.invariant in
-    let here = tree-head g.S.DocSet g.met.S.DocSet.ascending c.loop-doc.member h.valid h.placed in (
-      first_of (omega (arith, c.decreases, h.depth), search (rules, aq.the_lemmas)),
-      (search rules, (h.valid, (h.placed, omega (arith, here, h.here, c.if-doc-lt-TERMINATED.true)))),
+pub union_node::take_document-score_tree-score-requires : goal.union_node::take_document-score_tree-score-requires
+union_node::take_document-score_tree-score-requires g t c κs within =
+    let r = c.requires in
+    let here = tree-head g.S.DocSet g.met.S.DocSet.ascending c.args.member.now r.valid r.placed in (
+      search (rules, aq.the_lemmas),
+      (search rules, (r.valid, (r.placed, omega (arith, here, r.here, r.some)))),
     )

@@ -1,10 +1,8 @@
 -- A place that is new begins cleared, and one that was there goes on.
-use Rattle.std.proofs.Common.{◌≡◌, ◌<◌, ◌/◌, get_or, length, sym, ap, subst, ◌∙◌, arith}
-use Rattle.qm_docset.specs.declared.tiny_set.TinySet.{TinySet}
+use Rattle.std.proofs.Common.{◌≡◌, ◌<◌, length, sym, ap, subst, ◌∙◌, arith}
 use Rattle.qm_docset.specs.Entry.{head_score}
-use Rattle.qm_docset.proofs.BitSetLemmas.{words_have-insert}
 use Rattle.qm_combine.specs.WindowStates.{state_of_place}
-use Rattle.qm_combine.proofs.WindowWords.{get_or-there, state_of_place-new, state_of_place-old, state_of_place-other, state_of_place-put, state_of_place-same}
+use Rattle.qm_combine.proofs.WindowWords.{state_of_place-new, state_of_place-old, state_of_place-other, state_of_place-put, state_of_place-same}
 use Rattle.qm_combine.proofs.union.window.put.Goals as goal
 use Rattle.qm_combine.proofs.union.window.put.Goals.{Joined-is_new, then-is_new, else-is_new}
 use Rattle.qm_combine.proofs.union.window.put.Given.{Over}
@@ -13,17 +11,12 @@ begins : (g : Over) (c : Joined-is_new g) → state_of_place c.args.buckets.now 
 begins g c =
     let words = c.args.buckets.now in
     let states = c.make_states.new.states in
-    let i = c.args.place / 64 in
-    let was : TinySet = get_or words i (record { bits = 0 }) in
-    let inside : i < length words = omega (arith, c.requires.place, c.requires.buckets) in
-    let read = get_or-there words i (record { bits = 0 }) was inside in
     let there : c.args.place < length states.items = omega (arith, c.make_states.ensures.place, states.ok.0) in
     sym (state_of_place-same words states.items c.args.states.now.items c.args.cleared c.make_states.ensures.same c.args.place) ∙ elim c.if-is_new.branch [
-      | then-is_new b ↦ state_of_place-new words c.args.place was c.insert_mut-is_new.new.self inside read c.insert_mut-is_new.ensures.members
-          states.items c.args.cleared c.insert_mut-is_new.result c.insert_mut-is_new.ensures.new b.if-is_new.true ∙ sym b.state-is
-      | else-is_new b ↦ state_of_place-old words c.args.place was c.insert_mut-is_new.new.self inside read c.insert_mut-is_new.ensures.members
-          states.items c.args.cleared c.insert_mut-is_new.result c.insert_mut-is_new.ensures.new b.if-is_new.false b.index.result.now b.index.ensures
-          there ∙ sym b.state-is
+      | then-is_new b ↦ state_of_place-new words c.args.place states.items c.args.cleared c.mark_place-is_new.result c.mark_place-is_new.ensures.new
+          b.if-is_new.true ∙ sym b.state-is
+      | else-is_new b ↦ state_of_place-old words c.args.place states.items c.args.cleared c.mark_place-is_new.result c.mark_place-is_new.ensures.new
+          b.if-is_new.false b.index.result.now b.index.ensures there ∙ sym b.state-is
     ]
 
 pub update-requires-clause-room : goal.update-requires-clause-room
@@ -31,25 +24,12 @@ update-requires-clause-room g c =
     subst (λ s. g.C.ScoreCombiner.has_room s (g.S.DocSet.limits c.args.scorer.now).top)
     (begins g (goal.at.update-requires-clause-room g c).Joined-is_new) c.requires.room
 
-pub returns-clause-documents : goal.returns-clause-documents
-returns-clause-documents g c =
-    let words = c.args.buckets.now in
-    let i = c.args.place / 64 in
-    let was : TinySet = get_or words i (record { bits = 0 }) in
-    let inside : i < length words = omega (arith, c.requires.place, c.requires.buckets) in
-    words_have-insert words c.args.place was c.insert_mut-is_new.new.self inside (get_or-there words i (record { bits = 0 }) was inside)
-    c.insert_mut-is_new.ensures.members
-
 pub returns-clause-state : goal.returns-clause-state
 returns-clause-state g c =
-    let words = c.args.buckets.now in
     let states = c.make_states.new.states in
-    let i = c.args.place / 64 in
-    let was : TinySet = get_or words i (record { bits = 0 }) in
-    let inside : i < length words = omega (arith, c.requires.place, c.requires.buckets) in
     let there : c.args.place < length states.items = omega (arith, c.make_states.ensures.place, states.ok.0) in
-    state_of_place-put words c.args.place was c.insert_mut-is_new.new.self inside (get_or-there words i (record { bits = 0 }) was inside)
-    c.insert_mut-is_new.ensures.members states.items c.args.cleared c.update.new.self there
+    state_of_place-put c.args.buckets.now c.mark_place-is_new.new.buckets c.args.place c.mark_place-is_new.ensures.documents
+    states.items c.args.cleared c.update.new.self there
     ∙ c.update.ensures.state
     ∙ ap (λ s. g.C.ScoreCombiner.step s (head_score (g.S.DocSet.entries c.args.scorer.now))) (sym (begins g (goal.at.returns-clause-state g c).Joined-is_new))
 
@@ -57,10 +37,7 @@ pub returns-clause-others : goal.returns-clause-others
 returns-clause-others g c = λ x other.
     let words = c.args.buckets.now in
     let states = c.make_states.new.states in
-    let i = c.args.place / 64 in
-    let was : TinySet = get_or words i (record { bits = 0 }) in
-    let inside : i < length words = omega (arith, c.requires.place, c.requires.buckets) in
     let there : c.args.place < length states.items = omega (arith, c.make_states.ensures.place, states.ok.0) in
-    state_of_place-other words c.args.place was c.insert_mut-is_new.new.self inside (get_or-there words i (record { bits = 0 }) was inside)
-    c.insert_mut-is_new.ensures.members states.items c.args.cleared c.update.new.self there x other
+    state_of_place-other words c.mark_place-is_new.new.buckets c.args.place c.mark_place-is_new.ensures.documents
+    states.items c.args.cleared c.update.new.self there x other
     ∙ state_of_place-same words states.items c.args.states.now.items c.args.cleared c.make_states.ensures.same x

@@ -20,6 +20,13 @@ one_document : all_from 0 1 ≡ one 0 ∷ []
 unfolding all_from
 one_document = refl
 
+-- no states are kept: any score leaves them as they are
+pub mark-requires-clause-stateless : goal.mark-requires-clause-stateless
+mark-requires-clause-stateless g c = c.keeps_no_states.ensures c.if-keeps_no_states.true
+
+pub returns-then-keeps_no_states-clause-state : goal.returns-then-keeps_no_states-clause-state
+returns-then-keeps_no_states-clause-state g c = c.mark.ensures.state _
+
 pub put-requires-clause-here : goal.put-requires-clause-here
 put-requires-clause-here g c =
     omega (

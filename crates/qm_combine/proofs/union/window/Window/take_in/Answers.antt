@@ -1,20 +1,30 @@
 -- A document of the scorer is put in, and the scorer steps on.
-use Rattle.std.proofs.Common.{◌≡◌, ◌≢◌, ℕ, ◌+◌, ◌-◌, ◌<◌, ◌||◌, nat_le, [], List, drop, fold, length, min, ap, ap₂, sym, subst, refl, arith, true, eq-eqb}
-use Rattle.std.proofs.Common.{ne_eqb, ◌∙◌, inl, inr}
-use Rattle.std.proofs.lemmas.Bool.{cases_Bool, cases_eq, cases_lt, leb-true}
+use Rattle.std.proofs.Common.{◌≡◌, ◌≢◌, ℕ, ◌+◌, ◌-◌, ◌<◌, [], ◌∷◌, List, drop, fold, length, min, ap, ap₂, sym, subst, refl, arith, inl, inr, ◌∙◌}
+use Rattle.std.proofs.lemmas.Bool.{cases_eq, cases_lt}
 use Rattle.qm_docset.specs.Entry.{Limits, from, head_document, head_score}
 use Rattle.qm_docset.specs.EntryFacts.{from-reached}
-use Rattle.qm_docset.specs.Words.{words_have}
 use Rattle.qm_combine.specs.WindowStates.{state_of_place}
-use Rattle.qm_combine.specs.Window.{window_has, window_state}
+use Rattle.qm_combine.specs.Window.{window_combiner, window_has, window_state}
 use Rattle.qm_combine.specs.Windowed.{scores_of}
 use Rattle.qm_combine.proofs.Leading.{whole}
-use Rattle.qm_combine.proofs.TakenIn.{from-all_passed, next-past, scores_of-ahead, step_min, taken, taken-all, taken-before, taken-beyond, taken-first}
-use Rattle.qm_combine.proofs.TakenIn.{taken-here, taken-other}
-use Rattle.qm_combine.proofs.Windows.{or_false, or_true}
-use Rattle.qm_combine.proofs.WindowWords.{has_at, has_at-before, has_at-from, has_at-past, state_at, state_at-before, state_at-from}
+use Rattle.qm_combine.proofs.Marking.{marked-below, marked-beyond, marked-until, marking-first, marking-next}
+use Rattle.qm_combine.proofs.TakenIn.{from-all_passed, scores_of-ahead, step_min, taken, taken-all, taken-before, taken-first, taken-here, taken-other}
+use Rattle.qm_combine.proofs.WindowWords.{has_at, state_at, state_at-before, state_at-from, window_state-none}
 use Rattle.qm_combine.proofs.union.window.Window.take_in.Goals as goal
-use Rattle.qm_combine.proofs.union.window.Window.take_in.Goals.{After-put}
+
+-- no states are kept: whatever the scores, each document's stays cleared
+idle : {C : Type 0} (step : C → ℕ → C) (c : C) → ((x : ℕ) → step c x ≡ c) → (xs : List ℕ) → fold step c xs ≡ c
+idle step c same [] = refl
+idle step c same (x ∷ xs) = ap (λ s. fold step s xs) (same x) ∙ idle step c same xs
+
+pub returns-then-keeps_no_states-clause-states : goal.returns-then-keeps_no_states-clause-states
+returns-then-keeps_no_states-clause-states g c = λ d inside.
+    let k = c.keeps_no_states.ensures c.if-keeps_no_states.true in
+    let xs = scores_of d (g.S.DocSet.entries c.args.scorer.now) in
+    let none = window_state-none c.args.self.now k.none d in
+    window_state-none c.mark_in.new.self (ap (λ (v : _). v.len) c.mark_in.ensures.states ∙ k.none) d
+    ∙ c.mark_in.ensures.combiner
+    ∙ sym (ap (λ s. fold g.C.ScoreCombiner.step s xs) none ∙ idle g.C.ScoreCombiner.step (window_combiner c.args.self.now) k.idle xs)
 
 pub loop-doc-init : goal.loop-doc-init
 loop-doc-init g c =
@@ -28,12 +38,9 @@ loop-doc-init g c =
       limits = refl;
       valid = c.requires.scorer.valid;
       placed = c.requires.scorer.placed;
-      low = omega (arith, c.doc-doc.ensures, c.requires.first);
-      last_low = omega (arith, c.doc-doc.ensures, c.requires.first);
-      until = λ d some. let none_there = taken-first _ es ascends c.doc-doc.result d c.doc-doc.ensures in absurd (omega (arith, some, ap length none_there));
+      marks = marking-first _ es ascends w.start c.doc-doc.result w.buckets.items _ c.doc-doc.ensures (omega (arith, c.doc-doc.ensures, c.requires.first))
+          c.as_mut_slice-buckets.ensures.value;
       room = w.room;
-      documents = λ x below. ap (λ ws. words_have ws x) c.as_mut_slice-buckets.ensures.value
-          ∙ sym (ap (λ (r : List ℕ). words_have w.buckets.items x || nat_le 1 (length r)) (none x) ∙ or_false (words_have w.buckets.items x));
       states = λ x below. ap (λ ws. state_of_place ws w.states.items w.combiner x) c.as_mut_slice-buckets.ensures.value
           ∙ sym (ap (fold g.C.ScoreCombiner.step (state_of_place w.buckets.items w.states.items w.combiner x)) (none x));
     }
@@ -44,12 +51,12 @@ put-requires-clause-room g c =
     let w = c.args.self.now in
     let es = g.S.DocSet.entries c.args.scorer.now in
     let x = c.loop-doc.doc - w.start in
-    let place : w.start + x ≡ c.loop-doc.doc = omega (arith, c.loop-doc.invariant.low) in
+    let place : w.start + x ≡ c.loop-doc.doc = omega (arith, c.loop-doc.invariant.marks.low) in
     let old = state_of_place w.buckets.items w.states.items w.combiner x in
     let none : taken c.loop-doc.doc (w.start + x) es ≡ [] = taken-before c.loop-doc.doc (w.start + x) es (omega arith) in
     let now : state_of_place c.loop-doc.buckets c.loop-doc.states.items w.combiner x ≡ window_state w c.loop-doc.doc =
     c.loop-doc.invariant.states x (omega (arith, c.loop-doc-test.true, c.min-end.ensures)) ∙ ap (fold g.C.ScoreCombiner.step old) none
-    ∙ sym (state_at-from w.start w.buckets.items w.states.items w.combiner c.loop-doc.doc c.loop-doc.invariant.low) in
+    ∙ sym (state_at-from w.start w.buckets.items w.states.items w.combiner c.loop-doc.doc c.loop-doc.invariant.marks.low) in
     let room = c.requires.room c.loop-doc.doc in
     let law = g.met.C.ScoreCombiner.room room.start room.scores (g.S.DocSet.limits c.args.scorer.now).top room.fits in
     subst (λ n. g.C.ScoreCombiner.has_room (state_of_place c.loop-doc.buckets c.loop-doc.states.items w.combiner x) n)
@@ -79,30 +86,12 @@ loop-doc-preserved g c =
       limits = c.advance-doc.ensures.limits ∙ c.put.ensures.left.limits ∙ inv.limits;
       valid = c.advance-doc.ensures.valid;
       placed = c.advance-doc.ensures.placed;
-      low = omega (arith, inv.low, next-past _ es ascends doc next here below goes);
-      last_low = omega (arith, next-past _ es ascends doc next here below goes);
-      until = λ d some. elim (cases_eq d doc) [
-        | inl same ↦ omega arith
-        | inr other ↦ let before = inv.until d (omega (arith, some, ap length (taken-other _ es ascends doc next here below goes d other))) in
-            omega (arith, inv.last_low)
-      ];
+      marks = marking-next _ es ascends w.start doc next c.loop-doc.last w.buckets.items c.loop-doc.buckets c.put.new.buckets inv.marks here below goes
+          c.put.ensures.documents;
       room = c.put.ensures.room;
-      documents = λ x small. c.put.ensures.documents x ∙ elim (cases_eq x (doc - w.start)) [
-        | inl same ↦
-            let at : w.start + x ≡ doc = omega (arith, inv.low) in
-            rw (eq-eqb x (doc - w.start) same)
-            (sym (ap (λ d. words_have w.buckets.items x || nat_le 1 (length (taken next d es))) at
-            ∙ ap (λ (r : List ℕ). words_have w.buckets.items x || nat_le 1 (length r)) (taken-here _ es ascends doc next here below goes)
-            ∙ or_true (words_have w.buckets.items x)))
-        | inr other ↦
-            let apart : w.start + x ≢ doc = λ e. other (omega (arith, inv.low)) in
-            rw (ne_eqb x (doc - w.start) other) (inv.documents x small
-            ∙ ap (λ (r : List ℕ). words_have w.buckets.items x || nat_le 1 (length r))
-            (sym (taken-other _ es ascends doc next here below goes (w.start + x) apart)))
-      ];
       states = λ x small. elim (cases_eq x (doc - w.start)) [
         | inl same ↦
-            let at : w.start + x ≡ doc = omega (arith, inv.low) in
+            let at : w.start + x ≡ doc = omega (arith, inv.marks.low) in
             let was = inv.states x small ∙ ap (λ d. fold g.C.ScoreCombiner.step (old x) (taken doc d es)) at
             ∙ ap (fold g.C.ScoreCombiner.step (old x)) (taken-before doc doc es (omega arith)) in
             let put_in : state_of_place c.put.new.buckets c.put.new.states.items w.combiner x ≡ g.C.ScoreCombiner.step
@@ -112,7 +101,7 @@ loop-doc-preserved g c =
             ∙ sym (ap (λ d. fold g.C.ScoreCombiner.step (old x) (taken next d es)) at
             ∙ ap (fold g.C.ScoreCombiner.step (old x)) (taken-here _ es ascends doc next here below goes))
         | inr other ↦
-            let apart : w.start + x ≢ doc = λ e. other (omega (arith, inv.low)) in
+            let apart : w.start + x ≢ doc = λ e. other (omega (arith, inv.marks.low)) in
             c.put.ensures.others x other ∙ inv.states x small
             ∙ ap (fold g.C.ScoreCombiner.step (old x)) (sym (taken-other _ es ascends doc next here below goes (w.start + x) apart))
       ];
@@ -138,19 +127,9 @@ returns-clause-documents g c = λ d inside.
     let ascends = g.met.S.DocSet.ascending c.args.scorer.now c.requires.scorer.valid in
     let words = whole w.buckets.len c.loop-doc.buckets w.buckets.items (c.loop-doc.auto.buckets
     ∙ ap length c.as_mut_slice-buckets.ensures.value) w.buckets.ok.0 in
-    ap (λ ws. has_at w.start ws d) words ∙ elim (cases_lt d w.start) [
-      | inl before ↦
-          let none = scores_of-ahead _ es ascends d (omega (arith, c.requires.first)) in
-          has_at-before w.start c.loop-doc.buckets d before ∙ sym (rw (has_at-before w.start w.buckets.items d before, none) refl)
-      | inr past ↦
-          let x = d - w.start in
-          let at : w.start + x ≡ d = omega arith in
-          has_at-from w.start c.loop-doc.buckets d past ∙ c.loop-doc.invariant.documents x (omega arith)
-          ∙ ap (λ n. words_have w.buckets.items x || nat_le 1 (length (taken c.loop-doc.doc n es))) at
-          ∙ ap (λ (r : List ℕ). words_have w.buckets.items x || nat_le 1 (length r))
-          (taken-all _ es ascends c.loop-doc.doc c.args.bound d (omega (arith, c.loop-doc-test.false, c.min-end.ensures)) inside)
-          ∙ ap (λ b. b || nat_le 1 (length (scores_of d es))) (sym (has_at-from w.start w.buckets.items d past))
-    ]
+    ap (λ ws. has_at w.start ws d) words
+    ∙ marked-below _ es ascends w.start c.loop-doc.doc c.loop-doc.last c.args.bound w.buckets.items c.loop-doc.buckets c.loop-doc.invariant.marks
+    (omega (arith, c.loop-doc-test.false, c.min-end.ensures)) c.requires.bound c.requires.first d inside
 
 pub returns-clause-states : goal.returns-clause-states
 unfolding window_has window_state
@@ -180,41 +159,18 @@ returns-clause-beyond g c = λ d beyond.
     let w = c.args.self.now in
     let es = g.S.DocSet.entries c.args.scorer.now in
     let ascends = g.met.S.DocSet.ascending c.args.scorer.now c.requires.scorer.valid in
-    let words = whole w.buckets.len c.loop-doc.buckets w.buckets.items (c.loop-doc.auto.buckets
-    ∙ ap length c.as_mut_slice-buckets.ensures.value) w.buckets.ok.0 in
     let long : length c.loop-doc.buckets ≡ length w.buckets.items = c.loop-doc.auto.buckets ∙ ap length c.as_mut_slice-buckets.ensures.value in
-    ap (λ ws. has_at w.start ws d) words ∙ elim (cases_lt d w.start) [
-      | inl before ↦ has_at-before w.start c.loop-doc.buckets d before ∙ sym (has_at-before w.start w.buckets.items d before)
-      | inr past ↦ elim (cases_lt d (w.start + 4096)) [
-        | inl inside ↦
-            let x = d - w.start in
-            let at : w.start + x ≡ d = omega arith in
-            let none = taken-beyond _ es ascends c.loop-doc.doc c.args.bound d (c.loop-doc.invariant.here
-            ∙ ap head_document c.loop-doc.invariant.left) beyond in
-            has_at-from w.start c.loop-doc.buckets d past ∙ c.loop-doc.invariant.documents x (omega arith)
-            ∙ ap (λ n. words_have w.buckets.items x || nat_le 1 (length (taken c.loop-doc.doc n es))) at
-            ∙ ap (λ (r : List ℕ). words_have w.buckets.items x || nat_le 1 (length r)) none ∙ or_false (words_have w.buckets.items x)
-            ∙ sym (has_at-from w.start w.buckets.items d past)
-        | inr behind ↦ has_at-past w.start c.loop-doc.buckets d (omega (arith, long, w.sixty_four, w.buckets.ok.0))
-            ∙ sym (has_at-past w.start w.buckets.items d (omega (arith, w.sixty_four, w.buckets.ok.0)))
-      ]
-    ]
+    let words = whole w.buckets.len c.loop-doc.buckets w.buckets.items long w.buckets.ok.0 in
+    ap (λ ws. has_at w.start ws d) words
+    ∙ marked-beyond _ es ascends w.start c.loop-doc.doc c.loop-doc.last c.args.bound w.buckets.items c.loop-doc.buckets c.loop-doc.invariant.marks
+    (omega (arith, c.loop-doc-test.false, c.min-end.ensures)) c.requires.bound (omega (arith, w.sixty_four, w.buckets.ok.0))
+    (omega (arith, long, w.sixty_four, w.buckets.ok.0)) (c.loop-doc.invariant.here ∙ ap head_document c.loop-doc.invariant.left) d beyond
 
 pub returns-clause-until : goal.returns-clause-until
-returns-clause-until g c = λ until d here.
+returns-clause-until g c = λ until.
     let w = c.args.self.now in
     let es = g.S.DocSet.entries c.args.scorer.now in
     let ascends = g.met.S.DocSet.ascending c.args.scorer.now c.requires.scorer.valid in
-    elim (cases_lt d c.args.bound) [
-      | inl inside ↦ elim (cases_Bool (window_has w d)) [
-        | inl had ↦ let old = until d had in omega (arith, c.max-self.ensures)
-        | inr none ↦
-            let is = sym (returns-clause-documents g c d inside) ∙ here in
-            let some : nat_le 1 (length (scores_of d es)) ≡ true = rw none at is in
-            let count = leb-true 1 (length (scores_of d es)) some in
-            let same = taken-all _ es ascends c.loop-doc.doc c.args.bound d (omega (arith, c.loop-doc-test.false, c.min-end.ensures)) inside in
-            let low = c.loop-doc.invariant.until d (omega (arith, count, ap length same)) in
-            omega (arith, c.max-self.ensures)
-      ]
-      | inr past ↦ let old = until d (sym (returns-clause-beyond g c d past) ∙ here) in omega (arith, c.max-self.ensures)
-    ]
+    marked-until _ es ascends w.start c.loop-doc.doc c.loop-doc.last c.args.bound w.buckets.items c.loop-doc.buckets c.loop-doc.invariant.marks
+    (omega (arith, c.loop-doc-test.false, c.min-end.ensures)) c.requires.bound w.last c.max-self.result (window_has w) _ until
+    (omega (arith, c.max-self.ensures)) (omega (arith, c.max-self.ensures)) (returns-clause-documents g c) (returns-clause-beyond g c)

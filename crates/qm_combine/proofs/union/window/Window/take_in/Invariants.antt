@@ -1,7 +1,7 @@
-use Rattle.std.proofs.Common.{◌≡◌, ℕ, ◌+◌, ◌<◌, ◌≤◌, ◌||◌, nat_le, length, fold, min, vec_capacity}
+use Rattle.std.proofs.Common.{◌≡◌, ℕ, ◌+◌, ◌<◌, ◌≤◌, length, fold, min, vec_capacity}
 use Rattle.qm_docset.specs.Entry.{from, head_document}
-use Rattle.qm_docset.specs.Words.{words_have}
 use Rattle.qm_combine.specs.WindowStates.{state_of_place}
+use Rattle.qm_combine.proofs.Marking.{IsMarking}
 use Rattle.qm_combine.proofs.TakenIn.{taken}
 use Rattle.qm_combine.proofs.union.window.Window.take_in.Given as goal
 
@@ -12,12 +12,7 @@ invariant-loop-doc g l = record {
   limits : g.S.DocSet.limits l.scorer ≡ g.S.DocSet.limits l.fn.scorer;
   valid : g.S.DocSet.valid l.scorer;
   placed : g.S.DocSet.placed l.scorer;
-  low : l.fn.self.start ≤ l.doc;
-  last_low : l.last ≤ l.doc;
-  until : (d : ℕ) → 1 ≤ length (taken l.doc d (g.S.DocSet.entries l.fn.scorer)) → d ≤ l.last;
-  documents : (x : ℕ) → x < 4096
-      → words_have l.buckets x ≡ (words_have l.fn.self.buckets.items x || nat_le 1
-      (length (taken l.doc (l.fn.self.start + x) (g.S.DocSet.entries l.fn.scorer))));
+  marks : IsMarking l.fn.self.start l.doc l.last l.fn.self.buckets.items l.buckets (g.S.DocSet.entries l.fn.scorer);
   room : 4096 ≤ vec_capacity l.states;
   states : (x : ℕ) → x < 4096
       → state_of_place l.buckets l.states.items l.fn.self.combiner x ≡ fold g.C.ScoreCombiner.step
