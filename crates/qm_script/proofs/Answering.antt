@@ -3,7 +3,9 @@ use Rattle.std.proofs.Common.{◌≡◌, ◌⊎◌, inl, inr, ℕ, ℤ, Bool, tr
 use Rattle.std.proofs.Common.{refl, ap, sym, subst, ◌∙◌, ◌+◌, ◌≤◌, length-append}
 use Rattle.std.specs.Borrow.{Bor}
 use Rattle.std.specs.List.{range_with_len}
-use Rattle.qm_postings.specs.Segment.{Segment}
+use Rattle.qm_index.specs.Indexed.{AreMerged, AreSearched, all_segments}
+use Rattle.qm_index.specs.Parts.{segments_of}
+use Rattle.qm_postings.specs.Reading.{Reader}
 use Rattle.qm_postings.specs.Statistics.{Searched}
 use Rattle.qm_query.specs.EnableScoring.{schema_of}
 use Rattle.qm_query.specs.Query.{Query}
@@ -14,15 +16,15 @@ use Rattle.qm_schema.specs.Refusals.{refusal_number}
 use Rattle.qm_schema.specs.declared.error.QueryError.{QueryError}
 use Rattle.qm_schema.specs.declared.error.QueryError.TheVariants.{Memory}
 use Rattle.qm_script.specs.AllSegments.{all_listed}
-use Rattle.qm_script.specs.Answers.{AnswersQuery, IsLineRefusal, IsListingAnswer, IsSegmentsRefusal}
+use Rattle.qm_script.specs.Answers.{AnswersQuery, IsLineRefusal, IsListingAnswer}
 use Rattle.qm_script.specs.Asked.{Builds, asked}
 use Rattle.qm_script.specs.Fields.{script_fields}
-use Rattle.qm_script.specs.Found.{found_above, found_above_in_parts}
+use Rattle.qm_script.specs.Found.{found_above, found_above_in_parts, found_alive}
 use Rattle.qm_script.specs.PrefixFree.{has_no_prefix}
 use Rattle.qm_script.specs.Prefixes.{has_prefix}
 use Rattle.qm_script.specs.ProgramNumbers.{ungiven_weight}
 use Rattle.qm_script.specs.Script as language
-use Rattle.qm_script.specs.ScriptSegments.{AreOnePart, AreSegments, Script, all_segments}
+use Rattle.qm_script.specs.ScriptSegments.{Script}
 use Rattle.qm_script.specs.State.{State}
 use Rattle.qm_script.specs.Text.{IsListing, listing_text}
 use Rattle.qm_script.specs.Under.{IsForDocuments, IsForScores, IsListingRefusal, tree_of}
@@ -30,6 +32,7 @@ use Rattle.qm_script.specs.declared.answer.Answer.{Answer}
 use Rattle.qm_script.specs.declared.answer.Answer.TheVariants.{Refused}
 use Rattle.qm_script.proofs.AskedFields.{score-refusal}
 use Rattle.qm_script.proofs.AskedTrees.{asked-free}
+use Rattle.qm_script.proofs.CountLemmas.{counted-one_part, counted-segments}
 use Rattle.qm_script.proofs.OverParts.{listed-few_parts, listed-one_part, listed-parts, listed-segments}
 use Rattle.qm_script.proofs.PrunedParts.{pruned-segments}
 
@@ -53,36 +56,30 @@ for_scores s = Enabled (lent (nothing_searched s)) (lent (nothing_searched s))
 pub IsForScores-refused : (s : State) → IsForScores s (nothing_searched s) (for_scores s)
 IsForScores-refused s = record { fields = refl; scores = refl; weights = record { given = λ q. refl; others = refl; norms = refl } }
 
-module _ (text_of : Query → List ℕ) (enable : EnableScoring Searched) (s : Script) (q : language.Query) (text : List ℕ) where
+module _ (text_of : Query → List ℕ) (enable : EnableScoring Searched) (q : language.Query) (text : List ℕ) where
   -- the query could not be built
   pub unbuilt-answer : (e : QueryError) (number : ℕ) → number ≡ refusal_number e →
-      Builds (asked q) (let r : Result AnyQuery QueryError = Err e in r) → AnswersQuery text_of enable q s (Refused number) text
+      Builds (asked q) (let r : Result AnyQuery QueryError = Err e in r) → AnswersQuery text_of enable q (Refused number) text
   unbuilt-answer e number is (inl memory) = (e, is, inl memory)
   unbuilt-answer e number is (inr due) = (e, is, inr (inl due))
 
-  -- the segments could not be built
-  pub segments-answer : (e : QueryError) (answer : Answer) → (answer ≡ Refused (refusal_number e)) ×
-      (¬ (e ≡ Memory)) → (e ≡ Memory) ⊎ IsSegmentsRefusal s e → AnswersQuery text_of enable q s answer text
-  segments-answer e answer is (inl memory) = absurd (is.1 memory)
-  segments-answer e answer is (inr many) = subst (λ a. AnswersQuery text_of enable q s a text) (sym is.0) (e, refl, inr (inr (inl many)))
-
   -- it was built, and refused where it was listed
   line-refusal : (query : Query) (e : QueryError) → schema_of enable ≡ script_fields →
-      asked q ≡ Ok query → IsListingRefusal enable query e → IsLineRefusal enable q s e
+      asked q ≡ Ok query → IsListingRefusal enable query e → IsLineRefusal enable q e
   line-refusal query e fields built refused =
-      elim (score-refusal enable q query fields built e refused) [ inl memory ↦ inl memory | inr past ↦ inr (inr (inr (query, built, past))) ]
+      elim (score-refusal enable q query fields built e refused) [ inl memory ↦ inl memory | inr past ↦ inr (inr (query, built, past)) ]
 
   -- its text was written, or refused
   pub text-answer : (query : Query) (r : Result (Unit {0}) QueryError) (answer : Answer) → schema_of enable ≡ script_fields → asked q ≡ Ok query →
-      OnOk r (text ≡ text_of query) → IfErr r (IsListingRefusal enable query) → IsListingAnswer r answer → AnswersQuery text_of enable q s answer text
-  text-answer query (Ok done) answer fields built written refused is = subst (λ a. AnswersQuery text_of enable q s a text) (sym is) (query, built, written)
+      OnOk r (text ≡ text_of query) → IfErr r (IsListingRefusal enable query) → IsListingAnswer r answer → AnswersQuery text_of enable q answer text
+  text-answer query (Ok done) answer fields built written refused is = subst (λ a. AnswersQuery text_of enable q a text) (sym is) (query, built, written)
   text-answer query (Err e) answer fields built written refused is =
-      subst (λ a. AnswersQuery text_of enable q s a text) (sym is) (e, refl, line-refusal query e fields built refused)
+      subst (λ a. AnswersQuery text_of enable q a text) (sym is) (e, refl, line-refusal query e fields built refused)
 
   -- the same of a listing
   pub listing-answer : (query : Query) (items : List (ℕ × Option ℤ)) (r : Result (Unit {0}) QueryError) (answer : Answer) →
       schema_of enable ≡ script_fields → asked q ≡ Ok query → listing_text items ≡ text_of query → OnOk r (IsListing items text) →
-      IfErr r (IsListingRefusal enable query) → IsListingAnswer r answer → AnswersQuery text_of enable q s answer text
+      IfErr r (IsListingRefusal enable query) → IsListingAnswer r answer → AnswersQuery text_of enable q answer text
   listing-answer query items (Ok done) answer fields built same lists refused is =
       text-answer query (Ok done) answer fields built (lists.listed ∙ same) refused is
   listing-answer query items (Err e) answer fields built same lists refused is = text-answer query (Err e) answer fields built tt refused is
@@ -93,19 +90,19 @@ behind_nothing [] more empty = refl
 behind_nothing (b ∷ text) more empty = absurd (omega (arith, empty))
 
 -- the open segment may be in parts where the query has no prefix
-by-prefix : (scored b : Bool) (enable : EnableScoring Searched) (s : Script) (q : language.Query) (query : Query) (segments : List Segment) →
-    has_prefix q ≡ b → asked q ≡ Ok query → AreSegments s segments → (b ≡ true → AreOnePart s segments) →
-    all_listed scored (tree_of enable query) segments ≡ all_listed scored (tree_of enable query) (all_segments s)
-by-prefix scored true enable s q query segments has built are whole = listed-one_part (tree_of enable query) scored s segments (whole refl)
-by-prefix scored false enable s q query segments has built are whole =
+by-prefix : (scored b : Bool) (enable : EnableScoring Searched) (s : Script) (q : language.Query) (query : Query) (readers : List Reader) →
+    has_prefix q ≡ b → asked q ≡ Ok query → AreSearched s readers → (b ≡ true → AreMerged s readers) →
+    all_listed scored (tree_of enable query) (segments_of readers) ≡ all_listed scored (tree_of enable query) (all_segments s)
+by-prefix scored true enable s q query readers has built are whole = listed-one_part (tree_of enable query) scored s readers (whole refl)
+by-prefix scored false enable s q query readers has built are whole =
     let free : has_no_prefix (tree_of enable query) ≡ true =
     subst (λ r. IfOk r (λ p. has_no_prefix (tree_of enable p) ≡ true)) built (asked-free enable q has) in
-    listed-segments (tree_of enable query) scored s segments free are
+    listed-segments (tree_of enable query) scored s readers free are
 
-pub parts-same : (scored b : Bool) (enable : EnableScoring Searched) (s : Script) (q : language.Query) (query : Query) (segments : List Segment) →
-    b ≡ has_prefix q → asked q ≡ Ok query → AreSegments s segments → (b ≡ true → AreOnePart s segments) →
-    all_listed scored (tree_of enable query) segments ≡ all_listed scored (tree_of enable query) (all_segments s)
-parts-same scored b enable s q query segments has built are whole = by-prefix scored b enable s q query segments (sym has) built are whole
+pub parts-same : (scored b : Bool) (enable : EnableScoring Searched) (s : Script) (q : language.Query) (query : Query) (readers : List Reader) →
+    b ≡ has_prefix q → asked q ≡ Ok query → AreSearched s readers → (b ≡ true → AreMerged s readers) →
+    all_listed scored (tree_of enable query) (segments_of readers) ≡ all_listed scored (tree_of enable query) (all_segments s)
+parts-same scored b enable s q query readers has built are whole = by-prefix scored b enable s q query readers (sym has) built are whole
 
 -- ---- a pruned run
 
@@ -113,27 +110,37 @@ parts-same scored b enable s q query segments has built are whole = by-prefix sc
 ended-length : (s : Script) (ended : ℕ) → length (all_segments s) ≡ ended + 1 → ended ≡ length s.ended
 ended-length s ended number = let whole = length-append s.ended (s.current ∷ []) in omega (arith, number)
 
-pub ended-within : (s : Script) (segments : List Segment) (ended : ℕ) → AreSegments s segments → length (all_segments s) ≡ ended + 1 → ended ≤ length segments
-ended-within s segments ended are number =
-    let count = ended-length s ended number in
-    let cut : length segments ≡ length s.ended + length are.parts = ap length are.all ∙ length-append s.ended are.parts in
-    omega arith
-
 above-by-prefix : (threshold : ℤ) (b : Bool) (enable : EnableScoring Searched) (s : Script) (q : language.Query) (query : Query)
-    (ended : ℕ) (segments : List Segment) → has_prefix q ≡ b → asked q ≡ Ok query → ended ≡ length s.ended → AreSegments s segments →
-    (b ≡ true → AreOnePart s segments) → found_above_in_parts threshold enable query ended segments ≡ found_above threshold enable query (all_segments s)
-above-by-prefix threshold true enable s q query ended segments has built number are whole =
+    (ended : ℕ) (readers : List Reader) → has_prefix q ≡ b → asked q ≡ Ok query → ended ≡ length s.ended → AreSearched s readers →
+    (b ≡ true → AreMerged s readers) → found_above_in_parts threshold enable query ended (segments_of readers) ≡ found_above threshold enable query (all_segments s)
+above-by-prefix threshold true enable s q query ended readers has built number are whole =
     let one = whole refl in
-    pruned-segments (tree_of enable query) threshold s segments one.segments
-    (listed-few_parts (tree_of enable query) true s.current one.segments.parts one.one one.segments.parts_of_current) ended number
-above-by-prefix threshold false enable s q query ended segments has built number are whole =
+    pruned-segments (tree_of enable query) threshold s readers one.searched
+    (listed-few_parts (tree_of enable query) true s.current one.searched.parts one.one one.searched.of_current) ended number
+above-by-prefix threshold false enable s q query ended readers has built number are whole =
     let free : has_no_prefix (tree_of enable query) ≡ true =
     subst (λ r. IfOk r (λ p. has_no_prefix (tree_of enable p) ≡ true)) built (asked-free enable q has) in
-    pruned-segments (tree_of enable query) threshold s segments are
-    (listed-parts (tree_of enable query) true s.current are.parts free are.parts_of_current) ended number
+    pruned-segments (tree_of enable query) threshold s readers are
+    (listed-parts (tree_of enable query) true s.current are.parts free are.of_current) ended number
 
 pub above-same : (threshold : ℤ) (b : Bool) (enable : EnableScoring Searched) (s : Script) (q : language.Query) (query : Query) (ended : ℕ)
-    (segments : List Segment) → b ≡ has_prefix q → asked q ≡ Ok query → length (all_segments s) ≡ ended + 1 → AreSegments s segments →
-    (b ≡ true → AreOnePart s segments) → found_above_in_parts threshold enable query ended segments ≡ found_above threshold enable query (all_segments s)
-above-same threshold b enable s q query ended segments has built number are whole =
-    above-by-prefix threshold b enable s q query ended segments (sym has) built (ended-length s ended number) are whole
+    (readers : List Reader) → b ≡ has_prefix q → asked q ≡ Ok query → length (all_segments s) ≡ ended + 1 → AreSearched s readers →
+    (b ≡ true → AreMerged s readers) → found_above_in_parts threshold enable query ended (segments_of readers) ≡ found_above threshold enable query (all_segments s)
+above-same threshold b enable s q query ended readers has built number are whole =
+    above-by-prefix threshold b enable s q query ended readers (sym has) built (ended-length s ended number) are whole
+
+-- ---- a count
+
+counted-by-prefix : (b : Bool) (enable : EnableScoring Searched) (s : Script) (q : language.Query) (query : Query) (readers : List Reader) →
+    has_prefix q ≡ b → asked q ≡ Ok query → AreSearched s readers → (b ≡ true → AreMerged s readers) →
+    found_alive enable query (segments_of readers) ≡ found_alive enable query (all_segments s)
+counted-by-prefix true enable s q query readers has built are whole = counted-one_part (tree_of enable query) s readers (whole refl)
+counted-by-prefix false enable s q query readers has built are whole =
+    let free : has_no_prefix (tree_of enable query) ≡ true =
+    subst (λ r. IfOk r (λ p. has_no_prefix (tree_of enable p) ≡ true)) built (asked-free enable q has) in
+    counted-segments (tree_of enable query) s readers free are
+
+pub counted-same : (b : Bool) (enable : EnableScoring Searched) (s : Script) (q : language.Query) (query : Query) (readers : List Reader) →
+    b ≡ has_prefix q → asked q ≡ Ok query → AreSearched s readers → (b ≡ true → AreMerged s readers) →
+    found_alive enable query (segments_of readers) ≡ found_alive enable query (all_segments s)
+counted-same b enable s q query readers has built are whole = counted-by-prefix b enable s q query readers (sym has) built are whole

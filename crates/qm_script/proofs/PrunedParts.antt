@@ -10,11 +10,13 @@ use Rattle.std.proofs.lemmas.List.{length-drop, map-append}
 use Rattle.std.proofs.lemmas.Option.{none-some, slice_get-get_or, slice_get_within}
 use Rattle.qm_docset.specs.Gather.{scored}
 use Rattle.qm_postings.specs.Segment.{Segment}
-use Rattle.qm_postings.specs.declared.segment_reader.SegmentReader.{SegmentReader}
+use Rattle.qm_index.specs.Indexed.{AreSearched, all_segments}
+use Rattle.qm_index.specs.Parts.{segments_of}
+use Rattle.qm_postings.specs.Reading.{Reader}
 use Rattle.qm_script.specs.AllSegments.{listed, listed_from}
 use Rattle.qm_script.specs.Parts.{document_count}
 use Rattle.qm_script.specs.Pruned.{all_pruned, entry_item, parts_pruned, pruned_from, rising, threshold_after}
-use Rattle.qm_script.specs.ScriptSegments.{AreSegments, Script, all_segments}
+use Rattle.qm_script.specs.ScriptSegments.{Script}
 use Rattle.qm_script.specs.Text.{numbered}
 use Rattle.qm_weight.specs.Tree.{Tree, list, matching, score}
 use Rattle.qm_script.proofs.ListedSegments.{pair_item}
@@ -71,8 +73,8 @@ run-listed threshold tree first s found is =
 
 -- ---- a loop over segments: one more
 
-module _ (threshold : ℤ) (tree : Tree) (readers : List SegmentReader) (i : ℕ)
-    (item : SegmentReader) (within : i < length readers) (is : item ≡ get_or readers i item) where
+module _ (threshold : ℤ) (tree : Tree) (readers : List Reader) (i : ℕ)
+    (item : Reader) (within : i < length readers) (is : item ≡ get_or readers i item) where
   pub pruned-next : (items all : List (ℕ × Option ℤ)) (first n : ℕ) → n ≡ length item.segment.documents → items ++ pruned_from threshold tree first
       (map (λ r. r.segment) (drop i readers)) ≡ all → (items ++ rising threshold (listed true tree first item.segment))
       ++ pruned_from threshold tree (first + n) (map (λ r. r.segment) (drop (i + 1) readers)) ≡ all
@@ -172,11 +174,12 @@ module _ (tree : Tree) where
         ∙ ap (λ n. (here ++ pruned_from threshold tree (first + length s.documents) ended) ++ rising threshold (listed true tree n current)) number
 
     -- the parts list what the open segment does
-    module _ (script : Script) (segments : List Segment) (are : AreSegments script segments)
+    module _ (script : Script) (readers : List Reader) (are : AreSearched script readers)
         (same : (first : ℕ) → listed_from true tree first are.parts ≡ listed true tree first script.current) where
-      pub pruned-segments : (ended : ℕ) → ended ≡ length script.ended → all_pruned threshold tree (take ended segments) ++ parts_pruned threshold tree
-          (document_count (take ended segments)) (drop ended segments) ≡ all_pruned threshold tree (all_segments script)
+      pub pruned-segments : (ended : ℕ) → ended ≡ length script.ended → all_pruned threshold tree (take ended (segments_of readers)) ++ parts_pruned threshold
+          tree (document_count (take ended (segments_of readers))) (drop ended (segments_of readers)) ≡ all_pruned threshold tree (all_segments script)
       pruned-segments ended number =
+          let segments = segments_of readers in
           let cut : take ended segments ≡ script.ended = (λ i. take (number i) (are.all i)) ∙ take-append_seam script.ended are.parts in
           let rest : drop ended segments ≡ are.parts = (λ i. drop (number i) (are.all i)) ∙ drop-append_seam script.ended are.parts in
           let count = document_count script.ended in

@@ -1,7 +1,7 @@
 use Rattle.std.proofs.Common.{◌≡◌, ◌++◌, IsTrue, rules, true, ◌∙◌, ap, sym, arith, take, of_z, to_z, w64, subst, string_bytes}
 use mir.ValLaws.{to_z-of_z}
 use Rattle.std.proofs.lemmas.List.{drop-map, take-map}
-use Rattle.qm_postings.specs.declared.segment_reader.SegmentReader.{SegmentReader}
+use Rattle.qm_postings.specs.Reading.{Reader}
 use Rattle.qm_query.specs.Query.{query_of}
 use Rattle.qm_script.specs.Found.{segments_of}
 use Rattle.qm_script.specs.Parts.{document_count}
@@ -38,9 +38,9 @@ returns-clause-listed c =
     let tree = c.in_ok-weight.ensures.tree in
     let one = ap tree_of c.deref.ensures ∙ tree in
     let other = ap tree_of c.deref-2.ensures ∙ tree in
-    let front = sym (take-map (λ (r : SegmentReader). r.segment) ended readers) in
+    let front = sym (take-map (λ (r : Reader). r.segment) ended readers) in
     let number = c.in_ok-first.ensures.counted ∙ ap document_count front in
-    let back = ap segments_of (rest-taken ended readers) ∙ sym (drop-map (λ (r : SegmentReader). r.segment) ended readers) in
+    let back = ap segments_of (rest-taken ended readers) ∙ sym (drop-map (λ (r : Reader). r.segment) ended readers) in
     let items = all_pruned (to_z w64 (of_z w64 c.args.threshold)) (tree_of c.deref.result.now) (segments_of (take ended readers)) in
     let listed = c.in_ok-write_parts.ensures.listed items c.in_ok-first.ensures.listed in
     let written = subst (λ l. IsListing l (string_bytes c.write_parts.new.text))
