@@ -19,7 +19,7 @@ use Rattle.qm_script.specs.AllSegments.{all_listed}
 use Rattle.qm_script.specs.Answers.{AnswersQuery, IsLineRefusal, IsListingAnswer}
 use Rattle.qm_script.specs.Asked.{Builds, asked}
 use Rattle.qm_script.specs.Fields.{script_fields}
-use Rattle.qm_script.specs.Found.{found_above, found_above_in_parts, found_alive}
+use Rattle.qm_script.specs.Found.{found_above, found_above_in_parts, found_alive, found_best}
 use Rattle.qm_script.specs.PrefixFree.{has_no_prefix}
 use Rattle.qm_script.specs.Prefixes.{has_prefix}
 use Rattle.qm_script.specs.ProgramNumbers.{ungiven_weight}
@@ -32,6 +32,7 @@ use Rattle.qm_script.specs.declared.answer.Answer.{Answer}
 use Rattle.qm_script.specs.declared.answer.Answer.TheVariants.{Refused}
 use Rattle.qm_script.proofs.AskedFields.{score-refusal}
 use Rattle.qm_script.proofs.AskedTrees.{asked-free}
+use Rattle.qm_script.proofs.BestListings.{best-one_part, best-segments}
 use Rattle.qm_script.proofs.CountLemmas.{counted-one_part, counted-segments}
 use Rattle.qm_script.proofs.OverParts.{listed-few_parts, listed-one_part, listed-parts, listed-segments}
 use Rattle.qm_script.proofs.PrunedParts.{pruned-segments}
@@ -144,3 +145,19 @@ pub counted-same : (b : Bool) (enable : EnableScoring Searched) (s : Script) (q 
     b ≡ has_prefix q → asked q ≡ Ok query → AreSearched s readers → (b ≡ true → AreMerged s readers) →
     found_alive enable query (segments_of readers) ≡ found_alive enable query (all_segments s)
 counted-same b enable s q query readers has built are whole = counted-by-prefix b enable s q query readers (sym has) built are whole
+
+-- ---- the best
+
+best-by-prefix : (count : ℕ) (b : Bool) (enable : EnableScoring Searched) (s : Script) (q : language.Query) (query : Query) (readers : List Reader) →
+    has_prefix q ≡ b → asked q ≡ Ok query → AreSearched s readers → (b ≡ true → AreMerged s readers) →
+    found_best count enable query (segments_of readers) ≡ found_best count enable query (all_segments s)
+best-by-prefix count true enable s q query readers has built are whole = best-one_part (tree_of enable query) count s readers (whole refl)
+best-by-prefix count false enable s q query readers has built are whole =
+    let free : has_no_prefix (tree_of enable query) ≡ true =
+    subst (λ r. IfOk r (λ p. has_no_prefix (tree_of enable p) ≡ true)) built (asked-free enable q has) in
+    best-segments (tree_of enable query) count s readers free are
+
+pub best-same : (count : ℕ) (b : Bool) (enable : EnableScoring Searched) (s : Script) (q : language.Query) (query : Query) (readers : List Reader) →
+    b ≡ has_prefix q → asked q ≡ Ok query → AreSearched s readers → (b ≡ true → AreMerged s readers) →
+    found_best count enable query (segments_of readers) ≡ found_best count enable query (all_segments s)
+best-same count b enable s q query readers has built are whole = best-by-prefix count b enable s q query readers (sym has) built are whole

@@ -37,9 +37,14 @@ module _ (tree : Tree) where
       let here : one.alive_count tree s ≡ trues (items tree flag first s) = trues-filter (is_alive s) (matching tree s) in
       let rest = counted-items (first + length s.documents) segments in
       let all = items_from tree flag (first + length s.documents) segments in
-      omega (arith, sum_by-cons (λ x. one.alive_count tree x) s segments, here, rest,
-          ap length (filter-append (λ b. b) (items tree flag first s) all),
-          length-append (filter (λ b. b) (items tree flag first s)) (filter (λ b. b) all))
+      omega (
+        arith,
+        sum_by-cons (λ x. one.alive_count tree x) s segments,
+        here,
+        rest,
+        ap length (filter-append (λ b. b) (items tree flag first s) all),
+        length-append (filter (λ b. b) (items tree flag first s)) (filter (λ b. b) all),
+      )
 
   -- a tree without prefixes
   pub counted-segments : (script : Script) (readers : List Reader) → has_no_prefix tree ≡ true → AreSearched script readers →

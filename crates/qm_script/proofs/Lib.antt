@@ -22,4 +22,5 @@ mod ListedSegments
 mod Answering
 mod SpelledForms
 mod CountLemmas
+mod BestListings
 mod PrunedParts

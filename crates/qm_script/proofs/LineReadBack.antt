@@ -12,8 +12,8 @@ use Rattle.qm_schema.specs.declared.occur.Occur.{Occur}
 use Rattle.qm_schema.specs.declared.occur.Occur.TheVariants.{Should, Must, MustNot}
 use Rattle.qm_script.specs.Script.{Clauses, Queries, Query, Request, add_document, all, behind_line_form, boolean, boost, clause, constant, count_matches}
 use Rattle.qm_script.specs.Script.{cut_at_tabs, delete_at, delete_document, disjunction_max, document_at, end_segment, line_form_named, line_request}
-use Rattle.qm_script.specs.Script.{line_words, list_above, list_documents, list_scores, no_clause, no_query, non_empty, none, nothing, phrase, phrase_prefix}
-use Rattle.qm_script.specs.Script.{prune_at, query, query_at, score_at, set_weight, term, threshold_at, weight_at, whole_query, words_request}
+use Rattle.qm_script.specs.Script.{line_words, list_above, list_best, list_documents, list_scores, no_clause, no_query, non_empty, none, nothing, phrase, phrase_prefix}
+use Rattle.qm_script.specs.Script.{count_at, prune_at, query, query_at, score_at, set_weight, term, threshold_at, top_at, weight_at, whole_query, words_request}
 use Rattle.qm_script.specs.Spelling.{AreLineWords, CanBeAsked, CanBeSpelled, ClausesCanBeSpelled, IsAskable, IsCount, IsDocumentNumber, IsLineWord, IsScore}
 use Rattle.qm_script.specs.Spelling.{IsThreshold, QueriesCanBeSpelled, clause_count, line_text, query_count, request_words, sign, spelled, spelled_clauses}
 use Rattle.qm_script.specs.Spelling.{spelled_queries}
@@ -142,6 +142,8 @@ askable-words (list_scores q) h = (record { some = omega arith; no_blank = (refl
 askable-words (count_matches q) h = (record { some = omega arith; no_blank = (refl, (refl, (refl, (refl, (refl, tt))))) }, query-words q h.1)
 askable-words (list_above threshold q) h =
     (record { some = omega arith; no_blank = (refl, (refl, (refl, (refl, (refl, tt))))) }, (threshold-word threshold h.0, query-words q h.1.1))
+askable-words (list_best count q) h =
+    (record { some = omega arith; no_blank = (refl, (refl, (refl, tt))) }, (count-word count h.0, query-words q h.1.1))
 
 -- ---- what the words ask for
 
@@ -165,6 +167,12 @@ prune-read threshold q in_range h =
     read-then (threshold_at (signed_decimal threshold ∷ spelled q)) (threshold, spelled q) _ _ (threshold-read threshold (spelled q) in_range)
     (read-then (whole_query (spelled q)) q _ _ (whole-read q h) refl)
 
+top-read : (count : ℕ) (q : Query) → IsCount count → CanBeAsked q → top_at (decimal count ∷ spelled q) ≡ Some (list_best count q)
+unfolding top_at
+top-read count q few h =
+    read-then (count_at (decimal count ∷ spelled q)) (count, spelled q) _ _ (count-read count (spelled q) few)
+    (read-then (whole_query (spelled q)) q _ _ (whole-read q h) refl)
+
 words-read : (request : Request) → IsAskable request → words_request (request_words request) ≡ Some request
 unfolding words_request line_form_named behind_line_form
 words-read nothing h = refl
@@ -176,6 +184,7 @@ words-read (list_documents q) h = ap (option_map list_documents) (whole-read q h
 words-read (list_scores q) h = ap (option_map list_scores) (whole-read q h)
 words-read (count_matches q) h = ap (option_map count_matches) (whole-read q h)
 words-read (list_above threshold q) h = prune-read threshold q h.0 h.1
+words-read (list_best count q) h = top-read count q h.0 h.1
 
 -- what a line spells is what it asks for
 pub request-read : (request : Request) → IsAskable request → line_request (line_text request) ≡ Some request

@@ -8,7 +8,7 @@ use Rattle.qm_schema.specs.Refusals.{refusal_number}
 use Rattle.qm_schema.specs.declared.error.QueryError.{QueryError}
 use Rattle.qm_schema.specs.declared.error.QueryError.TheVariants.{Memory, TooManySegments}
 use Rattle.qm_script.specs.Asked.{asked}
-use Rattle.qm_script.specs.Found.{found_above, found_alive, found_matches}
+use Rattle.qm_script.specs.Found.{found_above, found_alive, found_best, found_matches}
 use Rattle.qm_script.specs.Script as language
 use Rattle.qm_index.specs.Indexed.{Deletes, all_segments, with_segment_ended}
 use Rattle.qm_script.specs.ScriptSegments.{Script, with_document_of}
@@ -22,7 +22,7 @@ use Rattle.qm_script.specs.declared.answer.Answer.TheVariants.{Silence, Listing,
 use Rattle.qm_script.specs.ProgramNumbers.{most_segments}
 use Rattle.qm_script.specs.declared.parse.Command.{Command}
 use Rattle.qm_script.specs.declared.parse.Command.TheVariants.{Nothing, AddDocument, SetWeight, EndSegment, DeleteDocument, ListDocuments, ListScores}
-use Rattle.qm_script.specs.declared.parse.Command.TheVariants.{CountMatches, ListAbove}
+use Rattle.qm_script.specs.declared.parse.Command.TheVariants.{CountMatches, ListAbove, ListBest}
 
 -- a refusal of this number that can come
 abbrev pub IsRefusedBy : (QueryError → Type 0) → ℕ → Type 0
@@ -75,6 +75,10 @@ count_text enable s query = decimal (found_alive enable query (all_segments s))
 abbrev pub pruned_text : ℤ → EnableScoring Searched → Script → Query → List ℕ
 pruned_text threshold enable s query = listing_text (found_above threshold enable query (all_segments s))
 
+-- the best of those that weren't deleted, at most so many, with their scores
+abbrev pub best_text : ℕ → EnableScoring Searched → Script → Query → List ℕ
+best_text count enable s query = listing_text (found_best count enable query (all_segments s))
+
 -- a line that lists documents alone
 abbrev pub ListsDocuments : language.Query → Script → Answer → List ℕ → Type 0
 ListsDocuments q s answer text = (enable : EnableScoring Searched) × IsForDocuments s enable × AnswersQuery (listed_text enable s) enable q answer text
@@ -94,6 +98,12 @@ abbrev pub ListsAbove : ℤ → language.Query → State → Answer → List ℕ
 ListsAbove threshold q s answer text =
     (searched : Searched) × (enable : EnableScoring Searched) × IsForScores s searched enable ×
     AnswersQuery (pruned_text threshold enable s.documents) enable q answer text
+
+-- a line that lists the best of them
+abbrev pub ListsBest : ℕ → language.Query → State → Answer → List ℕ → Type 0
+ListsBest count q s answer text =
+    (searched : Searched) × (enable : EnableScoring Searched) × IsForScores s searched enable ×
+    AnswersQuery (best_text count enable s.documents) enable q answer text
 
 -- what is answered where a change of the documents or the weights came to this
 abbrev pub IsChangeAnswer : Result (Unit {0}) QueryError → Answer → Type 0
@@ -118,6 +128,7 @@ Step s (Some (ListScores q)) answer text t = ListsScores (query_of q) s answer t
 Step s (Some (DeleteDocument number)) answer text t = DeletesDocument number s answer t
 Step s (Some (CountMatches q)) answer text t = CountsMatches (query_of q) s.documents answer text × (t ≡ s)
 Step s (Some (ListAbove threshold q)) answer text t = ListsAbove threshold (query_of q) s answer text × (t ≡ s)
+Step s (Some (ListBest count q)) answer text t = ListsBest count (query_of q) s answer text × (t ≡ s)
 
 -- the exit status of a script in which no other line is answered worse than this
 abbrev pub status_of : Answer → ℕ

@@ -9,6 +9,7 @@ use Rattle.qm_query.specs.EnableScoring.{is_enabled}
 use Rattle.qm_query.specs.Query.{Query}
 use Rattle.qm_query.specs.declared.enable_scoring.EnableScoring.{EnableScoring}
 use Rattle.qm_script.specs.AllSegments.{all_listed}
+use Rattle.qm_script.specs.BestListed.{best_listed}
 use Rattle.qm_script.specs.Counts.{alive_count}
 use Rattle.qm_script.specs.Parts.{document_count}
 use Rattle.qm_script.specs.Pruned.{all_pruned, parts_pruned}
@@ -31,6 +32,10 @@ abbrev pub found_above_in_parts : ℤ → EnableScoring Searched → Query → �
 found_above_in_parts threshold enable query ended segments =
     let tree = tree_of enable query in
     found_above threshold enable query (take ended segments) ++ parts_pruned threshold tree (document_count (take ended segments)) (drop ended segments)
+
+-- the best of those that weren't deleted, at most so many, each with its score
+abbrev pub found_best : ℕ → EnableScoring Searched → Query → List Segment → List (ℕ × Option ℤ)
+found_best count enable query segments = best_listed count (tree_of enable query) segments
 
 -- how many match that weren't deleted
 abbrev pub found_alive : EnableScoring Searched → Query → List Segment → ℕ

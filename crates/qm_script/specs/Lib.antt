@@ -23,3 +23,4 @@ pub mod Requests
 pub mod Cursor
 pub mod Counts
 pub mod Pruned
+pub mod BestListed

@@ -1,10 +1,10 @@
 -- What a command stands for in the language.
 use Rattle.qm_script.specs.Script.{Request, nothing, add_document, set_weight, end_segment, delete_document, list_documents, list_scores, count_matches}
-use Rattle.qm_script.specs.Script.{list_above}
+use Rattle.qm_script.specs.Script.{list_above, list_best}
 use Rattle.qm_script.specs.Spelled.{query_of}
 use Rattle.qm_script.specs.declared.parse.Command.{Command}
 use Rattle.qm_script.specs.declared.parse.Command.TheVariants.{Nothing, AddDocument, SetWeight, EndSegment, DeleteDocument, ListDocuments, ListScores}
-use Rattle.qm_script.specs.declared.parse.Command.TheVariants.{CountMatches, ListAbove}
+use Rattle.qm_script.specs.declared.parse.Command.TheVariants.{CountMatches, ListAbove, ListBest}
 use Rattle.std.specs.Prelude.{string_bytes}
 use Rattle.qm_postings.specs.Document.{words_of}
 
@@ -18,3 +18,4 @@ request_of (ListDocuments q) = list_documents (query_of q)
 request_of (ListScores q) = list_scores (query_of q)
 request_of (CountMatches q) = count_matches (query_of q)
 request_of (ListAbove threshold q) = list_above threshold (query_of q)
+request_of (ListBest count q) = list_best count (query_of q)

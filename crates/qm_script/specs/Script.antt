@@ -11,7 +11,7 @@ use Rattle.qm_script.specs.declared.form.QueryForm.{QueryForm}
 use Rattle.qm_script.specs.declared.form.QueryForm.TheVariants.{All, Empty, Term, Phrase, PhrasePrefix, Boolean, Boost, Const, DisjunctionMax}
 use Rattle.qm_script.specs.ProgramNumbers.{most_depth}
 use Rattle.qm_script.specs.declared.form.LineForm.{LineForm}
-use Rattle.qm_script.specs.declared.form.LineForm.TheVariants.{Doc, Weight, Segment, Delete, Docs, Scores, Count, Prune}
+use Rattle.qm_script.specs.declared.form.LineForm.TheVariants.{Doc, Weight, Segment, Delete, Docs, Scores, Count, Prune, Top}
 
 infixl 10 ◌>>=◌
 abbrev pub ◌>>=◌ : {A B : Type 0} → Option A → (A → Option B) → Option B
@@ -258,6 +258,8 @@ pub data Request : Type 0 where
   count_matches : Query → Request
   -- the threshold by which each segment begins
   list_above : ℤ → Query → Request
+  -- how many documents at most
+  list_best : ℕ → Query → Request
 
 -- what was read, where no word stands behind it
 abbrev pub whole : {X : Type 0} → X × List (List ℕ) → Option X
@@ -289,6 +291,12 @@ prune_at words = do
   q ← whole_query threshold.1
   Some (list_above threshold.0 q)
 
+unfoldable pub top_at : List (List ℕ) → Option Request
+top_at words = do
+  count ← count_at words
+  q ← whole_query count.1
+  Some (list_best count.0 q)
+
 -- what stands behind the first word of a line
 unfoldable pub behind_line_form : LineForm → List (List ℕ) → Option Request
 behind_line_form Doc words = Some (add_document words)
@@ -299,6 +307,7 @@ behind_line_form Docs words = option_map list_documents (whole_query words)
 behind_line_form Scores words = option_map list_scores (whole_query words)
 behind_line_form Count words = option_map count_matches (whole_query words)
 behind_line_form Prune words = prune_at words
+behind_line_form Top words = top_at words
 
 -- the word by which a line begins
 unfoldable pub line_form_named : List ℕ → Option LineForm
@@ -311,6 +320,7 @@ line_form_named w =
     else if bytes_eq w (codes "scores") then Some Scores
     else if bytes_eq w (codes "count") then Some Count
     else if bytes_eq w (codes "prune") then Some Prune
+    else if bytes_eq w (codes "top") then Some Top
     else None
 
 unfoldable pub words_request : List (List ℕ) → Option Request

@@ -5,7 +5,7 @@ use Rattle.std.specs.List.{AllByRecursion, join_with_byte}
 use Rattle.qm_schema.specs.declared.occur.Occur.{Occur}
 use Rattle.qm_schema.specs.declared.occur.Occur.TheVariants.{Should, Must, MustNot}
 use Rattle.qm_script.specs.Script.{Clauses, Queries, Query, Request, add_document, all, boolean, boost, clause, constant, count_matches, delete_document}
-use Rattle.qm_script.specs.Script.{disjunction_max, end_segment, list_above, list_documents, list_scores, no_clause, no_query, none, nothing, phrase}
+use Rattle.qm_script.specs.Script.{disjunction_max, end_segment, list_above, list_best, list_documents, list_scores, no_clause, no_query, none, nothing, phrase}
 use Rattle.qm_script.specs.Script.{phrase_prefix, query, set_weight, term}
 use Rattle.qm_script.specs.ProgramNumbers.{most_depth}
 
@@ -127,6 +127,7 @@ request_words (list_documents q) = codes "docs" ∷ spelled q
 request_words (list_scores q) = codes "scores" ∷ spelled q
 request_words (count_matches q) = codes "count" ∷ spelled q
 request_words (list_above threshold q) = codes "prune" ∷ signed_decimal threshold ∷ spelled q
+request_words (list_best count q) = codes "top" ∷ decimal count ∷ spelled q
 
 -- a line that asks for this: its words, with a space between each two
 abbrev pub line_text : Request → List ℕ
@@ -147,6 +148,7 @@ IsAskable (list_documents q) = CanBeAsked q
 IsAskable (list_scores q) = CanBeAsked q
 IsAskable (count_matches q) = CanBeAsked q
 IsAskable (list_above threshold q) = IsThreshold threshold × CanBeAsked q
+IsAskable (list_best count q) = IsCount count × CanBeAsked q
 
 -- a line that spells a request
 pub record Spells (line : List ℕ) (request : Request) : Type 0 where

@@ -1,10 +1,11 @@
 //! What the program answers to a line.
 
 ghost use Rattle.std.specs.Prelude.{◌≡◌, IfOk, OnOk, length, string_bytes};
-ghost use Rattle.qm_script.specs.Answers.{CountsMatches, DeletesDocument, IsChangeAnswer, IsListingAnswer, ListsAbove, ListsDocuments, ListsScores, Step, answer_text, status_of};
+ghost use Rattle.qm_script.specs.Answers.{CountsMatches, DeletesDocument, IsChangeAnswer, IsListingAnswer, ListsAbove, ListsBest, ListsDocuments, ListsScores, Step, answer_text, status_of};
 ghost use Rattle.qm_script.specs.Spelled.{query_of};
 ghost use Rattle.qm_script.specs.State.{state};
 
+use crate::best::write_best;
 use crate::build_query::build_query;
 use crate::corpus::Corpus;
 use crate::counting::write_count;
@@ -97,6 +98,7 @@ pub(crate) fn answer_command(
         Some(Command::ListAbove(threshold, query)) => list_above(
             alloc, corpus, threshold, &query, text,
         ),
+        Some(Command::ListBest(count, query)) => list_best(alloc, corpus, count, &query, text),
     }
 }
 
@@ -220,6 +222,29 @@ fn list_above(
                 threshold,
                 text,
             );
+            Ok(answer_listing(written))
+        }
+        Err(error) => Ok(Answer::Refused(error.number())),
+    }
+}
+
+// Answers a line that lists the best of them.
+#[tactic(auto, using(crate::proofs::States::is_state))]
+fn list_best(
+    alloc: Global,
+    corpus: &mut Corpus,
+    count: u32,
+    spelled: &SpelledQuery,
+    text: &mut String,
+) -> Result<Answer, AllocError>
+    requires { length (string_bytes text.old) ≡ 0 }
+    ensures answer { IfOk result (λ answer. ListsBest count (query_of spelled.now) (state corpus.old) answer (string_bytes text.new)) }
+    ensures unchanged { OnOk result (state corpus.new ≡ state corpus.old) }
+{
+    match build_query(alloc, spelled) {
+        Ok(query) => {
+            corpus.build_segments(alloc, has_prefix(spelled))?;
+            let written = write_best(alloc, corpus.searcher(), &query, count, text);
             Ok(answer_listing(written))
         }
         Err(error) => Ok(Answer::Refused(error.number())),

@@ -16,6 +16,7 @@ pub enum LineForm {
     Scores,
     Count,
     Prune,
+    Top,
 }
 
 /// What a query is, by its first word.
@@ -78,6 +79,7 @@ pub(crate) fn line_form(word: &str) -> Option<LineForm>
         "scores" => Some(LineForm::Scores),
         "count" => Some(LineForm::Count),
         "prune" => Some(LineForm::Prune),
+        "top" => Some(LineForm::Top),
         _ => None,
     }
 }

@@ -6,6 +6,7 @@
 #![tactic(auto)]
 
 mod answer;
+mod best;
 mod build_query;
 mod corpus;
 mod counting;

@@ -236,8 +236,8 @@ fn write_document(text: &mut String, document: u64) -> Result<(), AllocError>
     write!(text, "{document}")
 }
 
-// The same with its score, behind a colon.
-fn write_score(text: &mut String, document: u64, score: Score) -> Result<(), AllocError>
+/// The same with its score, behind a colon.
+pub(crate) fn write_score(text: &mut String, document: u64, score: Score) -> Result<(), AllocError>
     ensures { AddsToListing result ((document, Some score) ∷ []) (string_bytes text.old) (string_bytes text.new) }
 {
     if !text.as_str().is_empty() {

@@ -2,7 +2,7 @@
 
 ghost use Rattle.std.specs.Prelude.{◌≡◌, map, IfOk, IsUtf8, Some};
 ghost use Rattle.qm_script.specs.Cursor.{words_left};
-ghost use Rattle.qm_script.specs.Script.{AreWords, Request, behind_line_form, delete_at, line_request, prune_at, weight_at, whole_query, words_request};
+ghost use Rattle.qm_script.specs.Script.{AreWords, Request, behind_line_form, delete_at, line_request, prune_at, top_at, weight_at, whole_query, words_request};
 ghost use Rattle.qm_script.specs.Requests.{request_of};
 ghost use Rattle.qm_script.specs.Spelled.{Gives, query_of};
 ghost use Rattle.qm_script.specs.Spelling.{Spells};
@@ -40,6 +40,9 @@ pub enum Command {
     /// To list the documents that match and score more than all before them in their segment and than
     /// the threshold, each with its score.
     ListAbove(Score, SpelledQuery),
+    /// To list the best of the documents that match and weren't deleted, at most so many, each with its
+    /// score: by score downwards, then by number upwards.
+    ListBest(u32, SpelledQuery),
 }
 
 /// What a line asks for.
@@ -101,6 +104,7 @@ fn parse_behind_form(
         LineForm::Scores => Ok(Command::ListScores(parse_query(alloc, words)?)),
         LineForm::Count => Ok(Command::CountMatches(parse_query(alloc, words)?)),
         LineForm::Prune => parse_prune(alloc, words),
+        LineForm::Top => parse_top(alloc, words),
     }
 }
 
@@ -130,6 +134,15 @@ fn parse_prune(alloc: Global, words: &mut Words<'_>) -> Result<Command, Unparsed
     let threshold = words.threshold()?;
     let query = parse_query(alloc, words)?;
     Ok(Command::ListAbove(threshold, query))
+}
+
+#[tactic(auto, unfolding(crate::specs::Script::top_at))]
+fn parse_top(alloc: Global, words: &mut Words<'_>) -> Result<Command, Unparsed>
+    ensures { Gives request_of result (top_at (words_left words.old)) }
+{
+    let count = words.count()?;
+    let query = parse_query(alloc, words)?;
+    Ok(Command::ListBest(count, query))
 }
 
 // A query that takes all of the words.

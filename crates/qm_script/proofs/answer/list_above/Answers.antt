@@ -40,8 +40,8 @@ returns-in-Ok-in_ok-build_segments-clause-answer c =
     let ended : length (all_segments s) ≡ c.ended.result + 1 = ap (λ t. length (all_segments t)) (sym same) ∙ c.ended.ensures in
     let listed = above-same threshold c.has_prefix.result enable s q query c.ended.result readers c.has_prefix.ensures c.in-Ok.ensures ended are one in
     let written = subst (λ t. OnOk c.write_pruned-written.result
-        (IsListing (found_above_in_parts t enable query c.ended.result (segments_of c.segment_readers.result.now)) text))
-        (to_z-of_z w64 threshold c.ranges.threshold) c.write_pruned-written.ensures.listed in
+    (IsListing (found_above_in_parts t enable query c.ended.result (segments_of c.segment_readers.result.now)) text))
+    (to_z-of_z w64 threshold c.ranges.threshold) c.write_pruned-written.ensures.listed in
     let fields = c.enabled_from_searcher.ensures.schema ∙ c.searcher-searcher.ensures.fields ∙ ap (λ (t : Script). t.current.schema) same in
     let all = ap (λ rs. listing_text (found_above_in_parts threshold enable query c.ended.result (segments_of rs))) c.segment_readers.ensures.segments in (
       searcher,

@@ -1,0 +1,75 @@
+//! The best documents that a query matches, in all segments, written one after another.
+
+ghost use Rattle.std.specs.Prelude.{◌≡◌, ◌<◌, ◌≤◌, ◌*◌, All, IfErr, IfOk, IsOkUnless, OnOk, length, map, string_bytes};
+ghost use Rattle.qm_docset.specs.declared.numbers.TheConstants.{TERMINATED};
+ghost use Rattle.qm_query.specs.Query.{query_of};
+ghost use Rattle.qm_query.specs.Searches.{with_scores};
+ghost use Rattle.qm_script.specs.BestListed.{firsts_from, found_item};
+ghost use Rattle.qm_script.specs.Found.{found_best, segments_of};
+ghost use Rattle.qm_script.specs.Parts.{document_count};
+ghost use Rattle.qm_script.specs.ProgramNumbers.{most_segments};
+ghost use Rattle.qm_script.specs.Text.{AddsToListing, IsListing};
+ghost use Rattle.qm_script.specs.Under.{IsListingRefusal};
+
+use crate::listing::{reserve_line_end, write_score};
+use qm_docset::Score;
+use qm_postings::{DocAddress, Searcher, SegmentReader};
+use qm_query::{AnyQuery, TopDocs};
+use qm_schema::QueryError;
+use std::alloc::{AllocError, Global};
+
+/// Writes the best documents of the searcher's segments that the query matches and that weren't deleted,
+/// at most so many, joined by one space and numbered over all segments; each with its score.
+///
+/// Refused as the search for them is. What a refused call has written is of no use.
+pub(crate) fn write_best(
+    alloc: Global,
+    searcher: &Searcher,
+    query: &AnyQuery,
+    count: u32,
+    text: &mut String,
+) -> Result<(), QueryError>
+    requires few { document_count (segments_of searcher.now.segments) ≤ most_segments * TERMINATED }
+    requires empty { length (string_bytes text.old) ≡ 0 }
+    ensures listed { OnOk result (IsListing (found_best count (with_scores searcher.now) (query_of query.now) (segments_of searcher.now.segments)) (string_bytes text.new)) }
+    ensures refused { IfErr result (IsListingRefusal (with_scores searcher.now) (query_of query.now)) }
+{
+    let found = TopDocs::with_limit(count as usize).search(alloc, query, searcher)?;
+    let firsts = first_numbers(alloc, searcher.segment_readers())?;
+    write_found(text, firsts.as_slice(), found.as_slice())?;
+    reserve_line_end(text)
+}
+
+// The number of each segment's first document.
+fn first_numbers(alloc: Global, segments: &[SegmentReader]) -> Result<Vec<u64>, QueryError>
+    requires few { document_count (segments_of segments.now) ≤ most_segments * TERMINATED }
+    ensures numbers { IfOk result (λ firsts. firsts.items ≡ firsts_from 0 (segments_of segments.now)) }
+    ensures few { IfOk result (λ firsts. All (λ n. n ≤ most_segments * TERMINATED) firsts.items) }
+    ensures refused { IsOkUnless result QueryError.Memory }
+{
+    let mut firsts = Vec::with_capacity(alloc, segments.len())?;
+    let mut first: u64 = 0;
+    // those of the segments so far are there
+    for segment in segments {
+        firsts.push(first)?;
+        first += u64::from(segment.max_doc());
+    }
+    Ok(firsts)
+}
+
+// Writes each with its number, by those of the segments' first documents.
+fn write_found(
+    text: &mut String,
+    firsts: &[u64],
+    found: &[(Score, DocAddress)],
+) -> Result<(), AllocError>
+    requires there { All (λ f. f.1.segment_ord < length firsts.now) found.now }
+    requires few { All (λ n. n ≤ most_segments * TERMINATED) firsts.now }
+    ensures { AddsToListing result (map (found_item firsts.now) found.now) (string_bytes text.old) (string_bytes text.new) }
+{
+    for (score, address) in found {
+        let first = firsts[address.segment_ord as usize];
+        write_score(text, first + u64::from(address.doc_id), *score)?;
+    }
+    Ok(())
+}
