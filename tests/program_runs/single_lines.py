@@ -48,6 +48,14 @@ LINES = [
     (b"prune 0 boost 1 all", b"0:1\n", 0),
     (b"prune 1 all", b"\n", 0),
     (b"prune 9223372036854775807 const 9223372036854775807 all", b"\n", 0),
+    (b"top 0 all", b"\n", 0),
+    (b"top 0001 all", b"0:1\n", 0),
+    (b"top 4294967295 const 9223372036854775807 all", b"0:9223372036854775807\n", 0),
+    (b"top 4294967296 all", NOT_UNDERSTOOD, 2),
+    (b"top -1 all", NOT_UNDERSTOOD, 2),
+    (b"top all", NOT_UNDERSTOOD, 2),
+    (b"top 1", NOT_UNDERSTOOD, 2),
+    (b"top 1 all all", NOT_UNDERSTOOD, 2),
 ]
 
 PAST_THE_GREATEST = [
@@ -113,7 +121,6 @@ NUMBERS = [
 NOT_SERVED = [
     b"count",
     b"prune all",
-    b"top 1 all",
     b"delete 0",
     b"scores",
     b"segment a",

@@ -254,6 +254,35 @@ COUNTED = [
     ),
 ]
 
+# 250, 500, 333 and 500 in the first segment, 400, 500 and 250 in the second; of the best three that weren't deleted
+BEST = [
+    (
+        "the best over two segments, of one score those with the least numbers",
+        b"doc a b c\ndoc a\ndoc a b\ndoc a\nsegment\ndoc a a b\ndoc a\ndoc b b a\ntop 3 term a\ntop 4 term a\n"
+        b"top 0 term a\ntop 4294967295 term a\ndelete 1\ndelete 4\ntop 3 term a\ntop 2 boost 2 term a\ntop 1 none\n",
+        b"1:500 3:500 5:500\n1:500 3:500 5:500 4:400\n\n1:500 3:500 5:500 4:400 2:333 0:250 6:250\n"
+        b"3:500 5:500 2:333\n3:1000 5:1000\n\n",
+        0,
+    ),
+    # 500 and 333, then 400 behind them, then of 400 and 500 what is left; searched after each, so that the open
+    # segment is in parts, or built as one for a prefix
+    (
+        "the best of an open segment, while documents come and go",
+        b"doc a\ntop 9 term a\ndoc a b\ntop 9 term a\ndelete 0\ntop 9 term a\ndoc a a b\ntop 1 term a\n"
+        b"delete 2\ntop 9 term a\ntop 9 prefix 5 1 a\ndoc a\ntop 9 prefix 5 1 a\nsegment\ntop 9 term a\ndelete 1\n"
+        b"top 9 term a\ncount term a\ndocs term a\n",
+        b"0:500\n0:500 1:333\n1:333\n2:400\n1:333\n1:1\n1:1 3:1\n3:500 1:333\n3:500\n1\n0 1 2 3\n",
+        0,
+    ),
+    (
+        "searches for the best that are refused",
+        b"doc a\ntop 3 phrase 0 1 a\ntop 3 prefix 1 0\ntop 3 max 1001 0\nweight a 9223372036854775807\n"
+        b"top 0 bool 0 2 + term a + term a\ntop 1 bool 0 2 + term a + term a\ntop 1 term a\n",
+        b"line 2: refused 1\nline 3: refused 2\nline 4: refused 8\n\nline 7: refused 9\n0:4611686018427387903\n",
+        1,
+    ),
+]
+
 PRUNED = [
     # a block of 128 documents of two words reaches 333
     (
@@ -396,7 +425,7 @@ STATUSES = [
 # The scripts of examples/, with what README says that they print.
 SHOWN = [
     ("first.txt", b"0 2\n", 0),
-    ("weights.txt", b"0 1 2\n0:499 2:525\n0:166 2:125\n2\n1:500\n\n", 0),
+    ("weights.txt", b"2:525 1:500\n0 1 2\n0:499 2:525\n0:166 2:125\n2\n1:500\n\n", 0),
     (
         "refusals.txt",
         b"line 2: refused 1\nline 3: refused 8\nline 5: refused 9\nline 6: not understood\n"
@@ -408,7 +437,7 @@ SHOWN = [
 
 def check(program, report):
     """Runs each script."""
-    for name, script, text, status in LISTED + COUNTED + PRUNED + CUT + STATUSES:
+    for name, script, text, status in LISTED + COUNTED + PRUNED + BEST + CUT + STATUSES:
         report.expect(name, text, status, program.run(script))
     for name, text, status in SHOWN:
         with open(os.path.join(EXAMPLES, name), "rb") as it:
