@@ -51,11 +51,6 @@ LINES = [
     (b"top 0 all", b"\n", 0),
     (b"top 0001 all", b"0:1\n", 0),
     (b"top 4294967295 const 9223372036854775807 all", b"0:9223372036854775807\n", 0),
-    (b"top 4294967296 all", NOT_UNDERSTOOD, 2),
-    (b"top -1 all", NOT_UNDERSTOOD, 2),
-    (b"top all", NOT_UNDERSTOOD, 2),
-    (b"top 1", NOT_UNDERSTOOD, 2),
-    (b"top 1 all all", NOT_UNDERSTOOD, 2),
 ]
 
 PAST_THE_GREATEST = [
@@ -75,6 +70,7 @@ PAST_THE_GREATEST = [
     b"prune 9223372036854775808 all",
     b"prune -9223372036854775809 all",
     b"prune 18446744073709551615 all",
+    b"top 4294967296 all",
 ]
 
 # What is read whole, and what is not, in one and the other form; behind one document, `a b`.
@@ -121,6 +117,9 @@ NUMBERS = [
 NOT_SERVED = [
     b"count",
     b"prune all",
+    b"top all",
+    b"top -1 all",
+    b"top +1 all",
     b"delete 0",
     b"scores",
     b"segment a",
