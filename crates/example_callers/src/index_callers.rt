@@ -34,3 +34,18 @@ pub fn searched_segments(alloc: Global, index: &mut Index) -> Result<usize, Quer
     index.merge(alloc)?;
     Ok(index.searcher().segment_readers().len())
 }
+
+/// How many documents of the index are not searched, once it is refreshed: none, however its open segment is
+/// kept in parts.
+pub fn unsearched_documents(index: &Index) -> u64
+    requires { IsRefreshed index.now }
+    ensures { result ≡ 0 }
+{
+    let mut left = index.document_count();
+    let readers = index.searcher().segment_readers();
+    // the segments before have the others
+    for reader in readers {
+        left -= u64::from(reader.max_doc());
+    }
+    left
+}

@@ -15,7 +15,7 @@ mod weight_callers;
 
 pub use best::{BestPairs, best_pairs};
 pub use callers::{Joined, collect_calls, collect_matches, count_calls, join_slices};
-pub use index_callers::{replace_document, searched_segments};
+pub use index_callers::{replace_document, searched_segments, unsearched_documents};
 pub use laws::{
     Both, collect_boosted, collect_reordered, join_and_collect, join_scored_and_unscored,
 };
