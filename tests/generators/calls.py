@@ -49,9 +49,6 @@ class Player:
     """Chooses calls on a scorer by chance. With scoring off no score is asked for, and where it isn't known which
     documents are deleted no alive ones are counted."""
 
-    # whether the program has rows for any bound that the law allows
-    has_bounds = True
-
     def __init__(self, random, listed, deleted=(), is_scored=True):
         self.random, self.deleted, self.is_scored = random, deleted, is_scored
         self.sought = 0
@@ -114,7 +111,7 @@ class Player:
 
     def seek_danger(self):
         """A target that is found or not; now and then one from before, or that of the call before again."""
-        if not self.has_bounds or self.random.random() < 0.3:
+        if self.random.random() < 0.3:
             return self.asked(self.single())
         before = self.random.randint(0, min(self.left.doc(), self.last))
         self.sought = self.random.choice([self.sought, before, *[self.target()] * 3])

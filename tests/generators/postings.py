@@ -98,8 +98,6 @@ class Counted(calls.Player):
     """Calls on a phrase, which tells its count besides: by document the count, none where it isn't said, and the
     score."""
 
-    has_bounds = False
-
     def __init__(self, random, told, deleted=None):
         self.counts = {doc: count for doc, (count, _) in told.items()}
         super().__init__(random, {doc: points for doc, (_, points) in told.items()}, deleted)
@@ -149,8 +147,6 @@ def prefix(random):
 
 class Listed(calls.Player):
     """Calls on postings: by document how often it holds the term, and where."""
-
-    has_bounds = False
 
     def told(self, _doc, held):
         frequency, places = held
@@ -214,8 +210,6 @@ def union(random):
 
 class Frequent(calls.Player):
     """Calls on the scorer of a term: by document its score, its frequency and the length id."""
-
-    has_bounds = False
 
     def told(self, _doc, known):
         return list(zip(("score", "freq", "fieldnorm_id"), known))
