@@ -5,11 +5,11 @@ ghost use Rattle.std.specs.FinMap.{empty, insert};
 ghost use Rattle.std.specs.List.{range_with_len};
 ghost use Rattle.std.specs.List.Sorted.{IsNonDecreasing};
 ghost use Rattle.qm_docset.specs.declared.numbers.TheConstants.{TERMINATED};
-ghost use Rattle.qm_index.specs.Indexed.{indexed, statistics};
+ghost use Rattle.qm_index.specs.Indexed.{statistics};
 ghost use Rattle.qm_script.specs.Asked.{term_of};
 ghost use Rattle.qm_script.specs.Fields.{script_fields};
 ghost use Rattle.qm_script.specs.Parts.{document_count};
-ghost use Rattle.qm_script.specs.ProgramNumbers.{block_length, most_segments, ungiven_weight};
+ghost use Rattle.qm_script.specs.ProgramNumbers.{most_segments, ungiven_weight};
 ghost use Rattle.qm_script.specs.TextSegments.{IsTextRefusal};
 ghost use Rattle.qm_script.specs.Weights.{IsWeighedBy};
 
@@ -31,8 +31,7 @@ const DEFAULT_WEIGHT: Score = 1000;
 #[derive(Drop)]
 pub(crate) struct Corpus {
     index: Index,
-    ghost fields: { (indexed index).current.schema ≡ script_fields },
-    ghost blocks: { (indexed index).current.block_len ≡ block_length },
+    ghost fields: { (statistics index).schema ≡ script_fields },
     ghost others: { (statistics index).default_weight ≡ ungiven_weight },
     ghost norms: { (statistics index).norms ≡ range_with_len 0 256 },
 }

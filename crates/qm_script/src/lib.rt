@@ -19,10 +19,10 @@ mod non_negative_score;
 mod parse;
 mod pruning;
 mod read_query;
-mod run;
+mod runner;
 mod spelled_query;
 mod terms;
 mod unparsed;
 mod words;
 
-pub use run::{RunError, run, run_buffered, text_of};
+pub use runner::{RunError, run, run_buffered, text_of};

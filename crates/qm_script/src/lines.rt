@@ -4,7 +4,7 @@ ghost use Rattle.std.specs.Prelude.{◌≡◌, ℕ, List, false, ◌<◌, ◌≤
 ghost use Rattle.std.specs.Io.BufRead.{first_line, drop_through, strip_last};
 ghost use Rattle.qm_script.specs.declared.lines.TheConstants.{CHUNK_LEN};
 
-use crate::run::RunError;
+use crate::runner::RunError;
 use std::io::{ErrorKind, Read};
 
 /// How many bytes are asked of the input at once.

@@ -2,7 +2,7 @@ use Rattle.std.proofs.Common.{◌≤◌, IfSome}
 use Rattle.qm_script.specs.Lines.{pending}
 use Rattle.qm_script.specs.State.{start_state, state}
 use Rattle.qm_script.proofs.Running.{IsUnderWay}
-use Rattle.qm_script.proofs.run.answer_lines.Given as goal
+use Rattle.qm_script.proofs.runner.answer_lines.Given as goal
 
 abbrev pub invariant-loop-number : goal.invariant-loop-number
 invariant-loop-number g l = record {

@@ -4,8 +4,8 @@ use Rattle.std.specs.Io.KnownBytes.{Keeps}
 use Rattle.qm_script.specs.State.{start_state}
 use Rattle.qm_script.proofs.Running.{Keeps-self, run-begun, run-ended, run-kept, run-more}
 use Rattle.qm_script.proofs.States.{is_state}
-use Rattle.qm_script.proofs.run.answer_lines.Goals as goal
-use Rattle.qm_script.proofs.run.answer_lines.Goals.{then-not-has_line+in_ok-flush, else-not-has_line}
+use Rattle.qm_script.proofs.runner.answer_lines.Goals as goal
+use Rattle.qm_script.proofs.runner.answer_lines.Goals.{then-not-has_line+in_ok-flush, else-not-has_line}
 
 pub loop-number-init : goal.loop-number-init
 loop-number-init g c = record {
