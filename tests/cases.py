@@ -22,7 +22,7 @@ ROOT = os.path.realpath(os.path.join(os.path.dirname(os.path.abspath(__file__)),
 # the crates whose cases each program plays
 PROGRAMS = {
     "cases_cursors": ["qm_docset", "qm_combine"],
-    "cases_postings": ["qm_schema", "qm_postings", "qm_term", "qm_phrase"],
+    "cases_postings": ["qm_schema", "qm_postings", "qm_index", "qm_term", "qm_phrase"],
     "cases_queries": ["qm_scorer", "qm_weight", "qm_query"],
 }
 # how many rows by chance each program plays

@@ -74,13 +74,7 @@ impl AskedBitSet {
             return Answer::NotUnderstood;
         };
         match name {
-            "insert" => {
-                if number >= self.set.max_value() {
-                    return Answer::NotAllowed;
-                }
-                self.set.insert(number);
-                Answer::Nothing
-            }
+            "insert" | "remove" => self.change(name, number),
             "contains" => Answer::Truth(self.set.contains(number)),
             "tinyset" => Answer::Members(self.set.tinyset(number)),
             "first_non_empty_bucket" => {
@@ -88,5 +82,18 @@ impl AskedBitSet {
             }
             _ => Answer::NotUnderstood,
         }
+    }
+
+    // puts a number in, or takes it out
+    fn change(&mut self, name: &str, number: u32) -> Answer {
+        if number >= self.set.max_value() {
+            return Answer::NotAllowed;
+        }
+        if name == "insert" {
+            self.set.insert(number);
+        } else {
+            self.set.remove(number);
+        }
+        Answer::Nothing
     }
 }

@@ -73,6 +73,10 @@ impl AskedTinySet {
                 Answer::Nothing
             }
             "insert_mut" => Answer::Truth(self.set.insert_mut(number)),
+            "remove" => {
+                self.set = self.set.remove(number);
+                Answer::Nothing
+            }
             "contains" => Answer::Truth(self.set.contains(number)),
             _ => Answer::NotUnderstood,
         }

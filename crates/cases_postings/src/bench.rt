@@ -2,6 +2,7 @@
 
 use crate::explained::{ExplanationRows, make_explanation};
 use crate::given::make_given;
+use crate::index_rows::IndexRows;
 use crate::kept::SchemaMaker;
 use crate::keys::KeyRows;
 use crate::maker::Maker;
@@ -10,7 +11,6 @@ use crate::phrases::PhraseCountRows;
 use crate::provider::OwnProvider;
 use crate::schema_rows::{ErrorRows, OptionRows, SchemaRows, read_error};
 use crate::searcher_rows::{SearcherRows, make_searcher};
-use crate::segment_rows::SegmentRows;
 use crate::several::SeveralRows;
 use crate::spelled::{read_number, read_option, read_weight};
 use crate::term_rows::{AddressRows, PrefixEndRows, TermRows, make_term, read_address};
@@ -52,6 +52,7 @@ impl Player for Bench {
                 *self = make_given(alloc, block, report)?;
                 Ok(())
             }
+            "segment" => play_asked(alloc, self, block.rows, report),
             "postings" | "shifted" | "own" | "union" | "bitsetunion" => {
                 unions::play_postings(alloc, self, block, report)
             }
@@ -77,7 +78,6 @@ fn play_made(
     match word(block.words, 0) {
         "fields" => play_on(alloc, SchemaMaker::new(alloc), block, report),
         "schema" => play_schema(alloc, bench, block, report),
-        "segment" => play_on(alloc, SegmentRows { bench }, block, report),
         "several" => {
             let rows = SeveralRows::read(alloc, &bench.segment, words)?;
             play_on(alloc, rows, block, report)
@@ -89,7 +89,12 @@ fn play_made(
         }
         "searcher" => {
             let searcher = make_searcher(alloc, &bench.schema, words, block.memory)?;
-            play_on(alloc, SearcherRows { searcher }, block, report)
+            let schema = &bench.schema;
+            play_on(alloc, SearcherRows { schema, searcher }, block, report)
+        }
+        "index" => {
+            let rows = IndexRows::make(alloc, &bench.schema, words, block.memory)?;
+            play_on(alloc, rows, block, report)
         }
         _ => play_small(alloc, block, report),
     }

@@ -61,7 +61,8 @@ fn block_len(rows: &[Row<'_>]) -> Result<u32, Fault> {
     Ok(BLOCK_LEN)
 }
 
-fn alive_of(alloc: Global, segment: &SegmentReader) -> Result<AliveBitSet, AllocError> {
+/// The documents of a segment that are alive.
+pub fn alive_of(alloc: Global, segment: &SegmentReader) -> Result<AliveBitSet, AllocError> {
     let max_doc = segment.max_doc();
     let mut set = BitSet::with_max_value(alloc, max_doc)?;
     // the set has room for all documents

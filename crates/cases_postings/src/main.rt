@@ -7,6 +7,7 @@ mod blocks;
 mod cursor;
 mod explained;
 mod given;
+mod index_rows;
 mod kept;
 mod keys;
 mod maker;

@@ -2,10 +2,12 @@
 
 ghost use Rattle.std.specs.Prelude.{◌≤◌, length};
 
-use crate::spelled::{cut, read_field, read_number, read_numbers, read_term, read_text};
+use crate::spelled::{
+    cut, read_field, read_number, read_numbers, read_term, read_text, read_texts,
+};
 use cases::{Asker, Fault, Memory, end_refusals, read_document};
 use qm_postings::{PlainDoc, SegmentBuilder, SegmentReader};
-use qm_schema::{Field, Schema};
+use qm_schema::Schema;
 use std::alloc::{AllocError, Global};
 use std::mem;
 
@@ -63,15 +65,10 @@ impl<'s> Maker<'s> {
         Ok(write!(text, "{doc}")?)
     }
 
-    // The document of the texts `NAME: WORDS ; NAME: WORDS`, or of the words of the first field.
+    // The document of these texts.
     fn read_whole(&self, alloc: Global, spelled: &str) -> Result<PlainDoc, Fault> {
         let mut document = PlainDoc::new(alloc);
-        for part in spelled.split(';') {
-            let (field, words) = match part.split_once(':') {
-                Some((name, words)) => (read_field(self.schema, name.trim())?, words.trim()),
-                None => (Field::from_field_id(0), part.trim()),
-            };
-            let text = read_text(alloc, words)?;
+        for (field, text) in read_texts(alloc, self.schema, spelled)? {
             document.add_text(field, text.as_str())?;
         }
         Ok(document)

@@ -5,7 +5,7 @@ ghost use Rattle.qm_docset.specs.Entry.{head_document, head_positions};
 ghost use Rattle.qm_docset.specs.Lists.{IsPlaced};
 
 use crate::spelled::{cut, read_number};
-use cases::{Fault, Memory, end_refusals, read_documents, words_of, write_document, write_space};
+use cases::{Fault, Memory, end_refusals, read_documents, words_of, write_space};
 use qm_docset::TERMINATED;
 use qm_postings::Postings;
 use std::alloc::{AllocError, Global};
@@ -33,7 +33,7 @@ pub fn ask_postings<P: Postings>(
             } else {
                 read_number(rest)?
             };
-            write_list(alloc, postings, offset, text)
+            write_list(alloc, postings, 0, offset, text)
         }
         _ => {
             if postings.doc() >= TERMINATED {
@@ -168,10 +168,11 @@ pub fn can_shift(positions: &[u32], offset: u32) -> bool
 }
 
 /// Writes all documents that are left, each with its frequency and its positions plus an offset:
-/// `3:2:1,5 7:1`.
+/// `3:2:1,5 7:1`. They are numbered from `first` on.
 pub fn write_list<P: Postings>(
     alloc: Global,
     postings: &mut P,
+    first: u64,
     offset: u32,
     text: &mut String,
 ) -> Result<(), Fault>
@@ -182,7 +183,7 @@ pub fn write_list<P: Postings>(
     // the postings stand on this document
     while doc < TERMINATED {
         write_space(text)?;
-        write_document(doc, text)?;
+        write!(text, "{}", first.saturating_add(u64::from(doc)))?;
         write!(text, ":{}", postings.term_freq())?;
         let positions = read_shifted(alloc, postings, offset, Memory::Ample)?;
         if !positions.is_empty() {

@@ -3,16 +3,18 @@
 ghost use Rattle.std.specs.Prelude.{pos, ◌≤ℤ◌, All, IfOk};
 
 use crate::given::empty_documents;
+use crate::segment_rows::write_alive;
 use crate::spelled::{cut, read_norms, read_number, read_numbers, read_term, read_text};
 use cases::{Asker, Fault, Memory, behind, end_refusals, number, score, word, words_of};
 use qm_docset::Score;
-use qm_postings::{Bm25StatisticsProvider, Searcher, SegmentReader};
+use qm_postings::{Bm25StatisticsProvider, DocAddress, Searcher, SegmentReader};
 use qm_schema::{Field, Schema, Term};
 use std::alloc::Global;
 
 /// Rows on a searcher.
 #[derive(Drop)]
-pub struct SearcherRows {
+pub struct SearcherRows<'s> {
+    pub schema: &'s Schema,
     pub searcher: Searcher,
 }
 
@@ -73,21 +75,24 @@ fn read_weights(alloc: Global, words: &[&str]) -> Result<Vec<(Term, Score)>, Fau
     Ok(weights)
 }
 
-impl SearcherRows {
-    // What words of the first field weigh together.
-    fn weigh(&self, alloc: Global, words: &[&str], memory: Memory) -> Result<Score, Fault> {
-        let mut terms = Vec::new(alloc);
-        for spelled in words {
-            terms.push(read_term(alloc, Field::from_field_id(0), spelled)?)?;
-        }
-        memory.begin(alloc);
-        let weight = self.searcher.weight(&terms);
-        end_refusals(alloc);
-        Ok(weight?)
+/// What words of the first field weigh together.
+pub fn weigh(
+    alloc: Global,
+    searcher: &Searcher,
+    words: &[&str],
+    memory: Memory,
+) -> Result<Score, Fault> {
+    let mut terms = Vec::new(alloc);
+    for spelled in words {
+        terms.push(read_term(alloc, Field::from_field_id(0), spelled)?)?;
     }
+    memory.begin(alloc);
+    let weight = searcher.weight(&terms);
+    end_refusals(alloc);
+    Ok(weight?)
 }
 
-impl Asker for SearcherRows {
+impl<'s> Asker for SearcherRows<'s> {
     fn ask(
         &mut self,
         alloc: Global,
@@ -96,24 +101,18 @@ impl Asker for SearcherRows {
         text: &mut String,
     ) -> Result<(), Fault> {
         let words = words_of(alloc, call)?;
-        let at = number(&words, 1);
         match word(&words, 0) {
             "weight" => {
-                let weight = self.weigh(alloc, behind(&words, 1), memory)?;
+                let weight = weigh(alloc, &self.searcher, behind(&words, 1), memory)?;
                 Ok(write!(text, "{weight}")?)
             }
             "segments" => Ok(write!(text, "{}", self.searcher.segment_readers().len())?),
-            "max_doc" => {
-                let segment = self
-                    .searcher
-                    .segment_reader(at.ok_or(Fault::NotUnderstood)?);
-                match segment {
-                    Some(segment) => Ok(write!(text, "{}", segment.max_doc())?),
-                    None => Ok(text.push_str("none")?),
-                }
-            }
+            "max_doc" | "num_docs" | "alive" => self.ask_segment(&words, text),
             "norm" => {
-                let norm = self.searcher.norms().get(at.unwrap_or(0) as usize);
+                let norm = self
+                    .searcher
+                    .norms()
+                    .get(number(&words, 1).unwrap_or(0) as usize);
                 Ok(write!(text, "{}", norm.ok_or(Fault::NotAllowed)?)?)
             }
             "field" => {
@@ -123,7 +122,95 @@ impl Asker for SearcherRows {
                     None => Ok(text.push_str("none")?),
                 }
             }
+            _ => self.change(alloc, &words, memory, text),
+        }
+    }
+}
+
+impl<'s> SearcherRows<'s> {
+    // What a segment has: `max_doc N`, `num_docs N` and `alive N`.
+    fn ask_segment(&self, words: &[&str], text: &mut String) -> Result<(), Fault> {
+        let ord = read_number(word(words, 1))?;
+        let Some(segment) = self.searcher.segment_reader(ord) else {
+            return Ok(text.push_str("none")?);
+        };
+        match word(words, 0) {
+            "max_doc" => Ok(write!(text, "{}", segment.max_doc())?),
+            "num_docs" => Ok(write!(text, "{}", segment.num_docs())?),
+            _ => Ok(write_alive(segment, 0, text)?),
+        }
+    }
+
+    // The calls that change the searcher.
+    fn change(
+        &mut self,
+        alloc: Global,
+        words: &[&str],
+        memory: Memory,
+        text: &mut String,
+    ) -> Result<(), Fault> {
+        match word(words, 0) {
+            "set_weight" => set_weight(alloc, &mut self.searcher, words, memory),
+            "push_segment" => self.push(alloc, words, memory),
+            "pop_segment" => self.pop(alloc, memory, text),
+            "delete" => delete(alloc, &mut self.searcher, words, memory),
             _ => Err(Fault::NotUnderstood),
         }
     }
+
+    // `push_segment COUNT`: one of so many empty documents.
+    fn push(&mut self, alloc: Global, words: &[&str], memory: Memory) -> Result<(), Fault> {
+        let segment = empty_documents(alloc, self.schema, read_number(word(words, 1))?)?;
+        memory.begin(alloc);
+        let pushed = self.searcher.push_segment(segment);
+        end_refusals(alloc);
+        Ok(pushed?)
+    }
+
+    // `pop_segment`: how many documents the segment has.
+    fn pop(&mut self, alloc: Global, memory: Memory, text: &mut String) -> Result<(), Fault> {
+        memory.begin(alloc);
+        let popped = self.searcher.pop_segment();
+        end_refusals(alloc);
+        match popped {
+            Some(segment) => Ok(write!(text, "{}", segment.max_doc())?),
+            None => Ok(text.push_str("none")?),
+        }
+    }
+}
+
+// `set_weight WORD WEIGHT`: gives a term of the first field its weight.
+fn set_weight(
+    alloc: Global,
+    searcher: &mut Searcher,
+    words: &[&str],
+    memory: Memory,
+) -> Result<(), Fault> {
+    let term = read_term(alloc, Field::from_field_id(0), word(words, 1))?;
+    let Some(weight) = score(words, 2) else {
+        return Err(Fault::NotUnderstood);
+    };
+    memory.begin(alloc);
+    let set = searcher.set_weight(term, weight);
+    end_refusals(alloc);
+    Ok(set?)
+}
+
+// `delete SEGMENT DOCUMENT`.
+fn delete(
+    alloc: Global,
+    searcher: &mut Searcher,
+    words: &[&str],
+    memory: Memory,
+) -> Result<(), Fault> {
+    let ord = read_number(word(words, 1))?;
+    let doc = read_number(word(words, 2))?;
+    match searcher.segment_reader(ord) {
+        Some(segment) if doc < segment.max_doc() => {}
+        _ => return Err(Fault::NotAllowed),
+    }
+    memory.begin(alloc);
+    let deleted = searcher.delete(alloc, DocAddress::new(ord, doc));
+    end_refusals(alloc);
+    Ok(deleted?)
 }

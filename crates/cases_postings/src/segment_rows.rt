@@ -4,7 +4,7 @@ ghost use Rattle.std.specs.Prelude.{IfSome};
 ghost use Rattle.qm_postings.specs.SegmentPostings.{IsPostings};
 
 use crate::bench::Bench;
-use crate::given::is_alive;
+use crate::given::{alive_of, is_alive};
 use crate::offered::{can_shift, output_for, read_positions, write_list, write_numbers};
 use crate::spelled::{read_bytes, read_field, read_number, read_option, read_term, write_bytes};
 use cases::{Asker, Fault, Memory, end_refusals, word, words_of, write_document, write_space};
@@ -14,13 +14,8 @@ use qm_postings::{FreqReadingOption, SegmentPostings, SegmentReader};
 use qm_schema::{IndexRecordOption, Term};
 use std::alloc::{AllocError, Global};
 
-/// Rows on the given segment.
-#[derive(Drop)]
-pub struct SegmentRows<'b> {
-    pub bench: &'b Bench,
-}
-
-impl<'b> Asker for SegmentRows<'b> {
+// The rows of a block `segment`, on the given one.
+impl Asker for Bench {
     fn ask(
         &mut self,
         alloc: Global,
@@ -29,22 +24,34 @@ impl<'b> Asker for SegmentRows<'b> {
         text: &mut String,
     ) -> Result<(), Fault> {
         let words = words_of(alloc, call)?;
-        let segment = &self.bench.segment;
         match word(&words, 0) {
+            "delete" => delete(alloc, self, &words, memory),
             "max_doc" | "num_docs" | "has_deletes" | "alive_bitset" | "alive" | "is_alive" => {
-                ask_documents(alloc, segment, &words, memory, text)
+                ask_documents(alloc, &self.segment, &words, memory, text)
             }
-            "length" | "lengths" | "is_constant" => ask_lengths(
-                alloc, self.bench, &words, memory, text,
-            ),
-            "range" => write_range(alloc, self.bench, &words, memory, text),
-            "term_info" => write_info(alloc, self.bench, &words, memory, text),
+            "length" | "lengths" | "is_constant" => ask_lengths(alloc, self, &words, memory, text),
+            "range" => write_range(alloc, self, &words, memory, text),
+            "term_info" => write_info(alloc, self, &words, memory, text),
             "postings" | "by_info" | "reading" | "copy" | "shifted" => {
-                ask_postings(alloc, self.bench, &words, memory, text)
+                ask_postings(alloc, self, &words, memory, text)
             }
             _ => Err(Fault::NotUnderstood),
         }
     }
+}
+
+// Deletes a document of the given segment, for the blocks behind this one too.
+fn delete(alloc: Global, bench: &mut Bench, words: &[&str], memory: Memory) -> Result<(), Fault> {
+    let doc = read_number(word(words, 1))?;
+    if doc >= bench.segment.max_doc() {
+        return Err(Fault::NotAllowed);
+    }
+    memory.begin(alloc);
+    let deleted = bench.segment.delete(alloc, doc);
+    end_refusals(alloc);
+    deleted?;
+    bench.alive = alive_of(alloc, &bench.segment)?;
+    Ok(())
 }
 
 // Which documents there are, and which are alive.
@@ -65,7 +72,7 @@ fn ask_documents(
         "num_docs" => write!(text, "{num_docs}")?,
         "has_deletes" => write!(text, "{has_deletes}")?,
         "alive_bitset" => text.push_str(if has_bitset { "some" } else { "none" })?,
-        "alive" => write_alive(segment, text)?,
+        "alive" => write_alive(segment, 0, text)?,
         _ => {
             let doc = read_number(word(words, 1))?;
             memory.begin(alloc);
@@ -77,11 +84,16 @@ fn ask_documents(
     Ok(())
 }
 
-fn write_alive(segment: &SegmentReader, text: &mut String) -> Result<(), AllocError> {
+/// Writes the documents of a segment that are alive, by their numbers from `first` on.
+pub fn write_alive(
+    segment: &SegmentReader,
+    first: u64,
+    text: &mut String,
+) -> Result<(), AllocError> {
     for doc in 0..segment.max_doc() {
         if is_alive(segment, doc) {
             write_space(text)?;
-            write_document(doc, text)?;
+            write!(text, "{}", first.saturating_add(u64::from(doc)))?;
         }
     }
     Ok(())
@@ -192,7 +204,7 @@ fn ask_postings(
         "reading" => Ok(text.push_str(reading_name(postings.freq_reading_option()))?),
         "copy" => write_copy(postings, text),
         "shifted" => write_shifted(alloc, postings, words, memory, text),
-        _ => write_postings(alloc, postings, text),
+        _ => write_postings(alloc, postings, 0, text),
     }
 }
 
@@ -272,13 +284,15 @@ fn write_shifted(
     Ok(write_numbers(&output, text)?)
 }
 
-fn write_postings(
+/// Writes what postings hold, of documents that are numbered from `first` on.
+pub fn write_postings(
     alloc: Global,
     postings: SegmentPostings<'_>,
+    first: u64,
     text: &mut String,
 ) -> Result<(), Fault>
     requires { IsPostings postings }
 {
     let mut postings = postings;
-    write_list(alloc, &mut postings, 0, text)
+    write_list(alloc, &mut postings, first, 0, text)
 }

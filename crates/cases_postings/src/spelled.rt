@@ -59,6 +59,24 @@ pub fn read_field(schema: &Schema, name: &str) -> Result<Field, Fault> {
     found.ok_or(Fault::NotUnderstood)
 }
 
+/// The texts that are spelled, each with its field: `NAME: WORDS ; NAME: WORDS`, or the words of the first
+/// field.
+pub fn read_texts(
+    alloc: Global,
+    schema: &Schema,
+    spelled: &str,
+) -> Result<Vec<(Field, String)>, Fault> {
+    let mut texts = Vec::new(alloc);
+    for part in spelled.split(';') {
+        let (field, words) = match part.split_once(':') {
+            Some((name, words)) => (read_field(schema, name.trim())?, words.trim()),
+            None => (Field::from_field_id(0), part.trim()),
+        };
+        texts.push((field, read_text(alloc, words)?))?;
+    }
+    Ok(texts)
+}
+
 /// The bytes that a word spells: `\x` and two digits are a byte, `""` is no byte.
 pub fn read_bytes(alloc: Global, spelled: &str) -> Result<Vec<u8>, Fault> {
     let mut bytes = Vec::new(alloc);

@@ -1,2 +1,3 @@
 mod WorkedTrees
 mod BestFound
+mod Searched

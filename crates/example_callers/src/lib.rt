@@ -4,6 +4,7 @@
 
 mod best;
 mod callers;
+mod index_callers;
 mod laws;
 mod library_use;
 mod phrase_callers;
@@ -14,6 +15,7 @@ mod weight_callers;
 
 pub use best::{BestPairs, best_pairs};
 pub use callers::{Joined, collect_calls, collect_matches, count_calls, join_slices};
+pub use index_callers::{replace_document, searched_segments, unsearched_documents};
 pub use laws::{
     Both, collect_boosted, collect_reordered, join_and_collect, join_scored_and_unscored,
 };

@@ -1,0 +1,245 @@
+//! Rows on an index.
+
+ghost use Rattle.std.specs.Prelude.{IsTrue};
+ghost use Rattle.qm_index.specs.Indexed.{IsRefreshed};
+
+use crate::searcher_rows::weigh;
+use crate::segment_rows::{postings_of, write_alive, write_postings};
+use crate::spelled::{
+    cut, read_field, read_norms, read_number, read_option, read_term, read_texts,
+};
+use cases::{Asker, Fault, Memory, behind, end_refusals, score, word, words_of, write_space};
+use qm_index::Index;
+use qm_postings::{Searcher, SegmentReader};
+use qm_schema::{Field, IndexRecordOption, Schema, Term};
+use std::alloc::{AllocError, Global};
+
+/// Rows on an index.
+#[derive(Drop)]
+pub struct IndexRows<'s> {
+    schema: &'s Schema,
+    index: Index,
+    // whether it was refreshed after the last call that asks for that
+    is_refreshed: bool,
+    ghost refreshed: { IsTrue is_refreshed → IsRefreshed index },
+}
+
+impl<'s> IndexRows<'s> {
+    /// The index that the words `DEFAULT NORMS BLOCKS` spell. Some requests for memory are refused as it is
+    /// made.
+    pub fn make(
+        alloc: Global,
+        schema: &'s Schema,
+        words: &[&str],
+        memory: Memory,
+    ) -> Result<IndexRows<'s>, Fault> {
+        let norms = read_norms(word(words, 1))?;
+        let block_len = read_number(word(words, 2))?;
+        let copy = schema.clone(alloc)?;
+        let Some(weight) = score(words, 0) else {
+            return Err(Fault::NotUnderstood);
+        };
+        memory.begin(alloc);
+        let made = Index::new(alloc, copy, weight, norms, block_len);
+        end_refusals(alloc);
+        Ok(IndexRows {
+            schema,
+            index: made?,
+            is_refreshed: false,
+        })
+    }
+
+    // Adds a document of these texts.
+    fn add(&mut self, alloc: Global, spelled: &str, memory: Memory) -> Result<(), Fault> {
+        let texts = read_texts(alloc, self.schema, spelled)?;
+        self.is_refreshed = false;
+        memory.begin(alloc);
+        let added = self.index.add_document(alloc, texts);
+        end_refusals(alloc);
+        Ok(added?)
+    }
+
+    // `each N TEXTS`: adds so many documents of these texts, with a refresh behind each. Writes how many
+    // parts the open segment had at most.
+    fn add_each(&mut self, alloc: Global, spelled: &str, text: &mut String) -> Result<(), Fault> {
+        let (count, texts) = cut(spelled);
+        let mut most = 0;
+        for _ in 0..read_number(count)? {
+            self.add(alloc, texts, Memory::Ample)?;
+            self.refresh(alloc, Memory::Ample)?;
+            most = most.max(self.part_count()?);
+        }
+        Ok(write!(text, "{most}")?)
+    }
+
+    // Deletes the document of a number, and writes whether there is one.
+    fn delete(
+        &mut self,
+        alloc: Global,
+        spelled: &str,
+        memory: Memory,
+        text: &mut String,
+    ) -> Result<(), Fault> {
+        let number = spelled.parse::<u64>().map_err(|_| Fault::NotUnderstood)?;
+        memory.begin(alloc);
+        let deleted = self.index.delete(alloc, number);
+        end_refusals(alloc);
+        Ok(write!(text, "{}", deleted?)?)
+    }
+
+    // `set_weight WORD WEIGHT`: gives a term of the first field its weight.
+    fn set_weight(&mut self, alloc: Global, spelled: &str, memory: Memory) -> Result<(), Fault> {
+        let (name, weight) = cut(spelled);
+        let term = read_term(alloc, Field::from_field_id(0), name)?;
+        let Some(weight) = score(&[weight], 0) else {
+            return Err(Fault::NotUnderstood);
+        };
+        memory.begin(alloc);
+        let set = self.index.set_weight(term, weight);
+        end_refusals(alloc);
+        Ok(set?)
+    }
+
+    // Ends the open segment.
+    fn end(&mut self, alloc: Global, memory: Memory) -> Result<(), Fault> {
+        self.is_refreshed = false;
+        memory.begin(alloc);
+        let ended = self.index.end_segment(alloc);
+        end_refusals(alloc);
+        Ok(ended?)
+    }
+
+    // Has all documents searched.
+    fn refresh(&mut self, alloc: Global, memory: Memory) -> Result<(), Fault> {
+        self.is_refreshed = false;
+        memory.begin(alloc);
+        let refreshed = self.index.refresh(alloc);
+        end_refusals(alloc);
+        refreshed?;
+        self.is_refreshed = true;
+        Ok(())
+    }
+
+    // The same, in one part.
+    fn merge(&mut self, alloc: Global, memory: Memory) -> Result<(), Fault> {
+        self.is_refreshed = false;
+        memory.begin(alloc);
+        let merged = self.index.merge(alloc);
+        end_refusals(alloc);
+        merged?;
+        self.is_refreshed = true;
+        Ok(())
+    }
+
+    // What is searched, where that has all documents.
+    fn searcher(&self) -> Result<&Searcher, Fault> {
+        if !self.is_refreshed {
+            return Err(Fault::NotAllowed);
+        }
+        Ok(self.index.searcher())
+    }
+
+    // How many parts the open segment has.
+    fn part_count(&self) -> Result<usize, Fault> {
+        let segments = self.searcher()?.segment_readers().len();
+        Ok(segments.saturating_sub(self.index.ended()))
+    }
+
+    // The rows on what is searched.
+    fn ask_searcher(
+        &self,
+        alloc: Global,
+        call: &str,
+        memory: Memory,
+        text: &mut String,
+    ) -> Result<(), Fault> {
+        let words = words_of(alloc, call)?;
+        let searcher = self.searcher()?;
+        let readers = searcher.segment_readers();
+        match word(&words, 0) {
+            "segments" => Ok(write_lengths(readers, text)?),
+            "alive" => Ok(write_all_alive(readers, text)?),
+            "postings" => self.ask_postings(alloc, readers, &words, text),
+            "weight" => {
+                let weight = weigh(alloc, searcher, behind(&words, 1), memory)?;
+                Ok(write!(text, "{weight}")?)
+            }
+            _ => Err(Fault::NotUnderstood),
+        }
+    }
+
+    // `postings FIELD WORD OPTION`: what they hold over all segments.
+    fn ask_postings(
+        &self,
+        alloc: Global,
+        readers: &[SegmentReader],
+        words: &[&str],
+        text: &mut String,
+    ) -> Result<(), Fault> {
+        let field = read_field(self.schema, word(words, 1))?;
+        let term = read_term(alloc, field, word(words, 2))?;
+        let option = read_option(word(words, 3))?;
+        write_all_postings(alloc, readers, &term, option, text)
+    }
+}
+
+impl<'s> Asker for IndexRows<'s> {
+    fn ask(
+        &mut self,
+        alloc: Global,
+        call: &str,
+        memory: Memory,
+        text: &mut String,
+    ) -> Result<(), Fault> {
+        let (name, rest) = cut(call);
+        match name {
+            "add" => self.add(alloc, rest, memory),
+            "each" => self.add_each(alloc, rest, text),
+            "delete" => self.delete(alloc, rest, memory, text),
+            "set_weight" => self.set_weight(alloc, rest, memory),
+            "end" => self.end(alloc, memory),
+            "refresh" => self.refresh(alloc, memory),
+            "merge" => self.merge(alloc, memory),
+            "ended" => Ok(write!(text, "{}", self.index.ended())?),
+            "document_count" => Ok(write!(text, "{}", self.index.document_count())?),
+            _ => self.ask_searcher(alloc, call, memory, text),
+        }
+    }
+}
+
+// Writes how many documents each segment has.
+fn write_lengths(readers: &[SegmentReader], text: &mut String) -> Result<(), AllocError> {
+    for reader in readers {
+        write_space(text)?;
+        write!(text, "{}", reader.max_doc())?;
+    }
+    Ok(())
+}
+
+// Writes the alive documents of all segments, by their numbers over all of them.
+fn write_all_alive(readers: &[SegmentReader], text: &mut String) -> Result<(), AllocError> {
+    let mut first: u64 = 0;
+    for reader in readers {
+        write_alive(reader, first, text)?;
+        first = first.saturating_add(u64::from(reader.max_doc()));
+    }
+    Ok(())
+}
+
+// Writes the postings of a term in all segments, by the documents' numbers over all of them.
+fn write_all_postings(
+    alloc: Global,
+    readers: &[SegmentReader],
+    term: &Term,
+    option: IndexRecordOption,
+    text: &mut String,
+) -> Result<(), Fault> {
+    let mut first: u64 = 0;
+    for reader in readers {
+        if let Some(postings) = postings_of(reader, term, option) {
+            write_postings(alloc, postings, first, text)?;
+        }
+        first = first.saturating_add(u64::from(reader.max_doc()));
+    }
+    Ok(())
+}
