@@ -6,8 +6,8 @@
 `rt ci` proves all crates from nothing, but for those that an earlier run on this machine proved as they are,
 tries the wrong bodies of must-fail/ and runs the programs. As soon as it says of a crate that it is proved or
 kept, tests/wrong_bodies.py tries the others of that crate beside it, at the lowest priority, so that proofs
-wait for nothing; then tests/cases.py plays the cases, and tests/program_runs.py runs the
-program. The last line counts what passed; the exit status is 1 where anything did not. Called by .ci/run.
+wait for nothing; then tests/refused_calls.py looks whether each public call has its rows under refused memory,
+tests/cases.py plays the cases, and tests/program_runs.py runs the program. The last line counts what passed; the exit status is 1 where anything did not. Called by .ci/run.
 """
 
 import os
@@ -23,9 +23,12 @@ ROOT = os.path.realpath(os.path.join(os.path.dirname(os.path.abspath(__file__)),
 COUNTED = {
     "proofs and wrong bodies of must-fail": r"(\d+) passed, \d+ failed",
     "wrong bodies": r"wrong bodies: (\d+) as wanted, \d+ not",
+    "calls under refusals": r"refused calls: (\d+) as wanted",
     "rows": r"cases: (\d+) rows, \d+ wrong",
     "program runs": r"program runs: (\d+) as wanted",
 }
+# what is run behind the proofs
+PLAYED = {"calls under refusals": "refused_calls.py", "rows": "cases.py", "program runs": "program_runs.py"}
 # what `rt ci` says of a crate that it has proved, or that an earlier run on this machine had
 PROVED = re.compile(r"rt: (\w+) (?:proved|is kept: .*)")
 PRINTING = threading.Lock()
@@ -77,7 +80,7 @@ def main():
         stages = [proofs, wrong_bodies]
         # what is not proved is not built either
         if proofs.is_well:
-            for name, script in (("rows", "cases.py"), ("program runs", "program_runs.py")):
+            for name, script in PLAYED.items():
                 stages.append(Stage(name))
                 stages[-1].run([sys.executable, f"tests/{script}"])
         for it in tried:

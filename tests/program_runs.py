@@ -18,6 +18,7 @@ sys.dont_write_bytecode = True
 
 # this folder has the package of the same name
 from program_runs import (
+    flat_queries,
     input_and_output,
     long_scripts,
     refused_memory,
@@ -29,7 +30,7 @@ from program_runs.report import Report
 
 HERE = os.path.dirname(os.path.abspath(__file__))
 BUILT = os.path.join(HERE, "..", "crates", "qm_search", "out", "qm_search")
-CHECKS = [whole_scripts, single_lines, long_scripts, input_and_output, refused_memory]
+CHECKS = [whole_scripts, single_lines, long_scripts, input_and_output, refused_memory, flat_queries]
 
 
 def main():

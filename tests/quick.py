@@ -31,6 +31,7 @@ def main(words):
             if not all(pool.map(lambda name: build(room, name), BUILT)):
                 return 1
         runs = [
+            [f"{ROOT}/tests/refused_calls.py"],
             [f"{ROOT}/tests/cases.py", "--built", room, *words],
             [f"{ROOT}/tests/program_runs.py", f"{room}/qm_search"],
         ]

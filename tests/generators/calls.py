@@ -34,12 +34,24 @@ def found(tree, segment):
 # ---- calls on a scorer
 
 
+def danger(left, target):
+    """A call of `seek_danger` by the law, and whether it finds: a bound is past the target, and no document that is
+    left is before it."""
+    head, said = left.seek(target), f"seek_danger {spelled.document(target)}"
+    if head == target != END:
+        return row(said, "found"), True
+    if target == END or target == head - 1:
+        return row(said, f"below {spelled.document(head)}"), False
+    return row(f"{said} within {spelled.document(head)}", "allowed"), False
+
+
 class Player:
     """Chooses calls on a scorer by chance. With scoring off no score is asked for, and where it isn't known which
     documents are deleted no alive ones are counted."""
 
     def __init__(self, random, listed, deleted=(), is_scored=True):
         self.random, self.deleted, self.is_scored = random, deleted, is_scored
+        self.sought = 0
         self.left, self.is_placed = Left(listed), True
         self.listed = listed
         self.last = max(listed, default=0)
@@ -98,21 +110,30 @@ class Player:
         return row(f"seek {spelled.document(target)}", spelled.document(self.left.seek(target)))
 
     def seek_danger(self):
+        """A target that is found or not; now and then one from before, or that of the call before again."""
+        if self.random.random() < 0.3:
+            return self.asked(self.single())
+        before = self.random.randint(0, min(self.left.doc(), self.last))
+        self.sought = self.random.choice([self.sought, before, *[self.target()] * 3])
+        return self.asked(self.sought)
+
+    def single(self):
         """A target that is found, or one of which the law leaves a single bound: where the document behind it is
-        there, and at the end. Another bound may be any between, which no row can say."""
+        there, and at the end."""
         target = self.target()
         if target != END:
             heads = self.left.left()
             if not heads:
-                return self.seek()
+                return END
             target = max(target, heads[0][0] - 1, 0)
             target = next((doc for doc, _ in heads if doc >= target), heads[-1][0])
             if target > 0 and target - 1 not in self.listed and self.random.random() < 0.4:
                 target -= 1
-        head = self.left.seek(target)
-        self.is_placed = head == target != END
-        answer = "found" if self.is_placed else f"below {spelled.document(head)}"
-        return row(f"seek_danger {spelled.document(target)}", answer)
+        return target
+
+    def asked(self, target):
+        asked, self.is_placed = danger(self.left, target)
+        return asked
 
     def fill(self):
         return row("fill", spelled.documents(self.left.fill()))
@@ -188,7 +209,8 @@ def any_prune(random, pairs):
         return min(max(near(), LEAST), GREATEST)
 
     answers = [random.choice([in_range(), "score", LEAST]) for _ in range(random.randint(1, 4))]
-    return prune(pairs, in_range(), random.choice([answers, ["score"], [LEAST], [in_range()]]))
+    extreme = random.choice([[LEAST], [GREATEST], [LEAST, GREATEST], [LEAST, LEAST, GREATEST]])
+    return prune(pairs, in_range(), random.choice([answers, ["score"], extreme, [in_range()]]))
 
 
 def explains(random, segment, most):

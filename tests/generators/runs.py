@@ -29,7 +29,9 @@ class Run:
     def __init__(self, random, near):
         self.threshold = random.choice([LEAST, -1, random.choice(near), random.choice(near) - 1, GREATEST])
         several = random.choices(near, k=random.randint(1, 5))
-        self.answers = random.choice([["score"], ["score"], [LEAST], [*several, GREATEST], [*several, LEAST], several])
+        extreme = random.choice([[LEAST], [GREATEST], [LEAST, GREATEST], [LEAST, LEAST, GREATEST]])
+        more = [[*several, GREATEST], [*several, LEAST], several]
+        self.answers = random.choice([["score"], ["score"], extreme, *more])
         said = "" if self.answers == ["score"] else f" answers {' '.join(map(self.word, self.answers))}"
         self.words = f"{self.word(self.threshold)}{said}"
 

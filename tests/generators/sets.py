@@ -14,7 +14,11 @@ def or_none(number):
 
 
 def numbers(members):
-    return " ".join(map(str, sorted(members)))
+    return numbers_in(sorted(members))
+
+
+def numbers_in(order):
+    return " ".join(map(str, order))
 
 
 def tiny_set(random):
@@ -112,13 +116,35 @@ def sent(random):
         yield row(f"{call} {target}", f"{spelled.document(ahead[0])} then {spelled.document(ahead[1])}")
 
 
+def exclusions(lists, docs):
+    """Whether lists exclude each of these documents, which are asked for in turn. The lists are asked in turn, up to
+    the first that has the document; each drops what it has below."""
+    left = [sorted(it) for it in lists]
+    for doc in docs:
+        is_found = False
+        for number, it in enumerate(left):
+            if not is_found:
+                left[number] = [other for other in it if other >= doc]
+                is_found = doc in it
+        yield is_found
+
+
 def excluded(random):
-    """Which documents leaves exclude. What stands before one that was asked for may be lost, so they ascend."""
-    leaves = [cursors.any_leaf(random, 300) for _ in range(random.choice([1, 2, 3]))]
-    yield f"exclusion {cursors.joined(leaves)}"
-    for _ in range(3):
-        docs = sorted(random.choices(range(310), k=8))
-        yield row(f"contains {numbers(docs)}", " ".join(truth(any(doc in it.listed for it in leaves)) for doc in docs))
+    """Which documents leaves exclude, asked for in ascending order, in descending order and in any, some twice."""
+    leaves = [cursors.any_leaf(random, 300) for _ in range(random.choice([1, 2, 2, 3, 4]))]
+    bits = cursors.documents(random, 300)
+    things = [(cursors.joined(leaves), [it.listed for it in leaves]), (f"bits 300 {numbers(bits)}".rstrip(), [bits])]
+    members = sorted(doc for it in leaves for doc in it.listed)
+    for words, lists in things:
+        yield f"exclusion {words}"
+        for order in range(5):
+            docs = [random.choice([*random.choices(members or [0], k=2), random.randrange(310)]) for _ in range(10)]
+            docs.sort(reverse=order == 1)
+            # others descend here and there, or are asked for twice
+            for _ in range(order - 1):
+                at = random.randrange(len(docs))
+                docs.insert(random.randrange(len(docs)), docs[at])
+            yield row(f"contains {numbers_in(docs)}", " ".join(map(truth, exclusions(lists, docs))))
 
 
 def members(random):

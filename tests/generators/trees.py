@@ -5,7 +5,7 @@ import itertools
 import random as chances
 
 from generators import calls, chance, spelled
-from generators.scorers import Made, at_least, boosted, constant, exclude, intersection, optional
+from generators.scorers import Left, Made, at_least, boosted, constant, exclude, intersection, optional
 from generators.spelled import row
 from model import END, GREATEST, Phrase, Prefix, Term, scored
 
@@ -44,6 +44,7 @@ def pair_node(kind, first, second):
 
 KINDS = ("boost", "const", "optional", "exclude", "union", "atleast", "intersection")
 STEPS = {2: "two", 3: "three", 5: "five"}
+MANNERS = {2: "least", 3: "greatest", 5: "fickle"}
 LAST = 300
 
 # ---- every pair of kinds
@@ -53,7 +54,7 @@ def leaf(sort, step):
     """The multiples of a step, each with the step as its score."""
     word, listed = STEPS[step], dict.fromkeys(range(0, LAST, step), step)
     words = {
-        "own": f"own least {step} 0..{LAST}/{step} .",
+        "own": f"own {MANNERS[step]} {step} 0..{LAST}/{step} .",
         "term": f"term {word} {2 * step}",
         "phrase": f"boost {step} phrase 2 0 2 0 {word} 1 {word}",
         "prefix": f"boost {step} prefix 2 50 2 0 {word} 1 {word}",
@@ -82,15 +83,14 @@ def sent(made, target):
     yield row(f"seek {target}", spelled.document(head))
     if head < END:
         yield row("score", made.listed[head])
-    if head <= target + 1:
-        yield f"tree {made.words}"
-        if head == target:
-            yield row(f"seek_danger {target}", "found")
-            yield row("score", made.listed[head])
-        else:
-            yield row(f"seek_danger {target}", f"below {head}")
-            yield row(f"seek {target}", head)
-            yield row("score", made.listed[head])
+    # asked for it, for it again, and for what is before and past it
+    yield f"tree {made.words}"
+    left = Left(made.listed)
+    for it in (target, target, max(0, target - 3), target + 2, target):
+        yield calls.danger(left, it)[0]
+    yield row("seek 0", spelled.document(left.doc()))
+    if left.doc() < END:
+        yield row("score", left.score())
 
 
 def pairs_of_kinds(asked):

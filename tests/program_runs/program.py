@@ -1,6 +1,7 @@
 """Runs of the program, on scripts in memory, as tests/faulty_io.c makes them go."""
 
 import os
+import resource
 import subprocess
 from typing import NamedTuple
 
@@ -51,12 +52,22 @@ class Program:
         finally:
             os.close(notes)
 
+    def run_with_stack(self, script, size):
+        """The same with a stack of so many bytes; and how many seconds of a processor it took."""
+
+        def bound():
+            resource.setrlimit(resource.RLIMIT_STACK, (size, size))
+
+        before = seconds_of_runs()
+        outcome = self._run(script, os.environ, None, preexec_fn=bound)
+        return outcome, seconds_of_runs() - before
+
     def start(self, **how):
         """Starts the program; all its runs are started here, and counted."""
         self.runs += 1
         return subprocess.Popen([self.path], **how)
 
-    def _run(self, script, environment, notes):
+    def _run(self, script, environment, notes, **how):
         noted = [] if notes is None else [notes]
         # a file, and no pipe, so that each read gives as much as it is asked for
         with open(os.memfd_create("script"), "r+b") as given:
@@ -64,7 +75,7 @@ class Program:
             given.seek(0)
             # nothing is wanted where errors go
             both = {"stdout": subprocess.PIPE, "stderr": subprocess.STDOUT}
-            running = self.start(stdin=given, **both, env=environment, pass_fds=noted)
+            running = self.start(stdin=given, **both, env=environment, pass_fds=noted, **how)
         with running:
             text, status = ended(running)
         return Outcome(text, status, _calls(notes) if noted else [])
@@ -78,6 +89,12 @@ def ended(running, script=None):
         running.kill()
         raise NeverEnded from None
     return text, running.returncode
+
+
+def seconds_of_runs():
+    """How many seconds of a processor all runs that have ended took."""
+    used = resource.getrusage(resource.RUSAGE_CHILDREN)
+    return used.ru_utime + used.ru_stime
 
 
 def _calls(notes):

@@ -9,6 +9,8 @@ pub enum Answer {
     Document(DocId),
     Found,
     Below(DocId),
+    /// it is not found, and the bound that was answered is one of those that are allowed
+    Allowed,
     /// So many documents stand in the buffer.
     Filled(usize),
     Number(u64),
@@ -34,6 +36,7 @@ impl Answer {
                 text.push_str("below ")?;
                 write_document(doc, text)
             }
+            Answer::Allowed => text.push_str("allowed"),
             Answer::Filled(count) => write_documents(buffer, count, text),
             Answer::Number(number) => write!(text, "{number}"),
             Answer::Score(score) => write!(text, "{score}"),

@@ -10,6 +10,8 @@ pub enum Call {
     Advance,
     Seek(DocId),
     SeekDanger(DocId),
+    /// a `seek_danger` of which it is known on which document it leaves the scorer at most
+    SeekWithin(DocId, DocId),
     Fill,
     Count,
     Total,
@@ -56,6 +58,21 @@ fn read_seek(text: &str) -> Call {
     match read_document(target) {
         Some(target) if name == "seek" => Call::Seek(target),
         Some(target) if name == "seek_danger" => Call::SeekDanger(target),
+        None if name == "seek_danger" => read_within(target),
+        _ => Call::NotUnderstood,
+    }
+}
+
+// The call `seek_danger` of these words, `TARGET within DOC`.
+fn read_within(words: &str) -> Call {
+    let Some((target, rest)) = words.split_once(' ') else {
+        return Call::NotUnderstood;
+    };
+    let Some((name, most)) = rest.split_once(' ') else {
+        return Call::NotUnderstood;
+    };
+    match (read_document(target), read_document(most)) {
+        (Some(target), Some(most)) if name == "within" => Call::SeekWithin(target, most),
         _ => Call::NotUnderstood,
     }
 }

@@ -92,6 +92,10 @@ fn ask<S: Scorer>(
     match call {
         Call::Seek(target) => Ok(seek(scorer, target, placed)),
         Call::SeekDanger(target) => Ok(seek_danger(scorer, target, placed)),
+        Call::SeekWithin(target, most) => {
+            let answer = seek_danger(scorer, target, placed);
+            Ok(within(answer, target, most))
+        }
         Call::MaxScore => Ok(Answer::Score(scorer.max_score())),
         Call::Hint => Ok(Answer::Number(u64::from(scorer.size_hint()))),
         Call::Cost => Ok(Answer::Number(scorer.cost())),
@@ -141,6 +145,16 @@ fn seek_danger<S: Scorer>(scorer: &mut S, target: DocId, placed: &mut bool) -> A
             *placed = false;
             Answer::Below(bound)
         }
+    }
+}
+
+// What `seek_danger` answered, where it is known on which document it leaves the scorer at most.
+fn within(answer: Answer, target: DocId, most: DocId) -> Answer {
+    match answer {
+        Answer::Below(bound) if bound <= most && (bound > target || bound == TERMINATED) => {
+            Answer::Allowed
+        }
+        _ => answer,
     }
 }
 

@@ -17,6 +17,8 @@ pub enum Move {
     Advance,
     Seek(DocId),
     SeekDanger(DocId),
+    /// a `seek_danger` of which it is known on which document it leaves the cursor at most
+    SeekWithin(DocId, DocId),
     Fill,
     Count,
     Total,
@@ -30,6 +32,8 @@ pub enum Moved {
     Document(DocId),
     Found,
     Below(DocId),
+    /// it is not found, and the bound that was answered is one of those that are allowed
+    Allowed,
     /// So many documents stand in the buffer.
     Filled(usize),
     Number(u64),
@@ -52,8 +56,19 @@ pub fn read_move(call: &str) -> Option<Move> {
 }
 
 fn read_seek(call: &str) -> Option<Move> {
-    let (name, target) = cut(call);
+    let (name, rest) = cut(call);
+    let (target, rest) = cut(rest);
     let target = read_document(target)?;
+    if !rest.is_empty() {
+        let (within, most) = cut(rest);
+        let most = read_document(most)?;
+        let is_known = name == "seek_danger" && within == "within";
+        return if is_known {
+            Some(Move::SeekWithin(target, most))
+        } else {
+            None
+        };
+    }
     match name {
         "seek" => Some(Move::Seek(target)),
         "seek_danger" => Some(Move::SeekDanger(target)),
@@ -77,6 +92,10 @@ pub fn make_move<C: DocSet>(
     match call {
         Move::Seek(target) => seek(cursor, target, placed),
         Move::SeekDanger(target) => seek_danger(cursor, target, placed),
+        Move::SeekWithin(target, most) => {
+            let moved = seek_danger(cursor, target, placed);
+            within(moved, target, most)
+        }
         Move::Hint => Moved::Number(u64::from(cursor.size_hint())),
         Move::Cost => Moved::Number(cursor.cost()),
         _ => {
@@ -123,6 +142,16 @@ fn seek_danger<C: DocSet>(cursor: &mut C, target: DocId, placed: &mut bool) -> M
     }
 }
 
+// What `seek_danger` answered, where it is known on which document it leaves the cursor at most.
+fn within(moved: Moved, target: DocId, most: DocId) -> Moved {
+    match moved {
+        Moved::Below(bound) if bound <= most && (bound > target || bound == TERMINATED) => {
+            Moved::Allowed
+        }
+        _ => moved,
+    }
+}
+
 // The calls that ask for a placed cursor, and keep it so.
 fn move_placed<C: DocSet>(
     alive: &AliveBitSet,
@@ -157,6 +186,7 @@ impl Moved {
                 text.push_str("below ")?;
                 write_document(bound, text)
             }
+            Moved::Allowed => text.push_str("allowed"),
             Moved::Filled(count) => write_filled(buffer, count, text),
             Moved::Number(number) => write!(text, "{number}"),
             Moved::NotAllowed => Ok(()),

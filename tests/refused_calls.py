@@ -1,0 +1,183 @@
+#!/usr/bin/env python3
+"""Whether rows show of every public call that it is refused each of its requests for memory, or takes none.
+
+    python3 tests/refused_calls.py
+
+Public calls are read from the sources: functions of a crate, of its types, and of its traits for each type
+that has them, whose answer is a `Result` of `QueryError` or `AllocError`. tests/refused_calls.txt says by which
+words rows name each. A call that is not there, a name there that no call has, and a call without such a row are
+printed; the exit status is 1 where there is one.
+"""
+
+import os
+import re
+import sys
+
+ROOT = os.path.realpath(os.path.join(os.path.dirname(os.path.abspath(__file__)), ".."))
+TABLE = "tests/refused_calls.txt"
+CRATES = (
+    "qm_docset qm_schema qm_postings qm_index qm_combine qm_term qm_phrase qm_scorer qm_weight qm_query".split()
+)
+FAILS = re.compile(r"-> Result<.*\b(QueryError|AllocError)>")
+ALLOCATOR = re.compile(r"\w: Global\b")
+GENERICS = r"(?:<(?:[^<>]|<[^<>]*>)*>)?"
+BLOCK = re.compile(rf"(?:pub )?(impl|trait)\b{GENERICS} (?:(\w+){GENERICS} for )?(\w+)({GENERICS})")
+FUNCTION = re.compile(r" *(pub )?fn (\w+)")
+# what a block or a row of a case begins with where requests are refused
+EACH, NONE = "refused each ", "takes no memory"
+
+
+def exported(crate):
+    """The names that a crate exports."""
+    with open(f"{ROOT}/crates/{crate}/src/lib.rt", encoding="utf-8") as it:
+        uses = re.findall(r"^pub use ([^;]+);", it.read(), re.MULTILINE)
+    return {name for use in uses for name in re.findall(r"\w+", use.rpartition("::")[2])}
+
+
+def signature(lines, at):
+    """The signature of the function that begins in this line."""
+    told = lines[at]
+    while not re.search(r"[{};]$", told) and not re.match(r" *(ensures|requires|\{)", lines[at + 1]):
+        at += 1
+        told += f" {lines[at].strip()}"
+    return re.sub(r" ensures .*", "", told)
+
+
+def functions(crate):
+    """The functions of a crate that may be refused: whether each is marked as public, its block (`impl` or `trait`,
+    the trait that is implemented, the type), its name, and whether it is handed an allocator. Each block is told
+    besides, without a name."""
+    for folder, _, names in os.walk(f"{ROOT}/crates/{crate}/src"):
+        for name in sorted(names):
+            with open(f"{folder}/{name}", encoding="utf-8") as it:
+                lines = it.read().split("\n")
+            block = None
+            for at, line in enumerate(lines):
+                head, function = BLOCK.match(line), FUNCTION.match(line)
+                if line == "}":
+                    block = None
+                if head:
+                    boxed = head[4] if head[3] == "Box" else ""
+                    block = (head[1], head[2], head[3] + boxed)
+                    yield True, block, None, False
+                if function:
+                    told = signature(lines, at)
+                    if FAILS.search(told):
+                        yield bool(function[1]), block, function[2], bool(ALLOCATOR.search(told))
+
+
+def public_calls():
+    """The public calls that may be refused, each as its crate and its name, with whether it is handed an allocator.
+    A trait's call is one of each type that has the trait, also where the type has no body of its own for it."""
+    known = {crate: exported(crate) for crate in CRATES}
+    found = [(crate, *it) for crate in CRATES for it in functions(crate)]
+    of_traits, calls = {}, {}
+    for crate, _, block, name, takes in found:
+        if name and block and block[0] == "trait" and block[2] in known[crate]:
+            of_traits.setdefault(block[2], []).append((name, takes))
+    for crate, is_public, block, name, takes in found:
+        if block is None and is_public and name in known[crate]:
+            calls[f"{crate} {name}"] = takes
+        if block is None or block[0] == "trait" or block[2] not in known[crate] | {"Box<AnyQuery>"}:
+            continue
+        if name and (is_public or block[1]):
+            calls[f"{crate} {block[2]}::{name}"] = takes
+        for other, takes in of_traits.get(block[1], []):
+            calls[f"{crate} {block[2]}::{other}"] = takes
+    return calls
+
+
+def rows_of(path):
+    """What the rows of a case file say: a block's words and a call's, how requests are refused, and the answer. A
+    block's own making is a row without a call."""
+    with open(path, encoding="utf-8") as it:
+        lines = it.read().split("\n")
+    block, is_none = [], False
+    for line in lines:
+        said, _, answer = line.strip().partition(" = ")
+        if not said or said.startswith("#"):
+            continue
+        if not line.startswith(" "):
+            is_none = False
+        said = re.sub(r"^repeat \d+\.\.\d+ ", "", said) if line.startswith(" ") else said
+        if line.startswith(" ") and said == NONE:
+            is_none = True
+            continue
+        is_each, takes_none = said.startswith(EACH), is_none or said.startswith(f"{NONE} ")
+        words = re.sub(f"^({EACH}|{NONE} )", "", said).split()
+        how = "each" if is_each else ("all" if answer == "refused Memory" else "none") if takes_none else ""
+        if line.startswith(" "):
+            yield block, words, how
+        else:
+            block = words
+            yield block, [], how
+
+
+def begins(words, pattern):
+    """Whether these words begin as a pattern says; `*` is any word."""
+    return len(words) >= len(pattern) and all(it in ("*", word) for it, word in zip(pattern, words))
+
+
+class Pattern:
+    """By which words rows name a call: `BLOCK`, or `BLOCK > ROW`."""
+
+    def __init__(self, text):
+        block, _, row = text.partition(">")
+        self.block, self.row = block.split(), row.split()
+
+    def names(self, block, row):
+        is_row = begins(row, self.row) if self.row else not row
+        return is_row and begins(block, self.block)
+
+
+def read_table():
+    """The lines of the table: what is shown (`each`, `all`, `none`, `calls`), of which call, and its patterns."""
+    with open(f"{ROOT}/{TABLE}", encoding="utf-8") as it:
+        lines = [line.strip() for line in it]
+    for line in lines:
+        if line and not line.startswith("#"):
+            call, _, patterns = line.partition(": ")
+            how, _, call = call.partition(" ")
+            yield how, call.strip(), [it.strip() for it in patterns.split(",")] if patterns else []
+
+
+def main():
+    rows = {"each": [], "all": [], "none": []}
+    for crate in CRATES:
+        folder = f"{ROOT}/cases/{crate}"
+        # a crate of which all is awaited has no cases
+        for name in sorted(os.listdir(folder)) if os.path.isdir(folder) else []:
+            for block, row, how in rows_of(f"{folder}/{name}"):
+                if how:
+                    rows[how].append((block, row))
+    calls, faults, listed, shown = public_calls(), [], set(), 0
+    for how, call, patterns in read_table():
+        if how == "calls":
+            # several rows of one block, all of them behind `takes no memory`
+            patterns, how, named = [f"{call} > {it}" for it in patterns[0].split()], "none", call
+        else:
+            named = call
+            listed.add(call)
+            if call not in calls:
+                faults.append(f"{call}: no public call has this name, or it can't be refused")
+            if how == "bare" and calls.get(call):
+                faults.append(f"{call}: it is handed an allocator")
+        if how in ("awaited", "bare"):
+            continue
+        if not patterns:
+            faults.append(f"{call}: the table doesn't say by which words rows name it")
+        for pattern in patterns:
+            told = Pattern(pattern)
+            shown += 1
+            if not any(told.names(*it) for it in rows[how]):
+                what = {"each": "`refused each`", "all": "`takes no memory` and `refused Memory`"}
+                faults.append(f"{named}: no row `{pattern}` with {what.get(how, '`takes no memory`')}")
+    faults += [f"{it}: the table doesn't have it" for it in sorted({*calls} - listed)]
+    for fault in faults:
+        print(f"{TABLE}: {fault}")
+    print(f"refused calls: {shown} as wanted" if not faults else f"refused calls: {len(faults)} not as wanted")
+    return 1 if faults else 0
+
+
+if __name__ == "__main__":
+    sys.exit(main())
