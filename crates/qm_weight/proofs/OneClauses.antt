@@ -62,6 +62,7 @@ list-one_weight weight ws v w b segment es items some few is_v is_w decided l =
     let one_w = one_item ws w some few is_w in
     let same : v ≡ w = ap (λ xs. get_or xs 0 v) (sym one_v ∙ one_w) in
     let by = subst (λ u. IsDecidedBy weight u.0) same decided in
-    subst (λ us. IsListOf (boolean weight.scoring_enabled weight.minimum_number_should_match (combiner_of weight.score_combiner) (clauses_from us)) b segment es)
+    subst
+    (λ us. IsListOf (boolean weight.scoring_enabled weight.minimum_number_should_match (combiner_of weight.score_combiner) (clauses_from us)) b segment es)
     (sym one_w ∙ items) (list-one_clause weight.scoring_enabled weight.minimum_number_should_match weight.score_combiner w.0 (tree_of w.1.value) b segment es
     by.met by.kept l)

@@ -82,7 +82,8 @@ boolean_weight::prune_boolean-prune_any-requires g t c κs within =
         search rules,
         (
           c.requires.boost,
-          MayPruneTree-from words.step words.pre (tree_of c.deref.result.now) (boolean_tree c.args.weight.now) c.args.boost c.args.boost segment c.args.threshold c.args.callback.now
+          MayPruneTree-from words.step words.pre (tree_of c.deref.result.now)
+              (boolean_tree c.args.weight.now) c.args.boost c.args.boost segment c.args.threshold c.args.callback.now
               c.ranges.threshold (λ es listed. list-one_weight c.args.weight.now c.as_slice.result.now c.index-occur-0.result c.index-inside-0.result
               c.args.boost segment es c.as_slice.ensures.value (omega (arith, c.in-len1.len_at_least)) (omega (arith, c.in-len1.len_below))
               c.index-occur-0.is c.index-inside-0.is decided (subst (λ x. IsListOf (tree_of x) c.args.boost segment es) inside listed)) c.requires.allowed,
@@ -128,7 +129,8 @@ boost_weight::prune_boost-prune_any-requires g t c κs within =
         search rules,
         (
           omega (arith, c.in-Some.ensures.0),
-          MayPruneTree-from words.step words.pre (tree_of c.deref.result.now) (boost_tree wt) c.in-Some.product c.args.boost segment c.args.threshold c.args.callback.now c.ranges.threshold
+          MayPruneTree-from words.step words.pre (tree_of c.deref.result.now)
+              (boost_tree wt) c.in-Some.product c.args.boost segment c.args.threshold c.args.callback.now c.ranges.threshold
               (λ es listed. list-boost wt.boost (tree_of wt.weight.value) c.args.boost segment es
               (subst (λ n. IsListOf (tree_of wt.weight.value) n segment es) product
               (subst (λ x. IsListOf (tree_of x) c.in-Some.product segment es) c.deref.ensures listed))) c.requires.allowed,
