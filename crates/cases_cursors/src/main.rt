@@ -17,6 +17,8 @@ mod member_calls;
 mod only_steps;
 mod player;
 mod tiny_set;
+mod window;
+mod window_changes;
 mod wrapped;
 
 use cases::{Fault, Report, play_cases};

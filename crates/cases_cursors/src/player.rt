@@ -13,6 +13,7 @@ use crate::gathered::{play_at_least, play_intersection, play_union};
 use crate::lengths::play_lengths;
 use crate::member_calls::play_members;
 use crate::tiny_set::play_tiny_set;
+use crate::window::play_window;
 use crate::wrapped::{play_boost, play_boxed_scorer, play_const, play_exclude, play_optional};
 use cases::{Block, Fault, Memory, Player, Report, behind, word, words_of};
 use qm_docset::{AliveBitSet, BitSet};
@@ -70,6 +71,7 @@ impl Player for CursorPlayer {
             "length" => play_lengths(alloc, block, report),
             "exclusion" => play_exclusion(alloc, block, report),
             "combiner" => play_combiner(alloc, block, report),
+            "window" => play_window(alloc, block, report),
             "members" => play_members(alloc, block, report),
             "from" => play_anew(alloc, block, report),
             _ => play_scorer(alloc, &self.alive, block, report),

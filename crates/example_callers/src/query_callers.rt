@@ -1,7 +1,8 @@
 //! Callers of a query: what they find is known by the contract of one call and by those of a cursor's.
 
-ghost use Rattle.std.specs.Prelude.{◌≡◌, IfOk, IsTrue, slice_get};
+ghost use Rattle.std.specs.Prelude.{◌≡◌, All, IfOk, IsTrue, slice_get};
 ghost use Rattle.qm_query.specs.EnableScoring.{is_enabled};
+ghost use Rattle.qm_query.specs.Offsets.{terms_of};
 ghost use Rattle.qm_query.specs.QueryMatches.{AreMatches, query_matching};
 ghost use Rattle.qm_query.specs.QueryTree.{query_tree};
 ghost use Rattle.qm_weight.specs.Best.{best};
@@ -12,8 +13,8 @@ use crate::weight_callers::best_matches;
 use qm_combine::{EmptyScorer, scores_left};
 use qm_docset::{DocId, Score, documents_left};
 use qm_postings::{Bm25StatisticsProvider, SegmentReader};
-use qm_query::{EnableScoring, Query, query_scorer};
-use qm_schema::QueryError;
+use qm_query::{EnableScoring, PhrasePrefixQuery, PhraseQuery, Query, query_scorer};
+use qm_schema::{Field, QueryError, Term};
 use qm_scorer::AnyScorer;
 use std::alloc::Global;
 
@@ -59,4 +60,28 @@ pub fn best_document<Q: Query, P: Bm25StatisticsProvider>(
     let weight = query.weight(alloc, enable_scoring)?;
     let best = best_matches(alloc, &*weight, reader, 1)?;
     Ok(best.first().copied())
+}
+
+/// The field of a phrase and its terms, all of which are of that field.
+pub fn field_and_terms(
+    alloc: Global,
+    query: &PhraseQuery,
+) -> Result<(Field, Vec<Term>), QueryError>
+    ensures terms { IfOk result (λ found. found.1.items ≡ terms_of query.now.terms) }
+    ensures field { IfOk result (λ found. All (λ t. t.field ≡ found.0) found.1.items) }
+{
+    let terms = query.phrase_terms(alloc)?;
+    Ok((query.field(), terms))
+}
+
+/// The field of a phrase prefix and its full terms, all of which are of that field.
+pub fn field_and_full_terms(
+    alloc: Global,
+    query: &PhrasePrefixQuery,
+) -> Result<(Field, Vec<Term>), QueryError>
+    ensures terms { IfOk result (λ found. found.1.items ≡ terms_of query.now.terms) }
+    ensures field { IfOk result (λ found. All (λ t. t.field ≡ found.0) found.1.items) }
+{
+    let terms = query.phrase_terms(alloc)?;
+    Ok((query.field(), terms))
 }

@@ -1,6 +1,7 @@
 -- A cursor's documents are added to words one by one, as bits: those that lie below the document on which
 -- it stands were added to what the words had, and none of them lies past the last.
-use Rattle.std.proofs.Common.{◌≡◌, ◌≢◌, ℕ, ◌+◌, ◌-◌, ◌*◌, ◌<◌, ◌≤◌, ◌==◌, ◌||◌, Bool, true, nat_le, [], List, drop, length, max, min, ap, sym, arith, eq-eqb, ne_eqb}
+use Rattle.std.proofs.Common.{◌≡◌, ◌≢◌, ℕ, ◌+◌, ◌-◌, ◌*◌, ◌<◌, ◌≤◌, ◌==◌, ◌||◌, Bool, true, nat_le, [], List, drop, length, max, min, ap, sym, arith, eq-eqb}
+use Rattle.std.proofs.Common.{ne_eqb}
 use Rattle.std.proofs.Common.{refl, ◌∙◌, inl, inr}
 use Rattle.std.proofs.lemmas.Bool.{cases_Bool, cases_eq, cases_lt, leb-true}
 use Rattle.qm_docset.specs.declared.tiny_set.TinySet.{TinySet}

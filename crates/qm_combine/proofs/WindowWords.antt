@@ -1,6 +1,7 @@
 -- The words and the states of a window, by their places.
 use Rattle.std.proofs.Common.{◌≡◌, ◌≢◌, ℕ, zero, suc, ◌∷◌, ◌+◌, ◌-◌, ◌*◌, ◌/◌, ◌%◌, ◌<◌, ◌≤◌, ◌==◌, ◌||◌, ◌&&◌, Bool, true, false, not, cond, nat_le, nat_lt}
-use Rattle.std.proofs.Common.{List, [], length, slice_get, Some, None, get_or, set, eq-eqb, ne_eqb, lt-ltb, refl, ap, sym, ◌∙◌, inl, inr, arith, true≢false, vec_len}
+use Rattle.std.proofs.Common.{List, [], length, slice_get, Some, None, get_or, set, eq-eqb, ne_eqb, lt-ltb, refl, ap, sym, ◌∙◌, inl, inr, arith, true≢false}
+use Rattle.std.proofs.Common.{vec_len}
 use Rattle.std.proofs.lemmas.Bool.{cases_Bool, cases_lt, cases_eq, le-leb, lt-leb, leb-true, and_right}
 use Rattle.std.proofs.lemmas.List.{get_or-set_same, get_or-set_other, get_or_read, length-map}
 use Rattle.qm_docset.specs.declared.tiny_set.TinySet.{TinySet}

@@ -252,6 +252,7 @@ impl Index {
         ensures statistics { with_segments result.now [] ≡ statistics self.now }
         ensures searched { AreSearched (indexed self.now) result.now.segments }
         ensures merged { IsMerged self.now → AreMerged (indexed self.now) result.now.segments }
+        ensures few { document_count result.now.segments ≤ 4294967295 * TERMINATED }
     {
         &self.searcher
     }

@@ -2,7 +2,7 @@
 
 ghost use Rattle.std.specs.Prelude.{◌≡◌, ◌≤◌, ◌⊎◌, [], ◌∷◌, ◌++◌, All, IfErr, IfOk, IsOkUnless, None, length, vec_len};
 ghost use Rattle.std.specs.List.{enumerate_from};
-ghost use Rattle.qm_query.specs.Offsets.{AreOfOneField, IsByOffset, row_refusal, terms_of, terms_refusal, with_one};
+ghost use Rattle.qm_query.specs.Offsets.{AreOfField, AreOfOneField, IsByOffset, row_refusal, terms_of, terms_refusal, with_one};
 ghost use Rattle.qm_query.specs.EnableScoring.{schema_of};
 ghost use Rattle.qm_query.specs.Fields.{phrase_field_refusal, term_field_refusal};
 ghost use Rattle.qm_query.specs.QueryTree.{full_prefix_tree};
@@ -162,7 +162,8 @@ impl PhrasePrefixQuery {
 
     /// The field of the terms, in constant time.
     pub fn field(&self) -> Field
-        ensures { result ≡ self.now.prefix.1.field }
+        ensures prefix { result ≡ self.now.prefix.1.field }
+        ensures all { AreOfField result self.now.terms }
     {
         self.prefix.1.field()
     }

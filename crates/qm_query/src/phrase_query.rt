@@ -2,7 +2,7 @@
 
 ghost use Rattle.std.specs.Prelude.{◌≡◌, IfOk, IsOkUnless};
 ghost use Rattle.std.specs.List.{enumerate_from};
-ghost use Rattle.qm_query.specs.Offsets.{IsByOffset, first_field, row_refusal, terms_of, terms_refusal, with_two};
+ghost use Rattle.qm_query.specs.Offsets.{AreOfField, IsByOffset, first_field, row_refusal, terms_of, terms_refusal, with_two};
 ghost use Rattle.qm_query.specs.Refusals.{IsRefusedFor};
 
 use crate::boxed::boxed;
@@ -118,7 +118,8 @@ impl PhraseQuery {
 
     /// The field of the terms, in constant time.
     pub fn field(&self) -> Field
-        ensures { result ≡ first_field (λ t. t.1) self.now.terms }
+        ensures first { result ≡ first_field (λ t. t.1) self.now.terms }
+        ensures all { AreOfField result self.now.terms }
     {
         self.phrase_terms[0].1.field()
     }

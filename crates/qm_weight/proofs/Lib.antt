@@ -14,5 +14,6 @@ mod TermRuns
 mod ClauseSteps
 mod Nodes
 mod AliveCounts
+mod OneClauses
 mod RunSteps
 mod ExplainedScores

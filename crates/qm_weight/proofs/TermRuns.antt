@@ -21,6 +21,7 @@ use Rattle.qm_scorer.specs.AnyCombiner.{any_combined}
 use Rattle.qm_scorer.specs.Bare.{bare}
 use Rattle.qm_scorer.specs.BareFacts.{bare-cons, bare-nil}
 use Rattle.qm_scorer.specs.Tree.{IsTree, tree_entries, tree_limits}
+use Rattle.qm_scorer.specs.declared.any_combiner.AnyCombiner.{AnyCombiner}
 use Rattle.qm_scorer.specs.declared.any_scorer.AnyScorer.{AnyScorer, Empty, Term}
 use Rattle.qm_term.specs.Pivot.{total_top as total_member_top}
 use Rattle.qm_term.specs.Runs.{InRange, Plain}
@@ -32,7 +33,7 @@ use Rattle.qm_weight.specs.ClauseScorers.{AreClauseScorers, AreScorersOf, IsWant
 use Rattle.qm_weight.specs.Scorers.{IsListOf, IsRefusalOf}
 use Rattle.qm_weight.specs.TermRows.{IsOfTerms, IsTermOrEmpty, term_in, terms_of}
 use Rattle.qm_weight.specs.Tree.{Clauses, Tree, boolean, clause, no_clause}
-use Rattle.qm_weight.specs.TreeRuns.{PrunesTree}
+use Rattle.qm_weight.specs.TreeRuns.{PrunesTreeAt}
 use Rattle.qm_weight.specs.Weights.{boolean_tree, clauses_from, combiner_of}
 use Rattle.qm_weight.specs.declared.boolean_weight.BooleanWeight.{BooleanWeight}
 use Rattle.qm_weight.specs.declared.boolean_weight.clauses.ClauseScorers.{ClauseScorers}
@@ -131,12 +132,12 @@ all_wanted (clause Must tree clauses) h = ap (clause Must tree) (all_wanted clau
 all_wanted (clause Should tree clauses) h = ap (clause Should tree) (all_wanted clauses h)
 all_wanted (clause MustNot tree clauses) h = absurd (omega (arith, ap length h))
 
--- what the scorers of Should clauses alone list together is the list of the Boolean
+-- what the scorers of Should clauses alone list together, by the Boolean's combiner, is the list of the Boolean
 pub list-should : {T : Type 0} (D : Ghosts (AnyScorer T)) (law : (s : AnyScorer T) → D.valid s → AreEntries 0 (D.limits s) (D.entries s))
     (w : BooleanWeight) (b : ℕ) (segment : Segment) → length segment.documents ≤ TERMINATED → (scorers : ClauseScorers T)
-    → AreClauseScorers D (clauses_from w.weights.items) b segment scorers → IsOfTerms w scorers →
-    IsListOf (boolean_tree w) b segment (gather 1 (any_combined w.score_combiner) (lists D scorers.should.items))
-list-should D law w b segment few scorers rows seen =
+    → AreClauseScorers D (clauses_from w.weights.items) b segment scorers → IsOfTerms w scorers → (combiner : AnyCombiner) →
+    w.score_combiner ≡ combiner → IsListOf (boolean_tree w) b segment (gather 1 (any_combined combiner) (lists D scorers.should.items))
+list-should D law w b segment few scorers rows seen combiner is =
     let clauses = clauses_from w.weights.items in
     let minimum = w.minimum_number_should_match in
     let es = gather 1 (any_combined w.score_combiner) (lists D scorers.should.items) in
@@ -145,15 +146,16 @@ list-should D law w b segment few scorers rows seen =
     subst (λ n. IsWantedListing minimum w.score_combiner clauses b segment (gather n (any_combined w.score_combiner) (lists D scorers.should.items))) one
     (from-should D law minimum w.score_combiner clauses b segment few scorers.must.items scorers.should.items
     (rows Must) (rows Should) (no_length scorers.must.items seen.no_must)) in
-    subst (λ (cs : Clauses). IsListOf (boolean w.scoring_enabled minimum (combiner_of w.score_combiner) cs) b segment es)
+    let listed = subst (λ (cs : Clauses). IsListOf (boolean w.scoring_enabled minimum (combiner_of w.score_combiner) cs) b segment es)
     (all_wanted clauses (no_trees D b segment (clause_trees clauses MustNot) scorers.must_not.items (rows MustNot) seen.no_must_not))
-    (list-wanted w.scoring_enabled minimum w.score_combiner clauses b segment es made)
+    (list-wanted w.scoring_enabled minimum w.score_combiner clauses b segment es made) in
+    subst (λ k. IsListOf (boolean_tree w) b segment (gather 1 (any_combined k) (lists D scorers.should.items))) is listed
 
 -- the run over what they list is one over the Boolean
-pub pruned-run : {F E : Type 0} (step : F → ℕ → ℤ → ℤ → F → Type 0) (tree : Tree) (segment : Segment) (threshold same : ℤ)
-    (f g : F) (es : List Entry) (r : Result (Unit {0}) E) → same ≡ threshold → IsListOf tree 1 segment es
-    → OnOk r ((ths : List ℤ) × (last : ℤ) × Plain (InRange step) same f es ths last g) → OnOk r (PrunesTree step tree segment threshold f g)
-pruned-run step tree segment threshold same f g es r is listed =
+pub pruned-run : {F E : Type 0} (step : F → ℕ → ℤ → ℤ → F → Type 0) (tree : Tree) (b : ℕ) (segment : Segment) (threshold same : ℤ)
+    (f g : F) (es : List Entry) (r : Result (Unit {0}) E) → same ≡ threshold → IsListOf tree b segment es
+    → OnOk r ((ths : List ℤ) × (last : ℤ) × Plain (InRange step) same f es ths last g) → OnOk r (PrunesTreeAt step tree b segment threshold f g)
+pruned-run step tree b segment threshold same f g es r is listed =
     on_ok _ _ (λ run. (es, listed, run.0, run.1, Plain-at (InRange step) threshold same f es run.0 run.1 g is run.2)) r
 
 -- what refuses it

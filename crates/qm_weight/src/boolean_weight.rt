@@ -1,23 +1,23 @@
 //! A weight of clauses that must, should or must not match.
 
-ghost use Rattle.std.specs.Prelude.{◌≡◌, ◌<◌, ◌≤◌, IfErr, IfOk, length};
+ghost use Rattle.std.specs.Prelude.{◌≡◌, ◌<◌, ◌≤◌, IfErr, IfOk, OnErr, OnOk, length, true};
 ghost use Rattle.qm_docset.specs.Entry.{greatest_score};
 ghost use Rattle.qm_term.specs.Explained.{value_of};
-ghost use Rattle.qm_weight.specs.ClauseScorers.{decides_alone};
+ghost use Rattle.qm_weight.specs.ClauseScorers.{IsDecidedBy, decides_alone};
 ghost use Rattle.qm_weight.specs.Counts.{alive_count};
 ghost use Rattle.qm_weight.specs.Explanations.{IsExplained, IsExplainRefusal};
 ghost use Rattle.qm_weight.specs.Scorers.{IsRefusalOf, IsScorerOf};
 ghost use Rattle.qm_weight.specs.Tree.{boolean};
+ghost use Rattle.qm_weight.specs.TreeRuns.{MayPruneTreeAt, PrunesTreeAt};
 ghost use Rattle.qm_weight.specs.Weights.{boolean_tree, clauses_from, combiner_of};
 
-use crate::any_weight::{AnyWeight, count_any};
+use crate::any_weight::{AnyWeight, count_any, prune_any};
 use crate::counts::count_alive;
-use crate::explanations::check_document;
-use crate::shared_runs::{StandsFor, run_node_slices, score_in_node};
+use crate::shared_runs::{StandsFor, check_document, run_node_slices, score_in_node};
 use crate::weight::Weight;
 use clauses::{ClauseScorers, build_clauses};
 use explained::explain_clauses;
-use joined::join_clauses;
+use joined::{join_clauses, keeps_one_score};
 use pruned::prune_clauses;
 use qm_combine::{EmptyScorer, Scorer};
 use qm_docset::{DocId, DocSet, Score, TERMINATED};
@@ -102,7 +102,7 @@ impl Weight for BooleanWeight {
         reader: &SegmentReader,
         doc: DocId,
     ) -> Result<Explanation, QueryError> {
-        check_document(reader, doc)?;
+        check_document(self, reader, doc)?;
         explain_boolean(self, alloc, reader, doc, 1)
     }
 
@@ -119,7 +119,9 @@ impl Weight for BooleanWeight {
 
     /// Passes over blocks whose documents cannot score above the threshold, where scoring is on, the
     /// combiner is the sum or the greatest score, no clause must match or must not, one Should clause is
-    /// enough, and of terms alone two or more are there. It takes memory before the first call alone.
+    /// enough, and of terms alone two or more are there, or one scorer is left and is that of a term. Where
+    /// one clause alone decides what matches and scores, the run is that clause's. It takes memory before
+    /// the first call alone.
     fn for_each_pruning<F: FnMut(DocId, Score) -> Score>(
         &self,
         alloc: Global,
@@ -127,8 +129,7 @@ impl Weight for BooleanWeight {
         reader: &SegmentReader,
         callback: &mut F,
     ) -> Result<(), QueryError> {
-        let scorers: ClauseScorers<EmptyScorer> = build_clauses(&self.weights, alloc, reader, 1)?;
-        prune_clauses(self, alloc, reader, scorers, threshold, callback)
+        prune_boolean(self, alloc, reader, 1, threshold, callback)
     }
 }
 
@@ -199,4 +200,41 @@ pub(crate) fn explain_boolean(
     let scorer: AnyScorer<EmptyScorer> = build_boolean(weight, alloc, reader, boost)?;
     let score = score_in_node(weight, reader, scorer, doc, boost)?;
     explain_clauses(&weight.weights, alloc, reader, doc, boost, score)
+}
+
+// The pruned run of one clause that decides alone, and else that of what the scorers of the clauses list
+// together.
+#[cycle(prune)]
+pub(crate) fn prune_boolean<F: FnMut(DocId, Score) -> Score>(
+    weight: &BooleanWeight,
+    alloc: Global,
+    reader: &SegmentReader,
+    boost: u64,
+    threshold: Score,
+    callback: &mut F,
+) -> Result<(), QueryError>
+    requires boost { boost ≤ greatest_score }
+    requires allowed { MayPruneTreeAt F.step F.pre (boolean_tree weight.now) boost reader.now.segment threshold callback.old }
+    ensures calls { OnOk result (PrunesTreeAt F.step (boolean_tree weight.now) boost reader.now.segment threshold callback.old callback.new) }
+    ensures unchanged { OnErr result (callback.new ≡ callback.old) }
+    ensures refused { IfErr result (IsRefusalOf (boolean_tree weight.now) boost) }
+{
+    if let [(occur, inside)] = weight.weights.as_slice()
+        && is_decided_by(weight, *occur)
+    {
+        return prune_any(inside, alloc, reader, boost, threshold, callback);
+    }
+    let scorers: ClauseScorers<EmptyScorer> = build_clauses(&weight.weights, alloc, reader, boost)?;
+    prune_clauses(weight, alloc, reader, scorers, boost, threshold, callback)
+}
+
+// Whether a clause that occurs so decides alone what the Boolean matches and scores.
+fn is_decided_by(weight: &BooleanWeight, occur: Occur) -> bool
+    ensures { result ≡ true → IsDecidedBy weight.now occur }
+{
+    let keeps_score = match occur {
+        Occur::Should => keeps_one_score(weight.score_combiner),
+        Occur::Must | Occur::MustNot => true,
+    };
+    keeps_score && decides(occur, weight.minimum_number_should_match)
 }

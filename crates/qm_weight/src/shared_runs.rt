@@ -2,7 +2,7 @@
 //! own, where it has one, and those of a node over the node's scorer.
 
 ghost use Rattle.std.specs.Fn.{CalledAt, TakesAt};
-ghost use Rattle.std.specs.Prelude.{◌≡◌, ◌<◌, IfErr, IfOk};
+ghost use Rattle.std.specs.Prelude.{◌≡◌, ◌<◌, IfErr, IfOk, OnOk, length};
 ghost use Rattle.qm_weight.specs.Counts.{alive_count};
 ghost use Rattle.qm_weight.specs.Explanations.{IsExplained, IsExplainRefusal, StandsOn};
 ghost use Rattle.qm_weight.specs.LeafScorers.{IsLeafOf};
@@ -12,9 +12,8 @@ ghost use Rattle.qm_weight.specs.TreeRuns.{CallsSlices, CallsTree, MayCallSlices
 
 use crate::counts::count_alive;
 use crate::explanations::score_of;
-use crate::weight::{
-    empty_buffer, for_each_docset_buffered, for_each_pruning_scorer, for_each_scorer,
-};
+use crate::pruning::prune_to_bound;
+use crate::weight::{empty_buffer, for_each_docset_buffered, for_each_scorer};
 use qm_combine::{EmptyScorer, Scorer};
 use qm_docset::{DocId, DocSet, Score, TERMINATED};
 use qm_postings::SegmentReader;
@@ -25,6 +24,23 @@ use qm_schema::QueryError;
 pub(crate) trait StandsFor {
     // the tree that it stands for
     ghost tree: { Self → Tree };
+}
+
+// Refused with `DoesNotMatch` where the segment has no such document, which no weight matches then.
+pub(crate) fn check_document<W: StandsFor>(
+    weight: &W,
+    reader: &SegmentReader,
+    doc: DocId,
+) -> Result<(), QueryError>
+    ensures inside { OnOk result (doc < length reader.now.segment.documents) }
+    ensures below { OnOk result (doc < TERMINATED) }
+    ensures refused { IfErr result (IsExplainRefusal (W.tree weight.now) 1 reader.now.segment doc) }
+{
+    if doc < reader.max_doc() {
+        Ok(())
+    } else {
+        Err(QueryError::DoesNotMatch(doc))
+    }
 }
 
 // A call for each document of a leaf, with its score. The weight and the segment are those that the scorer
@@ -87,8 +103,8 @@ pub(crate) fn prune_leaf<W: StandsFor, L: Scorer, F: FnMut(DocId, Score) -> Scor
     requires allowed { MayPruneTree F.step F.pre (W.tree weight.now) reader.now.segment threshold callback.old }
     ensures calls { PrunesTree F.step (W.tree weight.now) reader.now.segment threshold callback.old callback.new }
 {
-    if let Some(mut scorer) = leaf {
-        for_each_pruning_scorer(&mut scorer, threshold, callback);
+    if let Some(scorer) = leaf {
+        prune_to_bound(scorer, threshold, callback);
     }
 }
 

@@ -14,8 +14,10 @@ ghost use Rattle.qm_weight.specs.TreeRuns.{MayPruneTree, PrunesTree};
 ghost use Rattle.qm_weight.specs.Weights.{term_tree, term_weighing, weight_term, weighing_if};
 
 use crate::counts::count_alive;
-use crate::explanations::{add_term, check_document};
-use crate::shared_runs::{StandsFor, find_in_leaf, prune_leaf, run_leaf, run_leaf_slices};
+use crate::explanations::add_term;
+use crate::shared_runs::{
+    StandsFor, check_document, find_in_leaf, prune_leaf, run_leaf, run_leaf_slices,
+};
 use crate::weight::Weight;
 use qm_combine::{EmptyScorer, Scorer};
 use qm_docset::{DocId, DocSet, Score, TERMINATED};
@@ -144,7 +146,7 @@ impl Weight for TermWeight {
         reader: &SegmentReader,
         doc: DocId,
     ) -> Result<Explanation, QueryError> {
-        check_document(reader, doc)?;
+        check_document(self, reader, doc)?;
         self.explain_at(alloc, reader, doc, 1)
     }
 

@@ -7,9 +7,9 @@ use Rattle.qm_weight.proofs.RunSteps.{MayPrune-at, MayPrune-bare, Plain-at, Plai
 use Rattle.qm_weight.proofs.shared_runs.prune_leaf.Given as given
 use Rattle.qm_weight.proofs.shared_runs.prune_leaf.Goals as goal
 
-pub for_each_pruning_scorer-requires-clause-allowed :
-    goal.for_each_pruning_scorer-requires-clause-allowed
-for_each_pruning_scorer-requires-clause-allowed g c =
+pub prune_to_bound-requires-clause-allowed :
+    goal.prune_to_bound-requires-clause-allowed
+prune_to_bound-requires-clause-allowed g c =
     let own = subst (IsLeafOf g.L.DocSet (g.W.StandsFor.tree c.args.weight.now) 1 c.args.reader.now.segment) c.in-Some.is c.requires.leaf in
     let same = to_z-of_z w64 c.args.threshold c.ranges.threshold in
     MayPrune-at (InRange (given.F-step g)) (given.F-pre g) c.args.threshold _ c.args.callback.now _ same
@@ -18,8 +18,8 @@ for_each_pruning_scorer-requires-clause-allowed g c =
 pub returns-in-Some : goal.returns-in-Some
 returns-in-Some g c =
     let own = subst (IsLeafOf g.L.DocSet (g.W.StandsFor.tree c.args.weight.now) 1 c.args.reader.now.segment) c.in-Some.is c.requires.leaf in
-    let run = c.for_each_pruning_scorer.ensures.calls in
-    let g' = c.for_each_pruning_scorer.new.callback in
+    let run = c.prune_to_bound.ensures.calls in
+    let g' = c.prune_to_bound.new.callback in
     let from = Plain-at (InRange (given.F-step g)) c.args.threshold _ c.args.callback.now _ run.0 run.1 g'
     (to_z-of_z w64 c.args.threshold c.ranges.threshold) run.2 in
     record { calls = (_, own.list, run.0, run.1, Plain-bare (InRange (given.F-step g)) c.args.threshold c.args.callback.now _ run.0 run.1 g' from) }

@@ -1,6 +1,7 @@
 -- The parts are cut out of the documents, all of which are built.
-use Rattle.std.proofs.Common.{ap, sym, ◌∙◌, arith, drop, take}
+use Rattle.std.proofs.Common.{ap, sym, ◌∙◌, arith, drop, length, take}
 use Rattle.std.proofs.lemmas.List.{length-drop, length-map, map-append, take-append-drop}
+use Rattle.std.proofs.lemmas.List.Sums.{sum_by-take-drop}
 use Rattle.qm_postings.specs.Reading.{Reader}
 use Rattle.qm_index.specs.Parts.{segments_of}
 use Rattle.qm_index.proofs.Cutting.{cut-parts}
@@ -32,3 +33,17 @@ returns-clause-merged c = λ merged.
       };
       one = omega (arith, length-map parts (λ (r : Reader). r.segment), length-drop self.ended readers, merged);
     }
+
+pub returns-clause-few : goal.returns-clause-few
+returns-clause-few c =
+    let self = c.args.self.now in
+    omega (
+      arith,
+      sum_by-take-drop (λ (r : Reader). length r.segment.documents) self.searcher.segments self.ended,
+      self.counted,
+      self.small,
+      self.room,
+      self.built_parts,
+      self.some_built,
+      self.few,
+    )

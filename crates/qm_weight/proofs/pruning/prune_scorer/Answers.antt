@@ -1,0 +1,47 @@
+-- A run looks at documents and scores alone, from the same threshold on.
+use Rattle.std.proofs.Common.{rules, ◌≡◌, List, ap, subst, sym, w64, ◌∙◌}
+use Rattle.std.proofs.lemmas.Int.{to_z-of_z}
+use Rattle.qm_docset.specs.Entry.{Entry}
+use Rattle.qm_scorer.specs.Bare.{bare}
+use Rattle.qm_scorer.specs.Tree.{tree_entries}
+use Rattle.qm_term.specs.Runs.{InRange, MayPrune, Plain}
+use Rattle.qm_term.specs.TermScorer.{scored_left}
+use Rattle.qm_weight.proofs.RunSteps.{MayPrune-at, MayPrune-bare, Plain-at, Plain-bare}
+use Rattle.qm_weight.proofs.pruning.prune_scorer.Goals as goal
+
+pub block_wand_single_scorer-requires-clause-callable :
+    goal.block_wand_single_scorer-requires-clause-callable
+block_wand_single_scorer-requires-clause-callable g c =
+    let call = InRange (goal.F-step g) in
+    let inner : c.into_inner.result ≡ c.in-Term.term.value = search rules in
+    let same : tree_entries g.S.DocSet c.args.scorer ≡ bare (scored_left c.into_inner.result) =
+    ap (tree_entries g.S.DocSet) c.in-Term.is ∙ ap (λ t. bare (scored_left t)) (sym inner) in
+    MayPrune-at call (goal.F-pre g) c.args.threshold _ c.args.callback.now _ (to_z-of_z w64 c.args.threshold c.ranges.threshold)
+    (MayPrune-bare call (goal.F-pre g) c.args.threshold c.args.callback.now _
+    (subst (λ (es : List Entry). MayPrune call (goal.F-pre g) c.args.threshold c.args.callback.now es) same c.requires.allowed))
+
+pub prune_to_bound-requires : goal.prune_to_bound-requires
+prune_to_bound-requires g c = record {
+  placed = c.requires.placed;
+  allowed = MayPrune-at (InRange (goal.F-step g)) (goal.F-pre g) c.args.threshold _ c.args.callback.now _
+      (to_z-of_z w64 c.args.threshold c.ranges.threshold) c.requires.allowed;
+}
+
+pub returns-in-Term : goal.returns-in-Term
+returns-in-Term g c =
+    let call = InRange (goal.F-step g) in
+    let inner : c.into_inner.result ≡ c.in-Term.term.value = search rules in
+    let same : tree_entries g.S.DocSet c.args.scorer ≡ bare (scored_left c.into_inner.result) =
+    ap (tree_entries g.S.DocSet) c.in-Term.is ∙ ap (λ t. bare (scored_left t)) (sym inner) in
+    let run = c.block_wand_single_scorer.ensures.run in
+    let z = c.block_wand_single_scorer.new.callback in
+    let from = Plain-at call c.args.threshold _ c.args.callback.now _ run.thresholds run.last z
+    (to_z-of_z w64 c.args.threshold c.ranges.threshold) run.calls in
+    record {
+      calls = (
+        run.thresholds,
+        run.last,
+        subst (λ (es : List Entry). Plain call c.args.threshold c.args.callback.now es run.thresholds run.last z) (sym same)
+            (Plain-bare call c.args.threshold c.args.callback.now _ run.thresholds run.last z from),
+      );
+    }
