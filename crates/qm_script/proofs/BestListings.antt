@@ -1,6 +1,6 @@
 -- The best documents of several segments, by their addresses and by their numbers, and over a script's segments, of
 -- which the open one may be in parts.
-use Rattle.std.proofs.Common.{◌≡◌, ℕ, zero, suc, ℤ, ◌+◌, ◌<◌, ◌≤◌, Bool, true, false, cond, if◌then◌else◌, List, [], ◌∷◌, ◌++◌, All, length, map, filter, pos, take}
+use Rattle.std.proofs.Common.{◌≡◌, ℕ, zero, suc, ℤ, ◌+◌, ◌-◌, ◌<◌, ◌≤◌, Bool, true, false, cond, if◌then◌else◌, List, [], ◌∷◌, ◌++◌, All, length, map, filter, pos, take}
 use Rattle.std.proofs.Common.{refl, ap, sym, subst, ◌∙◌, arith, append_assoc, length-append, get_or}
 use Rattle.std.specs.Int.Signed.{lt_z}
 use Rattle.std.specs.List.{fold}
@@ -78,8 +78,9 @@ module _ (tree : Tree) where
       let behind = firsts_from next (segments_of readers) in
       let firsts = before ++ first ∷ behind in
       let number = renamed (number_at firsts) in
-      let here : get_or firsts ord 0 ≡ first = get_or-append_right before (first ∷ behind) (length before) ord 0 refl (omega (arith, at))
-      ∙ ap (λ k. get_or (first ∷ behind) k 0) (omega (arith, at)) in
+      let zero : ord - length before ≡ 0 = omega (arith, at) in
+      let here : get_or firsts ord 0 ≡ first =
+      get_or-append_right before (first ∷ behind) (length before) ord 0 refl (omega (arith, at)) ∙ ap (λ k. get_or (first ∷ behind) k 0) zero in
       let rest = numbered-from (before ++ first ∷ []) (suc ord) next readers (omega (arith, at, length-append before (first ∷ []))) in
       map-append number (alive_matches ord tree s) (alive_matches_from (suc ord) tree readers)
       ∙ ap (λ l. l ++ map number (alive_matches_from (suc ord) tree readers)) (map-map number (addressed ord tree s) (alive_matching tree s)
@@ -96,10 +97,25 @@ module _ (tree : Tree) where
       (map score_first (best k (alive_matches_from 0 tree readers))) ≡ best_listed k tree (segments_of readers)
   found-listed k readers =
       let number = number_at (firsts_from 0 (segments_of readers)) in
-      let found = best k (alive_matches_from 0 tree readers) in
-      map-map (found_item (firsts_from 0 (segments_of readers))) score_first found
-      ∙ sym (map-map scored_item (renamed number) found)
+      let best_found = best k (alive_matches_from 0 tree readers) in
+      map-map (found_item (firsts_from 0 (segments_of readers))) score_first best_found
+      ∙ sym (map-map scored_item (renamed number) best_found)
       ∙ ap (map scored_item) (best-renamed number k (alive_matches_from 0 tree readers) ∙ ap (best k) (matches-numbered readers))
+
+  length-firsts : (first : ℕ) (readers : List Reader) → length (firsts_from first (segments_of readers)) ≡ length readers
+  length-firsts first [] = refl
+  length-firsts first (r ∷ readers) = ap suc (length-firsts (first + length r.segment.documents) readers)
+
+  -- the segment of each that a search finds has a first number
+  pub best-there : (k : ℕ) (readers : List Reader) → All (λ f. f.1.segment_ord < length (firsts_from 0 (segments_of readers)))
+      (map score_first (best k (alive_matches_from 0 tree readers)))
+  best-there k readers =
+      let numbers = length-firsts 0 readers in
+      let found = alive_matches_from 0 tree readers in
+      All-map (λ f. f.1.segment_ord < length (firsts_from 0 (segments_of readers))) score_first (best k found)
+      (All-best (λ d. d.0.segment_ord < length (firsts_from 0 (segments_of readers))) k found
+      (All-weaker (λ d. d.0.segment_ord < 0 + length readers) (λ d. d.0.segment_ord < length (firsts_from 0 (segments_of readers)))
+      (λ d below. omega (arith, below, numbers)) found (matches-there 0 readers)))
 
 -- ---- over the parts of the open segment
 
@@ -107,20 +123,26 @@ module _ (tree : Tree) where
 abbrev scored_flag : Tree → ℕ → Segment → ℕ → Bool × (ℕ × ℤ)
 scored_flag tree n s d = (is_alive s d, (n, pos (score tree 1 s d)))
 
+abbrev flagged : List (Bool × (ℕ × ℤ)) → List (Bool × (ℕ × ℤ))
+flagged xs = filter (λ x. x.0) xs
+
+abbrev found : List (Bool × (ℕ × ℤ)) → List (ℕ × ℤ)
+found xs = map (λ x. x.1) xs
+
 abbrev picked : List (Bool × (ℕ × ℤ)) → List (ℕ × ℤ)
-picked xs = map (λ x. x.1) (filter (λ x. x.0) xs)
+picked xs = found (flagged xs)
 
 picked-map : (p : ℕ → Bool) (f : ℕ → ℕ × ℤ) (ds : List ℕ) → map f (filter p ds) ≡ picked (map (λ d. (p d, f d)) ds)
 picked-map p f [] = refl
 picked-map p f (d ∷ ds) =
     elim (p d) as (λ b. map f (cond b (d ∷ filter p ds) (filter p ds))
-    ≡ map (λ x. x.1) (cond b ((b, f d) ∷ filter (λ x. x.0) (map (λ e. (p e, f e)) ds)) (filter (λ x. x.0) (map (λ e. (p e, f e)) ds)))) [
+    ≡ found (cond b ((b, f d) ∷ flagged (map (λ e. (p e, f e)) ds)) (flagged (map (λ e. (p e, f e)) ds)))) [
       | true ↦ ap (λ l. f d ∷ l) (picked-map p f ds)
       | false ↦ picked-map p f ds
     ]
 
 picked-append : (xs ys : List (Bool × (ℕ × ℤ))) → picked (xs ++ ys) ≡ picked xs ++ picked ys
-picked-append xs ys = ap (map (λ x. x.1)) (filter-append (λ x. x.0) xs ys) ∙ map-append (λ x. x.1) (filter (λ x. x.0) xs) (filter (λ x. x.0) ys)
+picked-append xs ys = ap found (filter-append (λ x. x.0) xs ys) ∙ map-append (λ x. x.1) (flagged xs) (flagged ys)
 
 module _ (tree : Tree) where
   listed-picked : (first : ℕ) (segments : List Segment) → alive_listed_from tree first segments ≡ picked (items_from tree (scored_flag tree) first segments)

@@ -18,7 +18,7 @@ use Rattle.qm_script.specs.Spelling.{AreLineWords, CanBeAsked, CanBeSpelled, Cla
 use Rattle.qm_script.specs.Spelling.{IsThreshold, QueriesCanBeSpelled, clause_count, line_text, query_count, request_words, sign, spelled, spelled_clauses}
 use Rattle.qm_script.specs.Spelling.{spelled_queries}
 use Rattle.qm_script.specs.ProgramNumbers.{most_depth}
-use Rattle.qm_script.proofs.ReadBack.{document-read, query-read, read-then, score-read, threshold-read}
+use Rattle.qm_script.proofs.ReadBack.{count-read, document-read, query-read, read-then, score-read, threshold-read}
 use Rattle.qm_script.proofs.WordLemmas.{non_empty-cons}
 
 -- ---- the words of a line are cut where they were joined

@@ -1,8 +1,10 @@
 -- How many documents segments have.
-use Rattle.std.proofs.Common.{◌≡◌, ℕ, ◌+◌, ◌≤◌, ◌<◌, List, [], ◌∷◌, ◌++◌, length, map, ap, sym, ◌∙◌, drop, take, get_or, arith, append-nil, length-append}
+use Rattle.std.proofs.Common.{◌≡◌, ℕ, ◌+◌, ◌≤◌, ◌<◌, List, [], ◌∷◌, ◌++◌, length, map, ap, sym, refl, ◌∙◌, drop, take, get_or, arith, append-nil, length-append}
 use Rattle.std.specs.List.{flat_map}
 use Rattle.std.proofs.lemmas.Grind.{flat_map-append}
 use Rattle.std.proofs.lemmas.List.{map-append, take-append-drop, take_more}
+use Rattle.std.proofs.lemmas.List.Sums.{sum_by-cons}
+use Rattle.qm_index.specs.Numbers.{document_count as of_readers}
 use Rattle.qm_postings.specs.Reading.{Reader}
 use Rattle.qm_postings.specs.Segment.{Document, Segment}
 use Rattle.qm_script.specs.Found.{segments_of}
@@ -36,3 +38,10 @@ count-split readers i =
 
 pub count-taken : (readers : List Reader) (i : ℕ) → document_count (segments_of (take i readers)) ≤ document_count (segments_of readers)
 count-taken readers i = let cut = count-split readers i in omega (arith, cut)
+
+-- as an index counts them, by its readers
+pub count-readers : (readers : List Reader) → document_count (segments_of readers) ≡ of_readers readers
+count-readers [] = refl
+count-readers (r ∷ readers) =
+    length-append r.segment.documents (documents_of (segments_of readers)) ∙ ap (λ n. length r.segment.documents + n) (count-readers readers)
+    ∙ sym (sum_by-cons (λ (x : Reader). length x.segment.documents) r readers)

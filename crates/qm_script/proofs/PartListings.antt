@@ -116,7 +116,9 @@ module _ {Y : Type 0} (tree : Tree) (item : ℕ → Segment → ℕ → Y) where
 
     -- all parts
     pub items-parts : (parts : List Segment) → AreParts whole parts → items_from first parts ≡ items first whole
-    items-parts parts are = ap (λ k. items_from k parts) (sym (add-zero first)) ∙ parts-from 0 parts (omega arith) are
+    items-parts parts are =
+        let all : length whole.documents - 0 ≡ length whole.documents = omega arith in
+        ap (λ k. items_from k parts) (sym (add-zero first)) ∙ parts-from 0 parts (omega arith) are ∙ ap (stretch 0) all
 
   -- one part, whatever the tree
   module _ (item-same : IsByDocuments item) where

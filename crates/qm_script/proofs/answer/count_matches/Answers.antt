@@ -11,8 +11,8 @@ use Rattle.qm_script.specs.Spelled.{query_of}
 use Rattle.qm_script.proofs.Answering.{IsForDocuments-refused, behind_nothing, counted-same, for_documents, text-answer, unbuilt-answer}
 use Rattle.qm_script.proofs.answer.count_matches.Goals as goal
 
-pub returns-clause-answer : goal.returns-clause-answer
-returns-clause-answer c =
+pub returns-in-Err-clause-answer : goal.returns-in-Err-clause-answer
+returns-in-Err-clause-answer c =
     let s = script c.args.corpus.now in (
       for_documents s,
       IsForDocuments-refused s,
@@ -20,8 +20,8 @@ returns-clause-answer c =
           (query_of c.args.spelled.now) (string_bytes c.args.text.now) c.in-Err.error c.number.result c.number.ensures c.in-Err.ensures,
     )
 
-pub returns-in-Ok-in_ok-build_segments-clause-answer : goal.returns-in-Ok-in_ok-build_segments-clause-answer
-returns-in-Ok-in_ok-build_segments-clause-answer c =
+pub returns-in_ok-build_segments-in-Ok-clause-answer : goal.returns-in_ok-build_segments-in-Ok-clause-answer
+returns-in_ok-build_segments-in-Ok-clause-answer c =
     let s = script c.args.corpus.now in
     let q = query_of c.args.spelled.now in
     let text = string_bytes c.write_count-written.new.text in
@@ -32,7 +32,7 @@ returns-in-Ok-in_ok-build_segments-clause-answer c =
     let query = built_query c.in-Ok.query in
     let are = subst (λ t. AreSearched t readers) same c.searcher.ensures.segments in
     let one : c.has_prefix.result ≡ true → AreMerged s readers =
-    λ has. subst (λ t. AreMerged t readers) same (c.searcher.ensures.whole (c.in_ok-build_segments.ensures.whole has)) in
+    λ has. subst (λ t. AreMerged t readers) same (c.searcher.ensures.whole (c.in_ok-build_segments-in-Ok.ensures.whole has)) in
     let counted = counted-same c.has_prefix.result enable s q query readers c.has_prefix.ensures c.in-Ok.ensures are one in
     let digits = behind_nothing (string_bytes c.args.text.now) (decimal (found_alive enable query (segments_of readers))) c.requires ∙ ap decimal counted in
     let written = subst (λ t. OnOk c.write_count-written.result (text ≡ t)) digits c.write_count-written.ensures.count in

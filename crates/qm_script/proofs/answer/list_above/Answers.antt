@@ -13,8 +13,8 @@ use Rattle.qm_script.specs.Weights.{IsWeighedBy}
 use Rattle.qm_script.proofs.Answering.{IsForScores-refused, above-same, for_scores, listing-answer, nothing_searched, unbuilt-answer}
 use Rattle.qm_script.proofs.answer.list_above.Goals as goal
 
-pub returns-clause-answer : goal.returns-clause-answer
-returns-clause-answer c =
+pub returns-in-Err-clause-answer : goal.returns-in-Err-clause-answer
+returns-in-Err-clause-answer c =
     let s = state c.args.corpus.now in (
       nothing_searched s,
       for_scores s,
@@ -23,8 +23,8 @@ returns-clause-answer c =
           (query_of c.args.spelled.now) (string_bytes c.args.text.now) c.in-Err.error c.number.result c.number.ensures c.in-Err.ensures,
     )
 
-pub returns-in-Ok-in_ok-build_segments-clause-answer : goal.returns-in-Ok-in_ok-build_segments-clause-answer
-returns-in-Ok-in_ok-build_segments-clause-answer c =
+pub returns-in_ok-build_segments-in-Ok-clause-answer : goal.returns-in_ok-build_segments-in-Ok-clause-answer
+returns-in_ok-build_segments-in-Ok-clause-answer c =
     let s = script c.args.corpus.now in
     let q = query_of c.args.spelled.now in
     let threshold = c.args.threshold in
@@ -36,7 +36,7 @@ returns-in-Ok-in_ok-build_segments-clause-answer c =
     let query = built_query c.in-Ok.query in
     let are = subst (λ t. AreSearched t readers) same c.searcher-searcher.ensures.segments in
     let one : c.has_prefix.result ≡ true → AreMerged s readers =
-    λ has. subst (λ t. AreMerged t readers) same (c.searcher-searcher.ensures.whole (c.in_ok-build_segments.ensures.whole has)) in
+    λ has. subst (λ t. AreMerged t readers) same (c.searcher-searcher.ensures.whole (c.in_ok-build_segments-in-Ok.ensures.whole has)) in
     let ended : length (all_segments s) ≡ c.ended.result + 1 = ap (λ t. length (all_segments t)) (sym same) ∙ c.ended.ensures in
     let listed = above-same threshold c.has_prefix.result enable s q query c.ended.result readers c.has_prefix.ensures c.in-Ok.ensures ended are one in
     let written = subst (λ t. OnOk c.write_pruned-written.result

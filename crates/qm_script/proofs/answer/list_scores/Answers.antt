@@ -14,8 +14,8 @@ use Rattle.qm_script.specs.Weights.{IsWeighedBy}
 use Rattle.qm_script.proofs.Answering.{IsForScores-refused, for_scores, listing-answer, nothing_searched, parts-same, unbuilt-answer}
 use Rattle.qm_script.proofs.answer.list_scores.Goals as goal
 
-pub returns-clause-answer : goal.returns-clause-answer
-returns-clause-answer c =
+pub returns-in-Err-clause-answer : goal.returns-in-Err-clause-answer
+returns-in-Err-clause-answer c =
     let s = state c.args.corpus.now in (
       nothing_searched s,
       for_scores s,
@@ -24,8 +24,8 @@ returns-clause-answer c =
           (query_of c.args.spelled.now) (string_bytes c.args.text.now) c.in-Err.error c.number.result c.number.ensures c.in-Err.ensures,
     )
 
-pub returns-in-Ok-in_ok-build_segments-clause-answer : goal.returns-in-Ok-in_ok-build_segments-clause-answer
-returns-in-Ok-in_ok-build_segments-clause-answer c =
+pub returns-in_ok-build_segments-in-Ok-clause-answer : goal.returns-in_ok-build_segments-in-Ok-clause-answer
+returns-in_ok-build_segments-in-Ok-clause-answer c =
     let s = script c.args.corpus.now in
     let q = query_of c.args.spelled.now in
     let text = string_bytes c.write_matches-written.new.text in
@@ -36,7 +36,7 @@ returns-in-Ok-in_ok-build_segments-clause-answer c =
     let query = built_query c.in-Ok.query in
     let are = subst (λ t. AreSearched t readers) same c.searcher-searcher.ensures.segments in
     let one : c.has_prefix.result ≡ true → AreMerged s readers =
-    λ has. subst (λ t. AreMerged t readers) same (c.searcher-searcher.ensures.whole (c.in_ok-build_segments.ensures.whole has)) in
+    λ has. subst (λ t. AreMerged t readers) same (c.searcher-searcher.ensures.whole (c.in_ok-build_segments-in-Ok.ensures.whole has)) in
     let listed = parts-same (is_enabled enable) c.has_prefix.result enable s q query readers c.has_prefix.ensures c.in-Ok.ensures are one in
     let fields = c.enabled_from_searcher-enable.ensures.schema ∙ c.searcher-searcher.ensures.fields ∙ ap (λ (t : Script). t.current.schema) same in
     let all = ap (λ rs. listing_text (all_listed (is_enabled enable) (tree_of enable query) (segments_of rs))) c.segment_readers.ensures.segments in (
