@@ -145,8 +145,7 @@ def main():
     rows = {"each": [], "all": [], "none": []}
     for crate in CRATES:
         folder = f"{ROOT}/cases/{crate}"
-        # a crate of which all is awaited has no cases
-        for name in sorted(os.listdir(folder)) if os.path.isdir(folder) else []:
+        for name in sorted(os.listdir(folder)):
             for block, row, how in rows_of(f"{folder}/{name}"):
                 if how:
                     rows[how].append((block, row))
@@ -162,7 +161,7 @@ def main():
                 faults.append(f"{call}: no public call has this name, or it can't be refused")
             if how == "bare" and calls.get(call):
                 faults.append(f"{call}: it is handed an allocator")
-        if how in ("awaited", "bare"):
+        if how == "bare":
             continue
         if not patterns:
             faults.append(f"{call}: the table doesn't say by which words rows name it")
