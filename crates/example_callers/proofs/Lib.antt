@@ -1,3 +1,4 @@
 mod WorkedTrees
 mod BestFound
 mod Searched
+mod PhraseFields

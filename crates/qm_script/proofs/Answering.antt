@@ -1,6 +1,6 @@
 -- What is answered where a query was listed, or was not.
-use Rattle.std.proofs.Common.{◌≡◌, ◌⊎◌, inl, inr, ℕ, ℤ, Bool, true, false, List, [], ◌∷◌, ◌++◌, length, arith, Option, None, Result, Ok, Err, IfOk, IfErr, OnOk}
-use Rattle.std.proofs.Common.{refl, ap, sym, subst, ◌∙◌, ◌+◌, ◌≤◌, length-append}
+use Rattle.std.proofs.Common.{◌≡◌, inl, inr, ℕ, ℤ, Bool, true, false, List, [], ◌∷◌, ◌++◌, length, arith, Option, None, Result, Ok, Err, IfOk, IfErr, OnOk}
+use Rattle.std.proofs.Common.{refl, sym, subst, ◌∙◌, ◌+◌, length-append}
 use Rattle.std.specs.Borrow.{Bor}
 use Rattle.std.specs.List.{range_with_len}
 use Rattle.qm_index.specs.Indexed.{AreMerged, AreSearched, all_segments}
@@ -14,7 +14,6 @@ use Rattle.qm_query.specs.declared.enable_scoring.EnableScoring.{EnableScoring}
 use Rattle.qm_query.specs.declared.enable_scoring.EnableScoring.TheVariants.{Enabled, Disabled}
 use Rattle.qm_schema.specs.Refusals.{refusal_number}
 use Rattle.qm_schema.specs.declared.error.QueryError.{QueryError}
-use Rattle.qm_schema.specs.declared.error.QueryError.TheVariants.{Memory}
 use Rattle.qm_script.specs.AllSegments.{all_listed}
 use Rattle.qm_script.specs.Answers.{AnswersQuery, IsLineRefusal, IsListingAnswer}
 use Rattle.qm_script.specs.Asked.{Builds, asked}
@@ -113,7 +112,8 @@ ended-length s ended number = let whole = length-append s.ended (s.current ∷ [
 
 above-by-prefix : (threshold : ℤ) (b : Bool) (enable : EnableScoring Searched) (s : Script) (q : language.Query) (query : Query)
     (ended : ℕ) (readers : List Reader) → has_prefix q ≡ b → asked q ≡ Ok query → ended ≡ length s.ended → AreSearched s readers →
-    (b ≡ true → AreMerged s readers) → found_above_in_parts threshold enable query ended (segments_of readers) ≡ found_above threshold enable query (all_segments s)
+    (b ≡ true → AreMerged s readers) →
+    found_above_in_parts threshold enable query ended (segments_of readers) ≡ found_above threshold enable query (all_segments s)
 above-by-prefix threshold true enable s q query ended readers has built number are whole =
     let one = whole refl in
     pruned-segments (tree_of enable query) threshold s readers one.searched
@@ -126,7 +126,8 @@ above-by-prefix threshold false enable s q query ended readers has built number 
 
 pub above-same : (threshold : ℤ) (b : Bool) (enable : EnableScoring Searched) (s : Script) (q : language.Query) (query : Query) (ended : ℕ)
     (readers : List Reader) → b ≡ has_prefix q → asked q ≡ Ok query → length (all_segments s) ≡ ended + 1 → AreSearched s readers →
-    (b ≡ true → AreMerged s readers) → found_above_in_parts threshold enable query ended (segments_of readers) ≡ found_above threshold enable query (all_segments s)
+    (b ≡ true → AreMerged s readers) →
+    found_above_in_parts threshold enable query ended (segments_of readers) ≡ found_above threshold enable query (all_segments s)
 above-same threshold b enable s q query ended readers has built number are whole =
     above-by-prefix threshold b enable s q query ended readers (sym has) built (ended-length s ended number) are whole
 

@@ -1,20 +1,15 @@
 -- The trees of the queries that lines ask have no prefix where none is spelled.
-use Rattle.std.proofs.Common.{◌≡◌, ℕ, Bool, true, false, ◌&&◌, ◌||◌, ◌==◌, if◌then◌else◌, nat_lt, List, [], ◌∷◌, Option, None, Some, Result, Ok, Err, IfOk}
-use Rattle.std.proofs.Common.{refl, sym, length}
+use Rattle.std.proofs.Common.{◌≡◌, Bool, true, false, ◌&&◌, ◌||◌, if◌then◌else◌, nat_lt, Option, None, Some, Result, Ok, Err, IfOk}
+use Rattle.std.proofs.Common.{refl, sym}
 use Rattle.std.proofs.lemmas.Bool.{false≢true}
 use Rattle.qm_postings.specs.Statistics.{Searched}
 use Rattle.qm_query.specs.EnableScoring.{is_enabled}
 use Rattle.qm_query.specs.Query as query
 use Rattle.qm_query.specs.Query.{Query, Subqueries, Disjuncts, all, none, term, phrase, phrase_prefix, boolean, boost, constant, disjunction_max, no_subquery}
 use Rattle.qm_query.specs.Query.{subquery, no_disjunct, disjunct}
-use Rattle.qm_query.specs.Parts.{PrefixParts}
-use Rattle.qm_query.specs.QueryTree.{clause_trees, disjunct_trees, full_prefix_tree, if_scoring}
-use Rattle.qm_weight.specs.Weights.{prefix_alone}
-use Rattle.std.specs.Borrow.{Bor}
+use Rattle.qm_query.specs.QueryTree.{clause_trees, disjunct_trees, if_scoring}
 use Rattle.qm_query.specs.declared.enable_scoring.EnableScoring.{EnableScoring}
-use Rattle.qm_query.specs.declared.enable_scoring.EnableScoring.TheVariants.{Enabled, Disabled}
 use Rattle.qm_postings.specs.contracts.searcher.SearcherBm25StatisticsProvider.TheImpl.{ghosts}
-use Rattle.qm_schema.specs.Term.{TermKey}
 use Rattle.qm_schema.specs.declared.error.QueryError.{QueryError}
 use Rattle.qm_schema.specs.declared.error.QueryError.TheVariants.{TieBreaker}
 use Rattle.qm_script.specs.Asked.{asked, clauses_asked, disjuncts_asked, unless, ◌>>=◌}

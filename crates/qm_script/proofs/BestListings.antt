@@ -1,10 +1,10 @@
 -- The best documents of several segments, by their addresses and by their numbers, and over a script's segments, of
 -- which the open one may be in parts.
-use Rattle.std.proofs.Common.{◌≡◌, ℕ, zero, suc, ℤ, ◌+◌, ◌-◌, ◌<◌, ◌≤◌, Bool, true, false, cond, if◌then◌else◌, List, [], ◌∷◌, ◌++◌, All, length, map, filter, pos, take}
-use Rattle.std.proofs.Common.{refl, ap, sym, subst, ◌∙◌, arith, append_assoc, length-append, get_or}
+use Rattle.std.proofs.Common.{◌≡◌, ℕ, suc, ℤ, ◌+◌, ◌-◌, ◌<◌, Bool, true, false, cond, if◌then◌else◌, List, [], ◌∷◌, ◌++◌, All, length, map, filter, pos, take}
+use Rattle.std.proofs.Common.{refl, ap, sym, ◌∙◌, arith, append_assoc, length-append, get_or}
 use Rattle.std.specs.Int.Signed.{lt_z}
 use Rattle.std.specs.List.{fold}
-use Rattle.std.proofs.lemmas.List.{get_or-append_right, length-map, map-append, take-map}
+use Rattle.std.proofs.lemmas.List.{get_or-append_right, map-append, take-map}
 use Rattle.std.proofs.lemmas.List.Elements.{All-append, All-head, All-map, All-nil, All-tail, All-take, All-weaker, filter-append}
 use Rattle.qm_index.specs.Indexed.{AreMerged, AreSearched, all_segments}
 use Rattle.qm_index.specs.Parts.{segments_of}

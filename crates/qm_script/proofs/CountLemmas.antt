@@ -1,7 +1,6 @@
 -- How many documents a tree matches that weren't deleted, over the segments of a script, of which the open one may
 -- be in parts.
-use Rattle.std.proofs.Common.{◌≡◌, ℕ, ◌+◌, Bool, true, false, cond, List, [], ◌∷◌, ◌++◌, length, length-append, map, filter, suc, refl, ap, sym, ◌∙◌, arith}
-use Rattle.std.proofs.lemmas.Bool.{cases_Bool}
+use Rattle.std.proofs.Common.{◌≡◌, ℕ, ◌+◌, Bool, true, false, cond, List, [], ◌∷◌, length, length-append, map, filter, suc, refl, ap, sym, ◌∙◌, arith}
 use Rattle.std.proofs.lemmas.List.Elements.{filter-append}
 use Rattle.std.proofs.lemmas.List.Sums.{sum_by-cons}
 use Rattle.qm_index.specs.Indexed.{AreMerged, AreSearched, all_segments}
@@ -25,10 +24,11 @@ trues bs = length (filter (λ b. b) bs)
 
 trues-filter : (p : ℕ → Bool) (ds : List ℕ) → length (filter p ds) ≡ trues (map p ds)
 trues-filter p [] = refl
-trues-filter p (d ∷ ds) = elim (p d) as (λ b. length (cond b (d ∷ filter p ds) (filter p ds)) ≡ length (cond b (b ∷ filter (λ x. x) (map p ds)) (filter (λ x. x) (map p ds)))) [
-  | true ↦ ap suc (trues-filter p ds)
-  | false ↦ trues-filter p ds
-]
+trues-filter p (d ∷ ds) =
+    elim (p d) as (λ b. length (cond b (d ∷ filter p ds) (filter p ds)) ≡ length (cond b (b ∷ filter (λ x. x) (map p ds)) (filter (λ x. x) (map p ds)))) [
+      | true ↦ ap suc (trues-filter p ds)
+      | false ↦ trues-filter p ds
+    ]
 
 module _ (tree : Tree) where
   counted-items : (first : ℕ) (segments : List Segment) → alive_count tree segments ≡ trues (items_from tree flag first segments)

@@ -12,7 +12,8 @@ use Rattle.qm_schema.specs.declared.occur.Occur.{Occur}
 use Rattle.qm_schema.specs.declared.occur.Occur.TheVariants.{Should, Must, MustNot}
 use Rattle.qm_script.specs.Script.{Clauses, Queries, Query, Request, add_document, all, behind_line_form, boolean, boost, clause, constant, count_matches}
 use Rattle.qm_script.specs.Script.{cut_at_tabs, delete_at, delete_document, disjunction_max, document_at, end_segment, line_form_named, line_request}
-use Rattle.qm_script.specs.Script.{line_words, list_above, list_best, list_documents, list_scores, no_clause, no_query, non_empty, none, nothing, phrase, phrase_prefix}
+use Rattle.qm_script.specs.Script.{line_words, list_above, list_best, list_documents, list_scores, no_clause, no_query, non_empty, none, nothing, phrase}
+use Rattle.qm_script.specs.Script.{phrase_prefix}
 use Rattle.qm_script.specs.Script.{count_at, prune_at, query, query_at, score_at, set_weight, term, threshold_at, top_at, weight_at, whole_query, words_request}
 use Rattle.qm_script.specs.Spelling.{AreLineWords, CanBeAsked, CanBeSpelled, ClausesCanBeSpelled, IsAskable, IsCount, IsDocumentNumber, IsLineWord, IsScore}
 use Rattle.qm_script.specs.Spelling.{IsThreshold, QueriesCanBeSpelled, clause_count, line_text, query_count, request_words, sign, spelled, spelled_clauses}

@@ -1,16 +1,15 @@
 -- What a query's tree lists over the parts of a segment, one after another, is what it lists over the
 -- segment.
-use Rattle.std.proofs.Common.{◌≡◌, ℕ, ◌+◌, ◌-◌, ◌<◌, ◌≤◌, ◌==◌, ◌&&◌, Bool, true, not, nat_lt, min, List, [], ◌∷◌, ◌++◌, length, map, filter, refl, ap, sym, ◌∙◌, arith}
-use Rattle.std.proofs.Common.{append-nil, add-zero, zero-add, lt-ltb, le-ltb, inl, inr, take, drop, length-take}
-use Rattle.std.specs.List.{list_any, range_with_len}
+use Rattle.std.proofs.Common.{◌≡◌, ℕ, ◌+◌, ◌-◌, ◌<◌, ◌≤◌, ◌&&◌, true, not, List, [], ◌∷◌, ◌++◌, length, map, filter, ap, sym, ◌∙◌, arith}
+use Rattle.std.proofs.Common.{append-nil, add-zero, zero-add, lt-ltb, le-ltb, inl, inr, drop, length-take}
+use Rattle.std.specs.List.{range_with_len}
 use Rattle.std.proofs.lemmas.Bool.{cases_lt}
 use Rattle.std.proofs.lemmas.List.{get_or-drop, get_or-take, length-drop, map-append, take_all}
 use Rattle.std.proofs.lemmas.List.Elements.{filter-append}
-use Rattle.qm_docset.specs.Members.{members_between}
 use Rattle.qm_index.specs.Indexed.{AreSearched, all_segments}
 use Rattle.qm_index.specs.Parts.{AreParts, ArePartsFrom, part_of, segments_of}
 use Rattle.qm_postings.specs.Reading.{Reader}
-use Rattle.qm_postings.specs.Segment.{Document, Segment, is_alive, is_deleted, no_document}
+use Rattle.qm_postings.specs.Segment.{Segment, is_alive, is_deleted, no_document}
 use Rattle.qm_postings.proofs.DeletedDocuments.{among_members}
 use Rattle.qm_script.specs.PrefixFree.{has_no_prefix}
 use Rattle.qm_script.specs.ScriptSegments.{Script}

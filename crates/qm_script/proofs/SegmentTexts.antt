@@ -1,5 +1,5 @@
 -- A document of one text.
-use Rattle.std.proofs.Common.{◌≡◌, ◌⊎◌, inl, inr, ℕ, List, [], ◌∷◌, String, append-nil, ap, refl, string_bytes, subst}
+use Rattle.std.proofs.Common.{◌≡◌, ◌⊎◌, inl, inr, List, [], ◌∷◌, String, append-nil, ap, refl, string_bytes, subst}
 use Rattle.std.specs.Global.{Global}
 use Rattle.qm_index.specs.OpenDocuments.{IsDocumentRefusal}
 use Rattle.qm_index.specs.Texts.{length_given, terms_given, texts_draft}

@@ -1,4 +1,4 @@
-use Rattle.std.proofs.Common.{◌≡◌, ◌∙◌, ◌+◌, Err, OnOk, ap, length, sym, true, map, subst, string_bytes, w64}
+use Rattle.std.proofs.Common.{◌≡◌, ◌∙◌, ◌+◌, OnOk, ap, length, sym, true, subst, string_bytes, w64}
 use mir.ValLaws.{to_z-of_z}
 use Rattle.qm_query.specs.Query.{query_of as built_query}
 use Rattle.qm_script.specs.Answers.{pruned_text}

@@ -1,4 +1,4 @@
-use Rattle.std.proofs.Common.{◌≡◌, ◌∙◌, Err, ap, true, map, subst, string_bytes}
+use Rattle.std.proofs.Common.{◌≡◌, ◌∙◌, ap, true, subst, string_bytes}
 use Rattle.qm_query.specs.EnableScoring.{is_enabled}
 use Rattle.qm_query.specs.Query.{query_of as built_query}
 use Rattle.qm_script.specs.AllSegments.{all_listed}
@@ -39,7 +39,8 @@ returns-in_ok-build_segments-in-Ok-clause-answer c =
     let all = ap (λ rs. listing_text (all_listed (is_enabled enable) (tree_of enable query) (segments_of rs))) c.segment_readers.ensures.segments in (
       enable,
       record { fields = fields; scores = c.disabled_from_searcher-enable.ensures.provider },
-      listing-answer (listed_text enable s) enable q text query (all_listed (is_enabled enable) (tree_of enable query) (segments_of c.segment_readers.result.now))
+      listing-answer (listed_text enable s) enable q text query
+          (all_listed (is_enabled enable) (tree_of enable query) (segments_of c.segment_readers.result.now))
           c.write_matches-written.result c.answer_listing.result (fields ∙ c.args.corpus.now.fields) c.in-Ok.ensures
           (all ∙ ap listing_text listed) c.write_matches-written.ensures.listed c.write_matches-written.ensures.refused c.answer_listing.ensures,
     )

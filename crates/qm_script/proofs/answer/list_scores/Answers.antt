@@ -1,4 +1,4 @@
-use Rattle.std.proofs.Common.{◌≡◌, ◌∙◌, Err, ap, true, map, subst, string_bytes}
+use Rattle.std.proofs.Common.{◌≡◌, ◌∙◌, ap, true, subst, string_bytes}
 use Rattle.qm_query.specs.EnableScoring.{is_enabled}
 use Rattle.qm_query.specs.Query.{query_of as built_query}
 use Rattle.qm_script.specs.AllSegments.{all_listed}
@@ -47,7 +47,8 @@ returns-in_ok-build_segments-in-Ok-clause-answer c =
         scores = c.enabled_from_searcher-enable.ensures.provider;
         weights = subst (λ w. IsWeighedBy w searcher) (ap (λ s. s.weights) c.build_segments.ensures.weights) c.searcher-searcher.ensures.weights;
       },
-      listing-answer (listed_text enable s) enable q text query (all_listed (is_enabled enable) (tree_of enable query) (segments_of c.segment_readers.result.now))
+      listing-answer (listed_text enable s) enable q text query
+          (all_listed (is_enabled enable) (tree_of enable query) (segments_of c.segment_readers.result.now))
           c.write_matches-written.result c.answer_listing.result (fields ∙ c.args.corpus.now.fields) c.in-Ok.ensures
           (all ∙ ap listing_text listed) c.write_matches-written.ensures.listed c.write_matches-written.ensures.refused c.answer_listing.ensures,
     )

@@ -1,6 +1,4 @@
-use Rattle.std.proofs.Common.{◌≡◌, ◌<◌, ◌∙◌, ℕ, List, [], All, ap, length, map, string_bytes, subst, sym, rules}
-use Rattle.std.proofs.lemmas.List.Elements.{All-map}
-use Rattle.qm_postings.specs.declared.address.DocAddress.{DocAddress}
+use Rattle.std.proofs.Common.{◌≡◌, ◌<◌, ◌∙◌, [], All, ap, length, map, string_bytes, subst, sym, rules}
 use Rattle.qm_query.specs.Query.{query_of}
 use Rattle.qm_query.specs.Searches.{with_scores}
 use Rattle.qm_query.specs.TopDocs.{alive_matches_from, score_first}

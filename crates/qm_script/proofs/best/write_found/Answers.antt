@@ -1,4 +1,5 @@
-use Rattle.std.proofs.Common.{◌≡◌, ◌+◌, ◌++◌, ◌∷◌, [], ◌∙◌, ℕ, ℤ, Option, Some, append_assoc, ap, map, take, get_or, string_bytes, pos, slice_index_or, subst, sym, to_z, of_z, w64, rules, arith}
+use Rattle.std.proofs.Common.{◌≡◌, ◌+◌, ◌++◌, ◌∷◌, [], ◌∙◌, ℤ, Some, append_assoc, ap, map, take, get_or, string_bytes, pos, slice_index_or, subst, sym, to_z}
+use Rattle.std.proofs.Common.{of_z, w64, rules, arith}
 use mir.ValLaws.{to_z-of_z}
 use Rattle.std.proofs.lemmas.Grind.{common_steps}
 use Rattle.std.proofs.lemmas.List.{map-append, take_more}

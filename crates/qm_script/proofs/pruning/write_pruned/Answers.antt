@@ -1,4 +1,4 @@
-use Rattle.std.proofs.Common.{◌≡◌, ◌++◌, IsTrue, rules, true, ◌∙◌, ap, sym, arith, take, of_z, to_z, w64, subst, string_bytes}
+use Rattle.std.proofs.Common.{◌++◌, IsTrue, rules, ◌∙◌, ap, sym, arith, take, of_z, to_z, w64, subst, string_bytes}
 use mir.ValLaws.{to_z-of_z}
 use Rattle.std.proofs.lemmas.List.{drop-map, take-map}
 use Rattle.qm_postings.specs.Reading.{Reader}

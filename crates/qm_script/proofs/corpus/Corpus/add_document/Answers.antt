@@ -1,12 +1,9 @@
-use Rattle.std.proofs.Common.{◌≡◌, ◌⊎◌, [], ◌∷◌, List, String, ap, subst, ◌∙◌, string_bytes}
+use Rattle.std.proofs.Common.{◌≡◌, ◌⊎◌, [], ◌∷◌, ap, subst, ◌∙◌, string_bytes}
 use Rattle.std.proofs.lemmas.Result.{IfErr-weaker, on_ok_weaker}
-use Rattle.std.specs.Global.{Global}
 use Rattle.qm_index.specs.OpenDocuments.{IsDocumentRefusal}
 use Rattle.qm_index.specs.Texts.{texts_draft}
 use Rattle.qm_postings.specs.Segment.{document_of, with_document}
-use Rattle.qm_schema.specs.declared.error.QueryError.{QueryError}
 use Rattle.qm_schema.specs.declared.error.QueryError.TheVariants.{Memory}
-use Rattle.qm_script.specs.ProgramNumbers.{body_field}
 use Rattle.qm_script.specs.ScriptSegments.{Script, script}
 use Rattle.qm_script.specs.TextSegments.{IsTextRefusal}
 use Rattle.qm_script.proofs.SegmentTexts.{one_text-refused, with-one_text}
