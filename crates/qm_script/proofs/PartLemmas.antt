@@ -7,7 +7,7 @@ use Rattle.std.proofs.lemmas.List.Sums.{sum_by-cons}
 use Rattle.qm_index.specs.Numbers.{document_count as of_readers}
 use Rattle.qm_postings.specs.Reading.{Reader}
 use Rattle.qm_postings.specs.Segment.{Document, Segment}
-use Rattle.qm_script.specs.Found.{segments_of}
+use Rattle.qm_index.specs.Parts.{segments_of}
 use Rattle.qm_script.specs.Parts.{document_count}
 
 abbrev documents_of : List Segment → List Document

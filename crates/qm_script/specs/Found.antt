@@ -1,10 +1,9 @@
 -- What a query finds in several segments, by what it is asked under.
-use Rattle.std.specs.Prelude.{◌≡◌, ℕ, ℤ, List, ◌++◌, Option, String, drop, map, string_bytes, take}
+use Rattle.std.specs.Prelude.{◌≡◌, ℕ, ℤ, List, ◌++◌, Option, String, drop, string_bytes, take}
 use Rattle.std.specs.Fmt.{decimal}
 use Rattle.std.specs.Global.{Global}
 use Rattle.qm_postings.specs.Segment.{Segment}
 use Rattle.qm_postings.specs.Statistics.{Searched}
-use Rattle.qm_postings.specs.Reading.{Reader}
 use Rattle.qm_query.specs.EnableScoring.{is_enabled}
 use Rattle.qm_query.specs.Query.{Query}
 use Rattle.qm_query.specs.declared.enable_scoring.EnableScoring.{EnableScoring}
@@ -14,10 +13,6 @@ use Rattle.qm_script.specs.Counts.{alive_count}
 use Rattle.qm_script.specs.Parts.{document_count}
 use Rattle.qm_script.specs.Pruned.{all_pruned, parts_pruned}
 use Rattle.qm_script.specs.Under.{tree_of}
-
--- the segments of readers
-abbrev pub segments_of : List Reader → List Segment
-segments_of readers = map (λ r. r.segment) readers
 
 -- each document that matches, with its score where scores are wanted
 abbrev pub found_matches : EnableScoring Searched → Query → List Segment → List (ℕ × Option ℤ)

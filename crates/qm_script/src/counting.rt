@@ -3,7 +3,8 @@
 ghost use Rattle.std.specs.Prelude.{◌≡◌, IfErr, OnOk};
 ghost use Rattle.qm_query.specs.Query.{query_of};
 ghost use Rattle.qm_query.specs.Searches.{without_scores};
-ghost use Rattle.qm_script.specs.Found.{AddsNumber, found_alive, segments_of};
+ghost use Rattle.qm_index.specs.Parts.{segments_of};
+ghost use Rattle.qm_script.specs.Found.{AddsNumber, found_alive};
 ghost use Rattle.qm_script.specs.Under.{IsListingRefusal};
 
 use crate::listing::reserve_line_end;

@@ -4,7 +4,8 @@ ghost use Rattle.std.specs.Prelude.{◌≡◌, ◌≤◌, ◌*◌, ◌+◌, ◌�
 ghost use Rattle.qm_docset.specs.declared.numbers.TheConstants.{TERMINATED};
 ghost use Rattle.qm_query.specs.Query.{query_of};
 ghost use Rattle.qm_script.specs.AllSegments.{all_listed, listed};
-ghost use Rattle.qm_script.specs.Found.{found_matches, segments_of};
+ghost use Rattle.qm_index.specs.Parts.{segments_of};
+ghost use Rattle.qm_script.specs.Found.{found_matches};
 ghost use Rattle.qm_script.specs.Parts.{document_count};
 ghost use Rattle.qm_script.specs.ProgramNumbers.{most_segments};
 ghost use Rattle.qm_script.specs.Text.{AddsToListing, IsListing, ListsMore, numbered};

@@ -1,7 +1,7 @@
 use Rattle.std.proofs.Common.{◌≡◌, ◌++◌, ◌+◌, ◌≤◌, ◌*◌, All, drop}
 use Rattle.qm_docset.specs.declared.numbers.TheConstants.{TERMINATED}
 use Rattle.qm_script.specs.BestListed.{firsts_from}
-use Rattle.qm_script.specs.Found.{segments_of}
+use Rattle.qm_index.specs.Parts.{segments_of}
 use Rattle.qm_script.specs.Parts.{document_count}
 use Rattle.qm_script.specs.ProgramNumbers.{most_segments}
 use Rattle.qm_script.proofs.best.first_numbers.Given as goal

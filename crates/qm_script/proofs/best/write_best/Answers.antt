@@ -3,7 +3,7 @@ use Rattle.qm_query.specs.Query.{query_of}
 use Rattle.qm_query.specs.Searches.{with_scores}
 use Rattle.qm_query.specs.TopDocs.{alive_matches_from, score_first}
 use Rattle.qm_script.specs.BestListed.{best_listed, firsts_from, found_item}
-use Rattle.qm_script.specs.Found.{segments_of}
+use Rattle.qm_index.specs.Parts.{segments_of}
 use Rattle.qm_script.specs.Text.{IsListing}
 use Rattle.qm_script.specs.Under.{tree_of}
 use Rattle.qm_weight.specs.Best.{best}

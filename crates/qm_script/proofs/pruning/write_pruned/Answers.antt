@@ -3,7 +3,7 @@ use mir.ValLaws.{to_z-of_z}
 use Rattle.std.proofs.lemmas.List.{drop-map, take-map}
 use Rattle.qm_postings.specs.Reading.{Reader}
 use Rattle.qm_query.specs.Query.{query_of}
-use Rattle.qm_script.specs.Found.{segments_of}
+use Rattle.qm_index.specs.Parts.{segments_of}
 use Rattle.qm_script.specs.Parts.{document_count}
 use Rattle.qm_script.specs.Pruned.{all_pruned, parts_pruned}
 use Rattle.qm_script.specs.Text.{IsListing}
