@@ -63,10 +63,7 @@ pub fn best_document<Q: Query, P: Bm25StatisticsProvider>(
 }
 
 /// The field of a phrase and its terms, all of which are of that field.
-pub fn field_and_terms(
-    alloc: Global,
-    query: &PhraseQuery,
-) -> Result<(Field, Vec<Term>), QueryError>
+pub fn field_and_terms(alloc: Global, query: &PhraseQuery) -> Result<(Field, Vec<Term>), QueryError>
     ensures terms { IfOk result (λ found. found.1.items ≡ terms_of query.now.terms) }
     ensures field { IfOk result (λ found. All (λ t. t.field ≡ found.0) found.1.items) }
 {
