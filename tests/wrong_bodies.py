@@ -41,6 +41,7 @@ from refusals import Verdict  # noqa: E402
 from wrong_edit import COMPILER, BadEdit, Edit, batches_of  # noqa: E402
 
 EDITS = f"{HERE}/wrong_bodies"
+FLAGS = ("--built", "--anew", "--write", "--said")
 # what a check takes at most, in bytes
 ROOM = 3_000_000_000
 PRINTING = threading.Lock()
@@ -302,6 +303,10 @@ def size(crate):
 
 
 def main(words):
+    # (a word that is misspelled, or --help, is not to start hours of work)
+    if not {it for it in words if it.startswith("-")} <= {*FLAGS}:
+        print(__doc__)
+        return 2
     said = option(words, "--said")
     names = [it for it in words if not it.startswith("--") and it != said] or sorted(os.listdir(EDITS))
     known = kit.crates_of(os.path.dirname(HERE))
