@@ -1,0 +1,41 @@
+//! A callback of one's own: how many documents a query finds in a segment, and what they score together.
+
+ghost use Rattle.std.specs.Prelude.{◌≡◌, IfOk, length};
+ghost use Rattle.qm_weight.specs.Tree.{matching};
+
+use qm_docset::Score;
+use qm_postings::SegmentReader;
+use qm_schema::QueryError;
+use qm_weight::Weight;
+use std::alloc::Global;
+
+/// What some documents come to.
+#[derive(Clone, Copy, Debug)]
+pub struct Totals {
+    pub documents: u64,
+    /// Their scores, added up, and held at 9223372036854775807.
+    pub scores: Score,
+}
+
+/// What the documents of a segment come to that a weight matches: one call of the callback for each.
+pub fn sum_up<W: Weight>(
+    alloc: Global,
+    weight: &W,
+    reader: &SegmentReader,
+) -> Result<Totals, QueryError>
+    ensures documents { IfOk result (λ totals. totals.documents ≡ length (matching (W.tree weight.now) reader.now.segment)) }
+{
+    let mut totals = Totals {
+        documents: 0,
+        scores: 0,
+    };
+    weight.for_each(
+        alloc,
+        reader,
+        &mut |_doc, score| {
+            totals.documents += 1;
+            totals.scores = totals.scores.saturating_add(score);
+        },
+    )?;
+    Ok(totals)
+}
