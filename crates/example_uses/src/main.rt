@@ -63,8 +63,8 @@ fn main(rt: HostRuntime) -> io::Result<()> {
     }
     let totals = answers.totals;
     println!(rt;
-        "{} documents score {} together",
-        totals.documents, totals.scores
+        "{} of {} documents score {} together",
+        totals.documents, totals.of, totals.scores
     )?;
     if let Some((doc, score)) = answers.best_of_segment {
         println!(rt; "the best by a pruned run\n  document {doc}, score {score}")?;

@@ -12,7 +12,9 @@ use std::alloc::Global;
 /// What some documents come to.
 #[derive(Clone, Copy, Debug)]
 pub struct Totals {
-    pub documents: u64,
+    pub documents: u32,
+    /// How many documents the segment has.
+    pub of: u32,
     /// Their scores, added up, and held at 9223372036854775807.
     pub scores: Score,
 }
@@ -27,6 +29,7 @@ pub fn sum_up<W: Weight>(
 {
     let mut totals = Totals {
         documents: 0,
+        of: reader.max_doc(),
         scores: 0,
     };
     weight.for_each(
