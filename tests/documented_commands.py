@@ -7,13 +7,13 @@ there, at the top of the repository.
 - A fenced block `console` has commands behind `$ `, each with what it prints below it, to the letter.
 - A fenced block `sh` has a command a line; nothing is said of what they print.
 - A command of NOT_RUN is not run, for the reason that stands beside it; a command in the text must be one of
-  those, or be run in a block. Words in capitals stand for others, so a command with one is none.
+  those, or be run in a block. Words such as CRATE and NAME stand for others, so a command with one is none.
 - A fenced block `rust` stands, line by line, in the file that is named last before it.
 - A table of a script, `| Line | Prints | |`, has the lines of the file that is named last before it, and what the
   program prints for them.
 - A file that is named is there.
 
-Commands of one document are run one after another, two documents at a time. Each has to end with status 0.
+Commands of one document are run one after another, and documents beside each other. Each has to end with status 0.
 """
 
 import os
@@ -28,6 +28,8 @@ NOT_RUN = {
     "python3 tests/quick.py": "it runs this",
     "python3 tests/gate.py": "it runs this",
     "python3 tests/documented_commands.py": "it is this",
+    "python3 tests/definitions.py": "it writes; the gate and quick.py run it with --check",
+    "python3 tests/layers.py": "it writes; the gate and quick.py run it with --check",
     "python3 tests/cases.py": "quick.py and the gate run it; with other seeds it takes as long as one likes",
     "python3 tests/wrong_bodies.py": "the gate runs it; it takes proofs",
     "python3 examples/measure_": "a measurement: it takes minutes, some of them a proof or valgrind",
@@ -36,7 +38,7 @@ NOT_RUN = {
 }
 NAMED = re.compile(r"`((?:crates|tests|docs|examples|cases)/[\w./+-]+|[A-Z]+\.md|crates\.txt|\.ci/run)`")
 COMMAND = re.compile(r"`((?:python3|cd|out/)[ \w][^`]*)`")
-STOOD_FOR = re.compile(r"\b[A-Z]{4,}\b")
+STOOD_FOR = re.compile(r"(?<![A-Z])(CRATE|FILE|FOLDER|NAME|PATH|PROGRAM|TOPIC)(?![A-Z])")
 PROGRAM = "out/qm_search"
 
 
@@ -89,7 +91,7 @@ class Document:
 
     def check_files(self):
         for path in {it[1] for it in NAMED.finditer(self.prose)}:
-            if not STOOD_FOR.search(path.removesuffix(".md")) and not is_there(path):
+            if not STOOD_FOR.search(path) and not is_there(path):
                 self.says(f"there is no {path}")
 
     def check_code(self):
@@ -108,8 +110,8 @@ class Document:
 
     def check_scripts(self):
         for table in re.finditer(r"^\| Line \| Prints \| \|\n\|[-|]+\n((?:\|.*\n)+)", self.text, re.M):
-            rows = [[cell.strip().strip("`") for cell in row.split(" | ")] for row in table[1].strip().split("\n")]
-            script = "".join(row[0].removeprefix("| ").strip("`") + "\n" for row in rows)
+            rows = [[cell.strip().strip("`") for cell in row.split("|")[1:]] for row in table[1].strip().split("\n")]
+            script = "".join(row[0] + "\n" for row in rows)
             printed = "".join(("" if row[1] == "an empty line" else row[1]) + "\n" for row in rows if row[1])
             path = self.named_before(table.start())
             ran = subprocess.run([f"{ROOT}/{PROGRAM}"], input=script, capture_output=True, text=True)
@@ -127,7 +129,7 @@ def is_there(path):
 
 def main():
     read_all = [Document(path) for path in documents()]
-    with ThreadPoolExecutor(2) as pool:
+    with ThreadPoolExecutor(os.cpu_count()) as pool:
         list(pool.map(Document.run, read_all))
     ran = [command for it in read_all for command in it.ran]
     for it in read_all:

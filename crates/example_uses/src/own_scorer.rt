@@ -1,7 +1,7 @@
 //! A scorer of one's own, in a tree with those of a query: what documents are rated elsewhere, as by their
 //! readers.
 
-ghost use Rattle.std.specs.Prelude.{◌≡◌, IfOk, map};
+ghost use Rattle.std.specs.Prelude.{◌≡◌, ◌≤◌, IfOk, map};
 ghost use Rattle.qm_combine.specs.AllDocuments.{IsOverAll, all_left, all_limits};
 ghost use Rattle.qm_combine.specs.AllDocumentsFacts.{AreEntries-all_from};
 ghost use Rattle.qm_combine.specs.Rescored.{limited, rescored};
