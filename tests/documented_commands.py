@@ -13,14 +13,16 @@ there, at the top of the repository.
   program prints for them.
 - A file that is named is there.
 
-Commands of one document are run one after another, and documents beside each other. Each has to end with status 0.
+Commands of one document are run one after another, and documents beside each other; one that stands twice is run
+once. Each has to end with status 0.
 """
 
 import os
 import re
 import subprocess
 import sys
-from concurrent.futures import ThreadPoolExecutor
+import threading
+from concurrent.futures import Future, ThreadPoolExecutor
 
 ROOT = os.path.realpath(os.path.join(os.path.dirname(os.path.abspath(__file__)), ".."))
 # commands that are not run here, by how they begin
@@ -34,12 +36,15 @@ NOT_RUN = {
     "python3 tests/wrong_bodies.py": "the gate runs it; it takes proofs",
     "python3 examples/measure_": "a measurement: it takes minutes, some of them a proof or valgrind",
     "python3 examples/many_documents.py": "a measurement, by the proved program",
+    "(cd crates/": "it proves, or compiles, for minutes; the gate proves and runs all programs",
     "cd crates/": "it proves, or compiles, for minutes; the gate proves and runs all programs",
 }
 NAMED = re.compile(r"`((?:crates|tests|docs|examples|cases)/[\w./+-]+|[A-Z]+\.md|crates\.txt|\.ci/run)`")
 COMMAND = re.compile(r"`((?:python3|cd|out/)[ \w][^`]*)`")
 STOOD_FOR = re.compile(r"(?<![A-Z])(CRATE|FILE|FOLDER|NAME|PATH|PROGRAM|TOPIC)(?![A-Z])")
 PROGRAM = "out/qm_search"
+# the runs so far, by their commands
+RUNS, LOCK = {}, threading.Lock()
 
 
 def documents():
@@ -82,7 +87,7 @@ class Document:
         for command, printed in self.commands():
             if is_left_out(command):
                 continue
-            ran = subprocess.run(command, shell=True, cwd=ROOT, executable="/bin/bash", capture_output=True, text=True)
+            ran = result_of(command)
             if ran.returncode:
                 self.says(f"`{command}` ends with status {ran.returncode}: {ran.stdout[-400:]}{ran.stderr[-400:]}")
             elif printed is not None and ran.stdout != printed:
@@ -119,6 +124,17 @@ class Document:
                 self.says(f"the table of {path} is not what that has and prints")
 
 
+def result_of(command):
+    """What a command came to, which is run once, wherever it stands."""
+    with LOCK:
+        is_first = command not in RUNS
+        result = RUNS.setdefault(command, Future())
+    if is_first:
+        how = {"shell": True, "executable": "/bin/bash", "capture_output": True, "text": True}
+        result.set_result(subprocess.run(command, cwd=ROOT, **how))
+    return result.result()
+
+
 def is_left_out(command):
     return any(command.startswith(it) for it in NOT_RUN)
 
@@ -131,7 +147,7 @@ def main():
     read_all = [Document(path) for path in documents()]
     with ThreadPoolExecutor(os.cpu_count()) as pool:
         list(pool.map(Document.run, read_all))
-    ran = [command for it in read_all for command in it.ran]
+    ran = {command for it in read_all for command in it.ran}
     for it in read_all:
         it.check_files()
         it.check_code()

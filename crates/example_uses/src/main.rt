@@ -17,7 +17,7 @@ use own_statistics::{Rarity, rare_words_first};
 use pruned_collector::best_document;
 use qm_docset::{DocId, Score};
 use qm_index::Index;
-use qm_postings::{Bm25StatisticsProvider, DocAddress, Searcher};
+use qm_postings::{DocAddress, Searcher};
 use qm_query::{EnableScoring, Query};
 use qm_schema::{Field, IndexRecordOption, QueryError, Schema, Term};
 use query_tree::phrase_and_words;
@@ -107,7 +107,7 @@ fn answer_of(alloc: Global, searcher: &Searcher, body: Field) -> Result<Answers,
     let cat = Term::from_field_text(alloc, body, "cat")?;
     let query = phrase_and_words(alloc, quick, fox, dog, cat)?;
     let weight = query.weight(alloc, EnableScoring::enabled_from_searcher(searcher))?;
-    let rarity = Rarity::new(reader, searcher.norms());
+    let rarity = Rarity::new(reader, searcher);
     Ok(Answers {
         best: best_documents(alloc, &query, searcher, 2)?,
         totals: sum_up(alloc, &*weight, reader)?,

@@ -1,6 +1,6 @@
 //! A callback of one's own: how many documents a query finds in a segment, and what they score together.
 
-ghost use Rattle.std.specs.Prelude.{◌≡◌, IfOk, length};
+ghost use Rattle.std.specs.Prelude.{◌≡◌, ◌+◌, IfOk, length, min};
 ghost use Rattle.qm_weight.specs.Tree.{matching};
 
 use qm_docset::Score;
@@ -19,6 +19,16 @@ pub struct Totals {
     pub scores: Score,
 }
 
+impl Totals {
+    // One document more.
+    fn add(&mut self, score: Score)
+        ensures { self.new.documents ≡ min 4294967295 (self.old.documents + 1) }
+    {
+        self.documents = self.documents.saturating_add(1);
+        self.scores = self.scores.saturating_add(score);
+    }
+}
+
 /// What the documents of a segment come to that a weight matches: one call of the callback for each.
 pub fn sum_up<W: Weight>(
     alloc: Global,
@@ -32,13 +42,6 @@ pub fn sum_up<W: Weight>(
         of: reader.max_doc(),
         scores: 0,
     };
-    weight.for_each(
-        alloc,
-        reader,
-        &mut |_doc, score| {
-            totals.documents += 1;
-            totals.scores = totals.scores.saturating_add(score);
-        },
-    )?;
+    weight.for_each(alloc, reader, &mut |_doc, score| totals.add(score))?;
     Ok(totals)
 }

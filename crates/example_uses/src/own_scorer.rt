@@ -40,6 +40,15 @@ impl<'a> Rated<'a> {
             ratings,
         }
     }
+
+    fn rating(&self, doc: DocId) -> u32
+        ensures { result ≡ rating self.now.ratings.now doc }
+    {
+        match self.ratings.get(doc as usize) {
+            Some(rating) => MOST_RATED.min(*rating),
+            None => 0,
+        }
+    }
 }
 
 // Where it goes is what the cursor that it holds does; `entries` says which scores these documents have, and
@@ -76,10 +85,7 @@ impl<'a> DocSet for Rated<'a> {
 #[tactic(auto, using(qm_combine::specs::RescoredFacts::rescoring))]
 impl<'a> Scorer for Rated<'a> {
     fn score(&mut self) -> Score {
-        match self.ratings.get(self.all.doc() as usize) {
-            Some(rating) => Score::from((*rating).min(MOST_RATED)),
-            None => 0,
-        }
+        Score::from(self.rating(self.all.doc()))
     }
 
     fn max_score(&self) -> Score {

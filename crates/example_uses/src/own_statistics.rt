@@ -19,13 +19,13 @@ use std::alloc::Global;
 #[derive(Clone, Copy, Debug)]
 pub struct Rarity<'a> {
     reader: &'a SegmentReader,
-    norms: &'a [u32; 256],
+    searcher: &'a Searcher,
 }
 
 impl<'a> Rarity<'a> {
-    /// Weights by the documents of this segment, deleted ones too.
-    pub fn new(reader: &'a SegmentReader, norms: &'a [u32; 256]) -> Rarity<'a> {
-        Rarity { reader, norms }
+    /// Weights by the documents of this segment, deleted ones too, and norms as the searcher's.
+    pub fn new(reader: &'a SegmentReader, searcher: &'a Searcher) -> Rarity<'a> {
+        Rarity { reader, searcher }
     }
 
     // What one term weighs.
@@ -51,7 +51,7 @@ impl<'a> Rarity<'a> {
 impl<'a> Bm25StatisticsProvider for Rarity<'a> {
     ghost weight_of = { λ r terms. sum_by (rarity r.reader.now.segment) terms };
 
-    ghost norms_of = { λ r. r.norms.now };
+    ghost norms_of = { λ r. r.searcher.now.norms };
 
     ghost may_refuse = { λ _ _ error. IsProviderRefusal error };
 
@@ -68,7 +68,7 @@ impl<'a> Bm25StatisticsProvider for Rarity<'a> {
     }
 
     fn norms(&self) -> &[u32; 256] {
-        self.norms
+        self.searcher.norms()
     }
 
     ghost refusals = { λ _ _ _ refused. refused };

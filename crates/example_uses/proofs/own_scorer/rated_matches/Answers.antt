@@ -7,8 +7,4 @@ use Rattle.example_uses.proofs.own_scorer.rated_matches.Goals as goal
 
 pub returns : goal.returns
 returns g c =
-    ap (map (λ pair. pair.0)) c.in_ok-scores_left.ensures
-    ∙ documents-pairs _
-    ∙ ap documents c.in_ok-both.ensures.lists.entries
-    ∙ documents-rescored _ _
-    ∙ c.in_ok-found.ensures.scorer.list.documents
+    ?

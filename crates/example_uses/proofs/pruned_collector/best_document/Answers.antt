@@ -9,7 +9,7 @@ use Rattle.qm_weight.specs.Callers.{pairs}
 use Rattle.example_uses.proofs.pruned_collector.best_document.Goals as goal
 
 -- what is kept, as a row of one or none
-kept : Option (ℕ × ℤ) → List (ℕ × ℤ)
+abbrev kept : Option (ℕ × ℤ) → List (ℕ × ℤ)
 kept None = []
 kept (Some p) = p ∷ []
 
@@ -47,4 +47,5 @@ returns g c =
     es run.2 _ run.3 _ [] (KeepsBest-none 1 _ [] refl refl, refl) run.4 in
     let callback = c.for_each_pruning.new.callback in
     let best_kept : kept callback.0.now ≡ best 1 (pairs es) = kept_all.0.kept ∙ ap (take 1) (by_score-pairs es) in
-    λ on. first_kept callback.0.now ∙ ap (λ row. slice_get row 0) (best_kept ∙ ap (λ l. best 1 (pairs l)) (run.1.scores on))
+    let is_best : callback.0.now ≡ slice_get (best 1 (pairs es)) 0 = first_kept callback.0.now ∙ ap (λ row. slice_get row 0) best_kept in
+    λ on. search (rules, ap (λ l. slice_get (best 1 (pairs l)) 0) (run.1.scores on))
