@@ -153,7 +153,7 @@ def line_of(way, middles, rows):
 
 
 def box_of(name, across, top):
-    colour = next(colour for begins, _, colour in KINDS if name.startswith(begins))
+    colour = next((colour for begins, _, colour in KINDS if name.startswith(begins)), "white")
     drawn = [
         f'<rect x="{across - WIDTH / 2:.0f}" y="{top}" width="{WIDTH}" height="{HEIGHT}" rx="5" fill="{colour}"/>',
         f'<text x="{across:.0f}" y="{top + 17}" class="name">{escape(name)}</text>',
