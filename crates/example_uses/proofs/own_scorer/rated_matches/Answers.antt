@@ -1,5 +1,5 @@
 -- A rating changes scores alone, so what is found is what the weight matches.
-use Rattle.std.proofs.Common.{◌≡◌, ◌∙◌, map, ap}
+use Rattle.std.proofs.Common.{◌∙◌, map, ap}
 use Rattle.qm_combine.specs.RescoredFacts.{documents-rescored}
 use Rattle.qm_docset.specs.Entry.{documents}
 use Rattle.qm_weight.specs.CallerFacts.{documents-pairs}

@@ -1,7 +1,6 @@
 -- One term more weighs its own rarity more.
-use Rattle.std.proofs.Common.{◌≡◌, ◌+◌, get_or, take, ap, sym, ◌∙◌, arith}
+use Rattle.std.proofs.Common.{ap, arith}
 use Rattle.std.proofs.lemmas.List.Sums.{sum_by_more}
-use Rattle.std.specs.List.{sum_by}
 use Rattle.example_uses.specs.Rarity.{rarity}
 use Rattle.example_uses.proofs.own_statistics.RarityBm25StatisticsProvider.weight.Goals as goal
 
