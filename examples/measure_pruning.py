@@ -38,7 +38,8 @@ def build(room):
     with open(f"{room}/crates.txt", "w", encoding="utf-8") as listed:
         listed.write("".join(lines) + f"measure_pruning: {' '.join(CRATES)}\n")
     os.makedirs(f"{room}/crates/measure_pruning/src")
-    shutil.copy(f"{HERE}/measure_pruning/main.txt", f"{room}/crates/measure_pruning/src/main.rt")
+    for name in ("main", "trace"):
+        shutil.copy(f"{HERE}/measure_pruning/{name}.txt", f"{room}/crates/measure_pruning/src/{name}.rt")
     program = f"{room}/program"
     subprocess.run([sys.executable, f"{room}/tests/unproved.py", "measure_pruning", program], check=True)
     return program

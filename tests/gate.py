@@ -7,7 +7,9 @@
 tries the wrong bodies of must-fail/ and runs the programs. As soon as it says of a crate that it is proved or
 kept, tests/wrong_bodies.py tries the others of that crate beside it, at the lowest priority, so that proofs
 wait for nothing; then tests/refused_calls.py looks whether each public call has its rows under refused memory,
-tests/cases.py plays the cases, and tests/program_runs.py runs the program. The last line counts what passed; the exit status is 1 where anything did not. Called by .ci/run.
+tests/cases.py plays the cases, and tests/program_runs.py runs the program; at last what docs/ has of specs/ and of
+crates.txt is compared with these, and the commands that the documents show are run. The last line counts what
+passed; the exit status is 1 where anything did not. Called by .ci/run.
 """
 
 import os
@@ -26,9 +28,19 @@ COUNTED = {
     "calls under refusals": r"refused calls: (\d+) as wanted",
     "rows": r"cases: (\d+) rows, \d+ wrong",
     "program runs": r"program runs: (\d+) as wanted",
+    "words": r"definitions: (\d+) as specs/ says",
+    "crates drawn": r"layers: (\d+) crates as crates.txt says",
+    "documented commands": r"documented commands: (\d+) as wanted",
 }
 # what is run behind the proofs
-PLAYED = {"calls under refusals": "refused_calls.py", "rows": "cases.py", "program runs": "program_runs.py"}
+PLAYED = {
+    "calls under refusals": ["refused_calls.py"],
+    "rows": ["cases.py"],
+    "program runs": ["program_runs.py"],
+    "words": ["definitions.py", "--check"],
+    "crates drawn": ["layers.py", "--check"],
+    "documented commands": ["documented_commands.py"],
+}
 # what `rt ci` says of a crate that it has proved, or that an earlier run on this machine had
 PROVED = re.compile(r"rt: (\w+) (?:proved|is kept: .*)")
 PRINTING = threading.Lock()
@@ -80,9 +92,9 @@ def main():
         stages = [proofs, wrong_bodies]
         # what is not proved is not built either
         if proofs.is_well:
-            for name, script in PLAYED.items():
+            for name, (script, *words) in PLAYED.items():
                 stages.append(Stage(name))
-                stages[-1].run([sys.executable, f"tests/{script}"])
+                stages[-1].run([sys.executable, f"tests/{script}", *words])
         for it in tried:
             it.result()
     is_well = all(it.is_well for it in stages) and len(stages) == len(COUNTED) and not waiting

@@ -1,6 +1,6 @@
 #!/usr/bin/env python3
-"""All cases and all runs of the program, on builds of which nothing is proved: for whoever changed a body
-and wants to know within minutes. The gate is `python3 tests/gate.py`.
+"""All cases, all runs of the program and all that the documents show, on builds of which nothing is proved: for
+whoever changed a body and wants to know within minutes. The gate is `python3 tests/gate.py`.
 
     python3 tests/quick.py [--seed S] [--rows N]
 """
@@ -34,6 +34,9 @@ def main(words):
             [f"{ROOT}/tests/refused_calls.py"],
             [f"{ROOT}/tests/cases.py", "--built", room, *words],
             [f"{ROOT}/tests/program_runs.py", f"{room}/qm_search"],
+            [f"{ROOT}/tests/definitions.py", "--check"],
+            [f"{ROOT}/tests/layers.py", "--check"],
+            [f"{ROOT}/tests/documented_commands.py"],
         ]
         failed = [subprocess.run([sys.executable, *it], check=False).returncode for it in runs]
     print("nothing of this was proved")

@@ -1,0 +1,2 @@
+pub mod Rarity
+pub mod Rated
