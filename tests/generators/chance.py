@@ -146,5 +146,18 @@ class Trees:
                 return made
 
 
+class GreatTrees(Trees):
+    """The same, of which many have bounds or boosts near the greatest score."""
+
+    def points(self):
+        near = [GREATEST // part + more for part in (1, 2, 3, 7) for more in (-1, 0, 1)]
+        return self.random.choice([0, 1, 2, 1000, *(it for it in near if it <= GREATEST)])
+
+    def tree(self, depth):
+        if depth > 0 and self.random.random() < 0.2:
+            return Boost(self.points(), self.tree(depth - 1))
+        return super().tree(depth)
+
+
 def boost(random):
     return random.choice([0, 1, 1, 2, 5, 1000, GREATEST])

@@ -2,7 +2,7 @@
 
 from generators import calls, chance, spelled
 from generators.scorers import Left
-from model import Searcher, matches, tree_of
+from model import GREATEST, Searcher, fits, matches, tree_of
 
 
 def weights(random):
@@ -81,6 +81,35 @@ def of_scorer(random, segment, field, depth):
             yield from calls.of_scorer(random, listed, random.choice([8, 20, 40]), segment.deleted)
 
 
+def of_bounds(random, field, depth):
+    """Whether a weight fits at some boosts."""
+    trees = chance.GreatTrees(random, field)
+    # of several one that some boost decides of, where there is one
+    for _ in range(5):
+        tree = trees.tree(depth)
+        if fits(tree, 0) and not fits(tree, GREATEST):
+            break
+    # the greatest boost at which it fits, by halving, since it fits at each below one at which it does
+    most, past = 0, GREATEST + 1
+    while past - most > 1:
+        middle = (most + past) // 2
+        most, past = (middle, past) if fits(tree, middle) else (most, middle)
+    near = {it for it in (most - 1, most, most + 1) if 0 <= it <= GREATEST}
+    yield f"weight {spelled.weight(tree)}"
+    yield "  takes no memory"
+    for boost in sorted({0, 1, 2, chance.boost(random), *near}):
+        yield spelled.row(f"fits {boost}", "true" if fits(tree, boost) else "false")
+
+
+def of_great_query(random, searcher, field, depth):
+    """What is refused of a query that doesn't fit, whatever the segments hold."""
+    query = chance.GreatTrees(random, field, are_queries=True).tree(depth)
+    if not fits(tree_of(query, searcher, True), 1):
+        yield f"query {spelled.query(query, random)}"
+        yield spelled.row("fitting", "refused ScoreBound")
+        yield spelled.row(f"top {random.choice([0, 1, 7])}", "refused ScoreBound")
+
+
 def corpus(random):
     """Some segments over one field, with the block that makes them, and a searcher over them."""
     field = random.choice(chance.FIELDS)
@@ -101,3 +130,6 @@ def by_chance(random):
         yield from of_query(random, searcher, field, depth)
     for depth in (0, 0, 1, 1, 2, 2, 2, 3, 3):
         yield from of_scorer(random, searcher.segments[0], field, depth)
+    for depth in (0, 1, 2, 2, 3, 3):
+        yield from of_bounds(random, field, depth)
+        yield from of_great_query(random, searcher, field, depth)

@@ -42,7 +42,25 @@ LISTED = [
         "weights that pass the greatest score",
         b"doc a\nweight a 9223372036854775807\nscores term a\nscores bool 0 2 + term a + term a\n"
         b"scores bool 1 2 + term a + term a\n",
-        b"0:4611686018427387903\nline 4: refused 9\n\n",
+        b"0:4611686018427387903\nline 4: refused 9\nline 5: refused 9\n",
+        1,
+    ),
+    # of each two the same query is asked of a segment in one part, and of one in two
+    (
+        "weights that pass the greatest score, in a word that a part does not hold",
+        b"weight a 9223372036854775807\ndoc a\ndoc a\ndocs all\ndoc b\nscores bool 0 2 ? term a ? term b\n"
+        b"docs prefix 9 1 a\nscores bool 0 2 ? term a ? term b\n",
+        b"0 1\nline 6: refused 9\n0 1\nline 8: refused 9\n",
+        1,
+    ),
+    (
+        "weights that pass the greatest score, in words that no document holds",
+        b"weight a 9223372036854775807\nscores bool 0 2 ? term a ? term a\ndoc b\nscores bool 0 2 ? term a ? term a\n"
+        b"prune 0 bool 0 2 ? term a ? term a\ntop 0 bool 0 2 ? term a ? term a\ncount bool 0 2 ? term a ? term a\n"
+        b"docs bool 0 2 ? term a ? term a\nscores boost 2 term a\nscores bool 0 2 + term b - boost 2 term a\n"
+        b"scores const 1 boost 2 term a\nscores boost 0 phrase 0 2 a a\nscores boost 0 boost 2 term a\n",
+        b"line 2: refused 9\nline 4: refused 9\nline 5: refused 9\nline 6: refused 9\n0\n\nline 9: refused 9\n"
+        b"line 10: refused 9\nline 11: refused 9\nline 12: refused 9\n\n",
         1,
     ),
     (

@@ -131,14 +131,14 @@ fn ask(
     if let Some(address) = address_of(alloc, call)? {
         return explain_at(alloc, scales.world, query, address, memory, text);
     }
-    if call == "weight" {
-        let weight = weigh(alloc, scales, query, memory)?;
+    if call == "weight" || call == "fitting" {
+        let weight = weigh(alloc, scales, query, call == "fitting", memory)?;
         return Ok(text.push_str(kind_of_weight(&weight))?);
     }
     let weight = if call == "specialized" {
         specialize(alloc, scales, query, memory)?
     } else {
-        weigh(alloc, scales, query, Memory::Ample)?
+        weigh(alloc, scales, query, false, Memory::Ample)?
     };
     let segment = scales.world.segment(segment)?;
     if call == "specialized" {

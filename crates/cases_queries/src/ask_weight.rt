@@ -6,6 +6,7 @@ use crate::phrase_counts::{write_counts, write_kind};
 use crate::runs::{run_called, run_documents, run_each, run_pruning, run_slices};
 use crate::world::World;
 use cases::{Asker, Fault, Memory, Pruning, Reply, end_refusals, replies_of, threshold_of};
+use qm_docset::Score;
 use qm_postings::SegmentReader;
 use qm_weight::{AnyWeight, Weight};
 use std::alloc::Global;
@@ -53,6 +54,9 @@ pub fn ask_weight(
     memory: Memory,
     text: &mut String,
 ) -> Result<(), Fault> {
+    if let Some(boost) = call.strip_prefix("fits ") {
+        return write_fits(weight, boost, text);
+    }
     match read_asked(alloc, call)? {
         Asked::Each => run_each(alloc, segment, weight, memory, text),
         Asked::Slices => run_slices(alloc, segment, weight, memory, text),
@@ -66,6 +70,17 @@ pub fn ask_weight(
         Asked::PhraseCounts => write_counts(alloc, segment, weight, text),
         Asked::Kind => write_kind(alloc, segment, weight, memory, text),
     }
+}
+
+// Whether a weight fits at the boost that a text spells.
+fn write_fits(weight: &AnyWeight, boost: &str, text: &mut String) -> Result<(), Fault> {
+    let Ok(boost) = boost.parse::<Score>() else {
+        return Err(Fault::NotUnderstood);
+    };
+    if boost < 0 {
+        return Err(Fault::NotAllowed);
+    }
+    Ok(write!(text, "{}", weight.fits(boost))?)
 }
 
 fn prune(

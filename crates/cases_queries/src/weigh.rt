@@ -4,7 +4,7 @@ use crate::provider::{Manner, OwnProvider};
 use crate::world::World;
 use cases::{Fault, Memory, end_refusals};
 use qm_postings::{Bm25StatisticsProvider, Searcher};
-use qm_query::{AnyQuery, EnableScoring, Query, TermQuery};
+use qm_query::{AnyQuery, EnableScoring, Query, TermQuery, fitting_weight};
 use qm_weight::AnyWeight;
 use std::alloc::Global;
 use std::cell::Cell;
@@ -29,27 +29,28 @@ impl<'a> Scales<'a> {
     }
 }
 
-/// The weight of a query, by `Query::weight`.
+/// The weight of a query, by `Query::weight`, or by `fitting_weight` where it has to fit.
 pub fn weigh(
     alloc: Global,
     scales: Scales<'_>,
     query: &AnyQuery,
+    must_fit: bool,
     memory: Memory,
 ) -> Result<Box<AnyWeight>, Fault> {
     let searcher = &scales.world.searcher;
     let provider = scales.provider();
     if !scales.is_scored {
         let off = EnableScoring::<Searcher>::disabled_from_searcher(searcher);
-        return weigh_under(alloc, query, off, memory);
+        return weigh_under(alloc, query, off, must_fit, memory);
     }
     match scales.world.manner {
         Manner::Searcher => {
             let on = EnableScoring::enabled_from_searcher(searcher);
-            weigh_under(alloc, query, on, memory)
+            weigh_under(alloc, query, on, must_fit, memory)
         }
         _ => {
             let on = EnableScoring::enabled_from_statistics_provider(&provider, searcher);
-            weigh_under(alloc, query, on, memory)
+            weigh_under(alloc, query, on, must_fit, memory)
         }
     }
 }
@@ -58,10 +59,15 @@ fn weigh_under<P: Bm25StatisticsProvider>(
     alloc: Global,
     query: &AnyQuery,
     scoring: EnableScoring<'_, P>,
+    must_fit: bool,
     memory: Memory,
 ) -> Result<Box<AnyWeight>, Fault> {
     memory.begin(alloc);
-    let weight = query.weight(alloc, scoring);
+    let weight = if must_fit {
+        fitting_weight(query, alloc, scoring)
+    } else {
+        query.weight(alloc, scoring)
+    };
     end_refusals(alloc);
     match weight {
         Ok(weight) => Ok(weight),

@@ -6,6 +6,7 @@ ghost use Rattle.std.specs.FinMap.{empty};
 ghost use Rattle.std.specs.List.Sorted.{IsNonDecreasing};
 ghost use Rattle.std.specs.Option.{ForSome};
 ghost use Rattle.qm_docset.specs.declared.numbers.TheConstants.{TERMINATED};
+ghost use Rattle.qm_postings.specs.Segment.{IsGood};
 ghost use Rattle.qm_postings.specs.Statistics.{with_segments, with_weight};
 ghost use Rattle.qm_index.specs.Numbers.{count_of, deleted_among, document_count};
 ghost use Rattle.qm_index.specs.OpenDocuments.{IsBadDraft, IsDocumentRefusal, segment_of, undeleted};
@@ -83,6 +84,8 @@ impl Index {
         ensures block_len { IsErrOf result QueryError.BadBlockLength ↔ ((block_len ≡ 0) ⊎ (128 < block_len)) }
         ensures bad_norms { IsErrOf result QueryError.BadNorms → ¬ IsNonDecreasing norms }
         ensures good { IfOk result (λ _. IsNonDecreasing norms) }
+        ensures refreshed { IfOk result IsRefreshed }
+        ensures merged { IfOk result IsMerged }
         ensures refused { IfErr result IsIndexRefusal }
     {
         if block_len == 0 || block_len > 128 {
@@ -113,15 +116,20 @@ impl Index {
     /// Refused with [`QueryError::TooManyDocuments`] exactly where the open segment has 2147483647
     /// documents; else with [`QueryError::BadDocument`] exactly where a field isn't in the schema, or two
     /// texts of one field have a word in common, or a text has more than 4294967295 words, want of memory
-    /// aside; and else with [`QueryError::Memory`] alone. Then nothing is added.
+    /// aside; and else with [`QueryError::Memory`] alone. Then nothing is added, and what could be searched
+    /// still can.
     pub fn add_document(
         &mut self,
         alloc: Global,
         texts: Vec<(Field, String)>,
     ) -> Result<(), QueryError>
         ensures added { OnOk result (indexed self.new ≡ with_document_of (indexed self.old) (texts_draft texts.items)) }
+        ensures good { OnOk result (IsGood (indexed self.old).current.schema (texts_draft texts.items)) }
         ensures unchanged { OnErr result (indexed self.new ≡ indexed self.old) }
         ensures statistics { statistics self.new ≡ statistics self.old }
+        ensures refreshed { OnErr result (IsRefreshed self.old → IsRefreshed self.new) }
+        ensures merged { IsMerged self.old → IsMerged self.new }
+        ensures many { IsErrOf result QueryError.TooManyDocuments ↔ (length (indexed self.old).current.documents ≡ TERMINATED) }
         ensures refused { IfErr result (IsDocumentRefusal (indexed self.old).current (texts_draft texts.items)) }
     {
         if self.documents.len() >= TERMINATED as usize {
@@ -189,11 +197,14 @@ impl Index {
     /// Ends the open segment, which is built as one, and opens another. Costs what its documents do.
     ///
     /// Refused with [`QueryError::TooManySegments`] exactly where there are 4294967295 with the open
-    /// one, else with [`QueryError::Memory`] alone. Then it stays open.
+    /// one, else with [`QueryError::Memory`] alone. Then it stays open. Where it is ended all documents can
+    /// be searched, without a [`Index::refresh`].
     pub fn end_segment(&mut self, alloc: Global) -> Result<(), QueryError>
         ensures ended { OnOk result (indexed self.new ≡ with_segment_ended (indexed self.old)) }
         ensures unchanged { OnErr result (indexed self.new ≡ indexed self.old) }
         ensures statistics { statistics self.new ≡ statistics self.old }
+        ensures refreshed { OnOk result (IsRefreshed self.new) }
+        ensures merged { OnOk result (IsMerged self.new) }
         ensures many { IsErrOf result QueryError.TooManySegments ↔ (length (all_segments (indexed self.old)) ≡ 4294967295) }
         ensures refused { IfErr result (λ e. (e ≡ QueryError.Memory) ⊎ (e ≡ QueryError.TooManySegments)) }
     {

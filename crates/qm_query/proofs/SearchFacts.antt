@@ -24,6 +24,7 @@ use Rattle.qm_query.specs.Fields.{term_field_refusal}
 use Rattle.qm_query.specs.Offsets.{first_field, terms_of}
 use Rattle.qm_query.specs.Query.{Query, Subqueries, Disjuncts, all, none, term, phrase, phrase_prefix, boolean, boost, constant, disjunction_max, no_subquery}
 use Rattle.qm_query.specs.Query.{subquery, no_disjunct, disjunct}
+use Rattle.qm_query.specs.QueryScorers.{FitsAtOne, QueryFits}
 use Rattle.qm_query.specs.QueryTree.{clause_trees, disjunct_trees, if_scoring, leaf_weighing, query_tree, read_option}
 use Rattle.qm_query.specs.ScoringTrees.{scoring_if_enabled}
 use Rattle.qm_query.specs.Searches.{IsCountOf, IsCountRefusal, IsExplainedIn, IsExplanationOf, IsUnexplained, IsUnexplainedIn, count_in, with_scores}
@@ -202,6 +203,9 @@ module _ (S : Ghosts Searched) (searcher : Searched) (under : EnableScoring Sear
   pub count_refused : (r : Result ℕ QueryError) (t : Tree) → t ≡ query_tree S under q → IfErr r (IsRefusalOf t 1) → IfErr r (IsCountRefusal S searcher q)
   count_refused r t same refused = counts_refusal S searcher q r t (same ∙ off_tree S searcher q under off) refused
 
+  pub count_fits : (t : Tree) → t ≡ query_tree S under q → FitsAtOne t → QueryFits S (without_scores searcher) q
+  count_fits t same fits = subst FitsAtOne (same ∙ off_tree S searcher q under off) fits
+
   pub count_unweighed : (error : QueryError) → schema_of under ≡ searcher.schema → IsWeightRefusal S under q error → IsCountRefusal S searcher q error
   count_unweighed error fields refused = record { refused = inl (off_refusal S searcher q under error off fields refused) }
 
@@ -280,12 +284,21 @@ module _ (S : Ghosts Searched) (searcher : Searched) (under : EnableScoring Sear
     found_best items k (Ok v) found = record { are = subst (λ u. AreBestOf k u searcher.segments (items v)) searched_tree (found searched_scores) }
     found_best items k (Err e) found = found
 
+    pub best_fits : FitsAtOne t → QueryFits S (with_scores searcher) q
+    best_fits fits = subst FitsAtOne searched_tree fits
+
     pub best_refused : {V : Type 0} (r : Result V QueryError) → IfErr r (IsRefusalOf t 1) → IfErr r (IsTopDocsRefusal S searcher q)
     best_refused (Ok v) refused = refused
     best_refused (Err e) refused = record { refused = inr (subst (λ u. IsRefusalOf u 1 e) searched_tree refused) }
 
   pub best_unweighed : (error : QueryError) → schema_of under ≡ searcher.schema → IsWeightRefusal S under q error → IsTopDocsRefusal S searcher q error
   best_unweighed error fields refused = record { refused = inl (on_refusal S searcher q under error on fields refused) }
+
+-- ---- what holds anyway
+
+pub if_ok_anyway : {A E P : Type 0} (r : Result A E) → P → IfOk r (λ a. P)
+if_ok_anyway (Ok a) holds = holds
+if_ok_anyway (Err e) holds = tt
 
 -- ---- the searcher as the provider
 

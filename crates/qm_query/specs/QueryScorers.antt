@@ -10,7 +10,7 @@ use Rattle.qm_query.specs.WeightRefusals.{IsWeightRefusal}
 use Rattle.qm_query.specs.declared.enable_scoring.EnableScoring.{EnableScoring}
 use Rattle.qm_schema.specs.declared.error.QueryError.{QueryError}
 use Rattle.qm_weight.specs.Scorers.{IsRefusalOf, IsScorerOf}
-use Rattle.qm_weight.specs.Tree.{Tree, is_scoring}
+use Rattle.qm_weight.specs.Tree.{Fits, LeavesFit, Tree, is_scoring}
 
 -- a placed cursor over what the query means in the segment at a boost
 abbrev pub IsQueryScorer : {T P : Type 0} → Cursors T → Ghosts P → EnableScoring P → Query → ℕ → Segment → T → Type 0
@@ -23,6 +23,15 @@ ScoresIfEnabled under tree = IsTrue (is_enabled under) → IsTrue (is_scoring tr
 -- .. in that of a query
 abbrev pub IsScoringIfEnabled : {P : Type 0} → Ghosts P → EnableScoring P → Query → Type 0
 IsScoringIfEnabled S under query = ScoresIfEnabled under (query_tree S under query)
+
+-- what each leaf of a tree weighs is a score, and so is at each node what it may score at a boost of 1
+pub record FitsAtOne (tree : Tree) : Type 0 where
+  pub leaves : LeavesFit tree
+  pub nodes : Fits tree 1
+
+-- .. in that of a query
+abbrev pub QueryFits : {P : Type 0} → Ghosts P → EnableScoring P → Query → Type 0
+QueryFits S under query = FitsAtOne (query_tree S under query)
 
 -- a refusal of the query's weight, or of the scorer of its tree at a boost
 abbrev pub IsQueryRefusal : {P : Type 0} → Ghosts P → EnableScoring P → Query → ℕ → QueryError → Type 0

@@ -6,10 +6,10 @@ ghost use Rattle.qm_weight.specs.Weights.{tree_of};
 ghost use Rattle.qm_query.specs.EnableScoring.{schema_of};
 ghost use Rattle.qm_query.specs.Fields.{is_served};
 ghost use Rattle.qm_query.specs.Query.{Query, query_of};
-ghost use Rattle.qm_query.specs.QueryScorers.{ScoresIfEnabled};
+ghost use Rattle.qm_query.specs.QueryScorers.{QueryFits, ScoresIfEnabled};
 ghost use Rattle.qm_query.specs.QueryTerms.{MayVisitTerms, VisitsTerms, terms_of_query};
 ghost use Rattle.qm_query.specs.QueryTree.{query_tree};
-ghost use Rattle.qm_query.specs.Searches.{IsCountOf, IsCountRefusal, IsExplainedAt, IsUnexplainedAt};
+ghost use Rattle.qm_query.specs.Searches.{IsCountOf, IsCountRefusal, IsExplainedAt, IsUnexplainedAt, without_scores};
 ghost use Rattle.qm_query.specs.WeightRefusals.{IsWeightRefusal};
 
 use crate::all_query::AllQuery;
@@ -20,6 +20,7 @@ use crate::const_score_query::ConstScoreQuery;
 use crate::disjunction_max_query::DisjunctionMaxQuery;
 use crate::empty_query::EmptyQuery;
 use crate::enable_scoring::EnableScoring;
+use crate::fitting::check_fits;
 use crate::phrase_prefix_query::PhrasePrefixQuery;
 use crate::phrase_query::PhraseQuery;
 use crate::searches::{count_alive, segment_at};
@@ -60,14 +61,17 @@ pub trait Query {
 
     /// How many documents of all segments of a searcher match and weren't deleted, with scoring off.
     ///
-    /// Refused as [`weight`](Query::weight) is, and then as `Weight::count` is for a segment. Builds
-    /// the weight once, and costs what `Weight::count` does for each segment.
+    /// Refused as [`weight`](Query::weight) is, then with [`QueryError::ScoreBound`] exactly where the
+    /// query doesn't fit, whatever the segments are, and else with [`QueryError::Memory`] alone. Builds the
+    /// weight once, and costs what `Weight::count` does for each segment.
     fn count(&self, alloc: Global, searcher: &Searcher) -> Result<usize, QueryError>
         ensures count { IfOk result (IsCountOf ⟦<Searcher as Bm25StatisticsProvider>⟧ searcher.now (query self.now)) }
+        ensures fits { IfOk result (λ _. QueryFits ⟦<Searcher as Bm25StatisticsProvider>⟧ (without_scores searcher.now) (query self.now)) }
         ensures refused { IfErr result (IsCountRefusal ⟦<Searcher as Bm25StatisticsProvider>⟧ searcher.now (query self.now)) }
     {
         let enable_scoring = EnableScoring::<Searcher>::disabled_from_searcher(searcher);
         let weight = self.weight(alloc, enable_scoring)?;
+        check_fits(&weight)?;
         count_alive(&weight, alloc, searcher)
     }
 

@@ -5,12 +5,15 @@ ghost use Rattle.qm_weight.specs.Scorers.{IsRefusalOf};
 ghost use Rattle.qm_weight.specs.Tree.{is_scoring};
 ghost use Rattle.qm_weight.specs.Weights.{tree_of};
 ghost use Rattle.qm_query.specs.KeptDocuments.{AreKeptToo};
+ghost use Rattle.qm_query.specs.QueryScorers.{QueryFits};
+ghost use Rattle.qm_query.specs.Searches.{with_scores};
 ghost use Rattle.qm_query.specs.TopDocs.{AreBestOf, AreTopDocs, IsTopDocsRefusal, alive_in};
 
 mod kept_document;
 mod kept_documents;
 
 use crate::enable_scoring::EnableScoring;
+use crate::fitting::check_fits;
 use crate::query::Query;
 use kept_documents::KeptDocuments;
 use qm_docset::Score;
@@ -50,9 +53,9 @@ impl TopDocs {
     /// each with its score, in points, and its address: by score downwards, then by address upwards,
     /// and at most so many. The searcher gives the weights of the terms.
     ///
-    /// Refused as [`Query::weight`] is, with a limit of 0 too, and then as `Weight::for_each_pruning` is
-    /// for a segment: with [`QueryError::ScoreBound`] only where the query doesn't fit, and else with
-    /// [`QueryError::Memory`] alone. Takes room for the smaller of the limit and the number of documents
+    /// Refused as [`Query::weight`] is, with a limit of 0 too, then with [`QueryError::ScoreBound`] exactly
+    /// where the query doesn't fit, whatever the segments are, and else with [`QueryError::Memory`] alone.
+    /// Takes room for the smaller of the limit and the number of documents
     /// that weren't deleted, so that a great limit is no refusal by itself.
     ///
     /// Builds the weight once, and costs what `Weight::for_each_pruning` does for each segment, with a
@@ -66,9 +69,11 @@ impl TopDocs {
         searcher: &Searcher,
     ) -> Result<Vec<(Score, DocAddress)>, QueryError>
         ensures best { IfOk result (λ found. AreTopDocs ⟦<Searcher as Bm25StatisticsProvider>⟧ searcher.now (Q.query query.now) self.now found.items) }
+        ensures fits { IfOk result (λ _. QueryFits ⟦<Searcher as Bm25StatisticsProvider>⟧ (with_scores searcher.now) (Q.query query.now)) }
         ensures refused { IfErr result (IsTopDocsRefusal ⟦<Searcher as Bm25StatisticsProvider>⟧ searcher.now (Q.query query.now)) }
     {
         let weight = query.weight(alloc, EnableScoring::enabled_from_searcher(searcher))?;
+        check_fits(&weight)?;
         best_alive(&weight, alloc, searcher, self.limit)
     }
 }

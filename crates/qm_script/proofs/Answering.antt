@@ -26,7 +26,7 @@ use Rattle.qm_script.specs.Script as language
 use Rattle.qm_script.specs.ScriptSegments.{Script}
 use Rattle.qm_script.specs.State.{State}
 use Rattle.qm_script.specs.Text.{IsListing, listing_text}
-use Rattle.qm_script.specs.Under.{IsForDocuments, IsForScores, IsListingRefusal, tree_of}
+use Rattle.qm_script.specs.Under.{IsForDocuments, IsForScores, IsListingRefusal, IsWithinScores, tree_of}
 use Rattle.qm_script.specs.declared.answer.Answer.{Answer}
 use Rattle.qm_script.specs.declared.answer.Answer.TheVariants.{Refused}
 use Rattle.qm_script.proofs.AskedFields.{score-refusal}
@@ -71,18 +71,21 @@ module _ (text_of : Query → List ℕ) (enable : EnableScoring Searched) (q : l
 
   -- its text was written, or refused
   pub text-answer : (query : Query) (r : Result (Unit {0}) QueryError) (answer : Answer) → schema_of enable ≡ script_fields → asked q ≡ Ok query →
-      OnOk r (text ≡ text_of query) → IfErr r (IsListingRefusal enable query) → IsListingAnswer r answer → AnswersQuery text_of enable q answer text
-  text-answer query (Ok done) answer fields built written refused is = subst (λ a. AnswersQuery text_of enable q a text) (sym is) (query, built, written)
-  text-answer query (Err e) answer fields built written refused is =
+      OnOk r (text ≡ text_of query) → OnOk r (IsWithinScores enable query) → IfErr r (IsListingRefusal enable query) → IsListingAnswer r answer →
+      AnswersQuery text_of enable q answer text
+  text-answer query (Ok done) answer fields built written within refused is =
+      subst (λ a. AnswersQuery text_of enable q a text) (sym is) (record { query = query; built = built; within = within; written = written })
+  text-answer query (Err e) answer fields built written within refused is =
       subst (λ a. AnswersQuery text_of enable q a text) (sym is) (e, refl, line-refusal query e fields built refused)
 
   -- the same of a listing
   pub listing-answer : (query : Query) (items : List (ℕ × Option ℤ)) (r : Result (Unit {0}) QueryError) (answer : Answer) →
       schema_of enable ≡ script_fields → asked q ≡ Ok query → listing_text items ≡ text_of query → OnOk r (IsListing items text) →
-      IfErr r (IsListingRefusal enable query) → IsListingAnswer r answer → AnswersQuery text_of enable q answer text
-  listing-answer query items (Ok done) answer fields built same lists refused is =
-      text-answer query (Ok done) answer fields built (lists.listed ∙ same) refused is
-  listing-answer query items (Err e) answer fields built same lists refused is = text-answer query (Err e) answer fields built tt refused is
+      OnOk r (IsWithinScores enable query) → IfErr r (IsListingRefusal enable query) → IsListingAnswer r answer → AnswersQuery text_of enable q answer text
+  listing-answer query items (Ok done) answer fields built same lists within refused is =
+      text-answer query (Ok done) answer fields built (lists.listed ∙ same) within refused is
+  listing-answer query items (Err e) answer fields built same lists within refused is =
+      text-answer query (Err e) answer fields built tt tt refused is
 
 -- what is written behind nothing
 pub behind_nothing : (text more : List ℕ) → length text ≡ 0 → text ++ more ≡ more

@@ -1,17 +1,18 @@
 -- The field of a script's documents serves every query that a line asks: so of what may be refused where it is
 -- listed, memory aside, its scores alone are left.
-use Rattle.std.proofs.Common.{◌≡◌, ◌⊎◌, inl, inr, ℕ, ◌+◌, ◌==◌, ◌&&◌, Bool, true, false, if◌then◌else◌, nat_lt, is_none, List, [], ◌∷◌, Option, None, Some, Ok}
+use Rattle.std.proofs.Common.{◌≡◌, ◌<◌, ◌⊎◌, arith, inl, inr, ℕ, ◌+◌, ◌==◌, ◌&&◌, Bool, true, false, if◌then◌else◌, nat_lt, is_none, List, [], ◌∷◌, Option, None, Some, Ok}
 use Rattle.std.proofs.Common.{IfOk, length, map, refl, ap, sym, subst}
 use Rattle.std.proofs.lemmas.Bool.{false≢true}
 use Rattle.std.specs.List.{enumerate_from}
 use Rattle.qm_postings.specs.Statistics.{Searched}
 use Rattle.qm_postings.specs.contracts.searcher.SearcherBm25StatisticsProvider.TheImpl.{ghosts}
-use Rattle.qm_query.specs.EnableScoring.{schema_of}
+use Rattle.qm_query.specs.EnableScoring.{is_enabled, schema_of}
 use Rattle.qm_query.specs.Fields.{are_clauses_served, are_disjuncts_served, is_served, phrase_field_refusal, prefix_field_refusal, term_field_refusal}
-use Rattle.qm_query.specs.Offsets.{first_field}
+use Rattle.qm_query.specs.Offsets.{first_field, terms_of}
 use Rattle.qm_query.specs.Query as query
 use Rattle.qm_query.specs.Query.{Query, Subqueries, Disjuncts, all, none, term, phrase, phrase_prefix, boolean, boost, constant, disjunction_max, no_subquery}
 use Rattle.qm_query.specs.Query.{subquery, no_disjunct, disjunct}
+use Rattle.qm_query.specs.QueryTree.{clause_trees, disjunct_trees, full_prefix_tree, if_scoring, leaf_weighing}
 use Rattle.qm_query.specs.WeightRefusals.{IsByProvider, IsClauseRefused, IsDisjunctRefused, IsLeafRefusal, IsRefused}
 use Rattle.qm_query.specs.declared.enable_scoring.EnableScoring.{EnableScoring}
 use Rattle.qm_query.specs.declared.enable_scoring.EnableScoring.TheVariants.{Enabled, Disabled}
@@ -25,8 +26,11 @@ use Rattle.qm_script.specs.Script.{no_clause, clause, no_query}
 use Rattle.qm_script.specs.Under.{IsListingRefusal, IsScoreRefusal, tree_of}
 use Rattle.qm_script.specs.ProgramNumbers.{body_field}
 use Rattle.qm_script.proofs.AskedTrees.{bind-ok, test-ok, unless-ok}
+use Rattle.qm_script.proofs.WordLemmas.{not_zero}
 use Rattle.qm_weight.specs.Scorers.{IsRefusalOf}
-use Rattle.qm_weight.specs.Tree.{Fits, Tree}
+use Rattle.qm_weight.specs.Tree as tree
+use Rattle.qm_weight.specs.Tree.{ClauseLeavesFit, Fits, LeavesFit, Tree, WeighsScore}
+use Rattle.qm_weight.specs.Weights.{prefix_alone}
 
 -- ---- what is asked is served
 
@@ -102,6 +106,21 @@ leaf-refused : (due : Option QueryError) (by_provider : QueryError → Type 0) (
 leaf-refused None by_provider e served refused = refused
 leaf-refused (Some d) by_provider e served refused = absurd (false≢true served)
 
+-- what is inside a node, or stands for it where scoring is off
+boost-leaves : (scoring : Bool) (k : ℕ) (inside : Tree) → LeavesFit (if_scoring scoring (tree.boost k) inside) → LeavesFit inside
+boost-leaves true k inside fits = fits
+boost-leaves false k inside fits = fits
+
+constant-leaves : (scoring : Bool) (s : ℕ) (inside : Tree) → LeavesFit (if_scoring scoring (tree.constant s) inside) → LeavesFit inside
+constant-leaves true s inside fits = fits
+constant-leaves false s inside fits = fits
+
+-- a prefix behind full terms
+full-leaves : (is_alone : Bool) → is_alone ≡ false → (alone : TermKey) (most : ℕ) (whole : Tree) →
+    LeavesFit (if is_alone then prefix_alone alone most else whole) → LeavesFit whole
+full-leaves true isnt alone most whole fits = absurd (false≢true (sym isnt))
+full-leaves false isnt alone most whole fits = fits
+
 module _ (e : QueryError) where
   by-provider : (enable : EnableScoring Searched) (terms : List TermKey) → IsByProvider ghosts enable terms e → e ≡ ScoreBound
   by-provider (Enabled searcher provider) terms refused = refused.0
@@ -132,6 +151,46 @@ module _ (e : QueryError) where
       disjuncts-bound (disjunct q ds) served (inl here) = refused-bound q (both _ _ served).0 here
       disjuncts-bound (disjunct q ds) served (inr later) = disjuncts-bound ds (both (is_served (schema_of enable) q) _ served).1 later.1
 
+  leaf-past : (enable : EnableScoring Searched) (terms : List TermKey) → IsByProvider ghosts enable terms e →
+      ¬ WeighsScore (leaf_weighing ghosts enable terms)
+  leaf-past (Enabled searcher provider) terms refused = λ fits. absurd (omega (arith, refused.1, fits))
+  leaf-past (Disabled schema searcher) terms refused = absurd refused
+
+  module _ (enable : EnableScoring Searched) where
+    -- what the searcher refuses weighs too much
+    mutual
+      refused-past : (q : Query) → is_served (schema_of enable) q ≡ true → IsRefused ghosts enable q e → ¬ LeavesFit (tree_of enable q)
+      refused-past all served refused = absurd refused
+      refused-past none served refused = absurd refused
+      refused-past (term t) served refused =
+          leaf-past enable _ (leaf-refused (term_field_refusal (schema_of enable) t.term.field) _ e served refused)
+      refused-past (phrase p) served refused =
+          leaf-past enable _ (leaf-refused (phrase_field_refusal (schema_of enable) (first_field (λ t. t.1) p.terms)) _ e served refused)
+      refused-past (phrase_prefix p) served refused =
+          let by = leaf-refused (prefix_field_refusal (schema_of enable) p.terms p.prefix.1.field) _ e served refused in
+          λ fits. leaf-past enable (terms_of p.terms) by.1 (full-leaves (length p.terms == 0) (not_zero (length p.terms) by.0) p.prefix.1
+          p.max_expansions (full_prefix_tree ghosts enable p) fits)
+      refused-past (boolean minimum clauses) served refused = clauses-past clauses served refused
+      refused-past (boost factor inside) served refused = λ fits.
+          refused-past inside served refused (boost-leaves (is_enabled enable) factor (tree_of enable inside) fits)
+      refused-past (constant score inside) served refused = λ fits.
+          refused-past inside served refused (constant-leaves (is_enabled enable) score (tree_of enable inside) fits)
+      refused-past (disjunction_max tie_breaker disjuncts) served refused = disjuncts-past disjuncts served refused
+
+      clauses-past : (cs : Subqueries) → are_clauses_served (schema_of enable) cs ≡ true → IsClauseRefused ghosts enable cs e →
+          ¬ ClauseLeavesFit (clause_trees ghosts enable cs)
+      clauses-past no_subquery served refused = absurd refused
+      clauses-past (subquery occur q cs) served (inl here) = λ fits. refused-past q (both _ _ served).0 here fits.0
+      clauses-past (subquery occur q cs) served (inr later) = λ fits.
+          clauses-past cs (both (is_served (schema_of enable) q) _ served).1 later.1 fits.1
+
+      disjuncts-past : (ds : Disjuncts) → are_disjuncts_served (schema_of enable) ds ≡ true → IsDisjunctRefused ghosts enable ds e →
+          ¬ ClauseLeavesFit (disjunct_trees ghosts enable ds)
+      disjuncts-past no_disjunct served refused = absurd refused
+      disjuncts-past (disjunct q ds) served (inl here) = λ fits. refused-past q (both _ _ served).0 here fits.0
+      disjuncts-past (disjunct q ds) served (inr later) = λ fits.
+          disjuncts-past ds (both (is_served (schema_of enable) q) _ served).1 later.1 fits.1
+
 tree-refused : (e : QueryError) (tree : Tree) → IsRefusalOf tree 1 e → (e ≡ Memory) ⊎ ((e ≡ ScoreBound) × (¬ Fits tree 1))
 tree-refused ScoreBound tree refused = inr (refl, refused)
 tree-refused Memory tree refused = inl refl
@@ -147,8 +206,8 @@ module _ (enable : EnableScoring Searched) (q : language.Query) (built : Query)
   score-refusal e (inl (inl memory)) = inl memory
   score-refusal e (inl (inr refused)) =
       let is = refused-bound e enable built served-here refused in
-      inr (subst (IsScoreRefusal enable built) (sym is) (inl (subst (IsRefused ghosts enable built) is refused)))
+      inr (record { error_is = is; past = λ within. refused-past e enable built served-here refused within.leaves })
   score-refusal e (inr of_tree) = elim (tree-refused e (tree_of enable built) of_tree) [
     | inl memory ↦ inl memory
-    | inr past ↦ inr (subst (IsScoreRefusal enable built) (sym past.0) (inr past.1))
+    | inr past ↦ inr (record { error_is = past.0; past = λ within. past.1 within.nodes })
   ]

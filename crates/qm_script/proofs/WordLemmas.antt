@@ -52,7 +52,7 @@ pieces-lack (p ∷ pieces) h = all-append (AllByRecursion (λ b. (b == 32) ≡ f
 kept_if : (t : Bool) (w : List ℕ) (words : List (List ℕ)) → t ≡ false → cond (not t) (w ∷ words) words ≡ w ∷ words
 kept_if t w words h = rw h refl
 
-not_zero : (n : ℕ) → 0 < n → (n == 0) ≡ false
+pub not_zero : (n : ℕ) → 0 < n → (n == 0) ≡ false
 not_zero n h = ne_eqb n 0 (λ e. absurd (omega arith))
 
 pub non_empty-cons : (w : List ℕ) (words : List (List ℕ)) → 0 < length w → non_empty (w ∷ words) ≡ w ∷ non_empty words

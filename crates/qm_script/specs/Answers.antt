@@ -16,7 +16,7 @@ use Rattle.qm_script.specs.Spelled.{query_of}
 use Rattle.qm_script.specs.State.{State, with_documents, with_weight}
 use Rattle.qm_script.specs.Text.{listing_text}
 use Rattle.qm_script.specs.TextSegments.{IsTextRefusal}
-use Rattle.qm_script.specs.Under.{IsForDocuments, IsForScores, IsScoreRefusal}
+use Rattle.qm_script.specs.Under.{IsForDocuments, IsForScores, IsScoreRefusal, IsWithinScores}
 use Rattle.qm_script.specs.declared.answer.Answer.{Answer}
 use Rattle.qm_script.specs.declared.answer.Answer.TheVariants.{Silence, Listing, Refused, NotUnderstood}
 use Rattle.qm_script.specs.ProgramNumbers.{most_segments}
@@ -24,13 +24,17 @@ use Rattle.qm_script.specs.declared.parse.Command.{Command}
 use Rattle.qm_script.specs.declared.parse.Command.TheVariants.{Nothing, AddDocument, SetWeight, EndSegment, DeleteDocument, ListDocuments, ListScores}
 use Rattle.qm_script.specs.declared.parse.Command.TheVariants.{CountMatches, ListAbove, ListBest}
 
--- a refusal of this number that can come
+-- a refusal of this number that is due
 abbrev pub IsRefusedBy : (QueryError → Type 0) → ℕ → Type 0
-IsRefusedBy can_come number = (error : QueryError) × (number ≡ refusal_number error) × can_come error
+IsRefusedBy is_due number = (error : QueryError) × (number ≡ refusal_number error) × is_due error
+
+-- none of these refusals is due
+abbrev pub IsNotRefused : (QueryError → Type 0) → Type 0
+IsNotRefused is_due = (error : QueryError) → ¬ is_due error
 
 -- a line that adds a document: its answer, and what it leaves
 abbrev pub AddsDocument : List ℕ → State → Answer → State → Type 0
-AddsDocument text s Silence t = t ≡ with_documents s (with_document_of s.documents text)
+AddsDocument text s Silence t = (t ≡ with_documents s (with_document_of s.documents text)) × IsNotRefused (IsTextRefusal s.documents.current text)
 AddsDocument text s (Refused number) t = (t ≡ s) × IsRefusedBy (IsTextRefusal s.documents.current text) number
 AddsDocument text s answer t = ⊥
 
@@ -47,19 +51,27 @@ pub record IsLastSegment (s : Script) (error : QueryError) : Type 0 where
 
 -- a line that ends it: its answer, and what it leaves
 abbrev pub EndsSegment : State → Answer → State → Type 0
-EndsSegment s Silence t = t ≡ with_documents s (with_segment_ended s.documents)
+EndsSegment s Silence t = (t ≡ with_documents s (with_segment_ended s.documents)) × IsNotRefused (IsLastSegment s.documents)
 EndsSegment s (Refused number) t = (t ≡ s) × IsRefusedBy (IsLastSegment s.documents) number
 EndsSegment s answer t = ⊥
 
--- why a line that lists what a query matches may be refused: the query can't be built, its scores may pass the
--- greatest; or want of memory. The one field of a script's documents serves every query
+-- Why a line that lists what a query matches is refused: the query can't be built, its scores may pass the
+-- greatest, which are due wherever they hold; or want of memory. The one field of a script's documents serves
+-- every query.
 abbrev pub IsLineRefusal : EnableScoring Searched → language.Query → QueryError → Type 0
 IsLineRefusal enable q error =
     (error ≡ Memory) ⊎ ((asked q ≡ Err error) ⊎ ((query : Query) × (asked q ≡ Ok query) × IsScoreRefusal enable query error))
 
+-- the query can be built, its scores are within the greatest, and it makes this text
+pub record ListsQuery (text_of : Query → List ℕ) (enable : EnableScoring Searched) (q : language.Query) (text : List ℕ) : Type 0 where
+  pub query : Query
+  pub built : asked q ≡ Ok query
+  pub within : IsWithinScores enable query
+  pub written : text ≡ text_of query
+
 -- a line that lists something of a query: its answer, and the text, which the query makes
 abbrev pub AnswersQuery : (Query → List ℕ) → EnableScoring Searched → language.Query → Answer → List ℕ → Type 0
-AnswersQuery text_of enable q Listing text = (query : Query) × (asked q ≡ Ok query) × (text ≡ text_of query)
+AnswersQuery text_of enable q Listing text = ListsQuery text_of enable q text
 AnswersQuery text_of enable q (Refused number) text = IsRefusedBy (IsLineRefusal enable q) number
 AnswersQuery text_of enable q answer text = ⊥
 

@@ -1,19 +1,18 @@
 -- What the queries of a script's lines are asked under.
-use Rattle.std.specs.Prelude.{◌≡◌, ◌⊎◌, None, Some}
+use Rattle.std.specs.Prelude.{◌≡◌, None, Some}
 use Rattle.qm_postings.specs.Statistics.{Searched}
 use Rattle.qm_postings.specs.contracts.searcher.SearcherBm25StatisticsProvider.TheImpl.{ghosts}
 use Rattle.qm_query.specs.EnableScoring.{provider_of, schema_of}
 use Rattle.qm_query.specs.Query.{Query}
-use Rattle.qm_query.specs.QueryScorers.{IsQueryRefusal}
+use Rattle.qm_query.specs.QueryScorers.{IsQueryRefusal, QueryFits}
 use Rattle.qm_query.specs.QueryTree as under
-use Rattle.qm_query.specs.WeightRefusals.{IsRefused}
 use Rattle.qm_query.specs.declared.enable_scoring.EnableScoring.{EnableScoring}
 use Rattle.qm_schema.specs.declared.error.QueryError.{QueryError}
 use Rattle.qm_schema.specs.declared.error.QueryError.TheVariants.{ScoreBound}
 use Rattle.qm_script.specs.ScriptSegments.{Script}
 use Rattle.qm_script.specs.State.{State}
 use Rattle.qm_script.specs.Weights.{IsWeighedBy}
-use Rattle.qm_weight.specs.Tree.{Fits, Tree}
+use Rattle.qm_weight.specs.Tree.{Tree}
 
 -- documents alone are wanted, of the fields that a script's documents have
 pub record IsForDocuments (s : Script) (enable : EnableScoring Searched) : Type 0 where
@@ -34,8 +33,11 @@ tree_of enable query = under.query_tree ghosts enable query
 abbrev pub IsListingRefusal : EnableScoring Searched → Query → QueryError → Type 0
 IsListingRefusal enable query error = IsQueryRefusal ghosts enable query 1 error
 
--- why it may be refused where its fields serve and there is memory: what words weigh together, or what its
--- tree may score, passes the greatest score
-abbrev pub IsScoreRefusal : EnableScoring Searched → Query → QueryError → Type 0
-IsScoreRefusal enable query ScoreBound = IsRefused ghosts enable query ScoreBound ⊎ (¬ Fits (tree_of enable query) 1)
-IsScoreRefusal enable query error = ⊥
+-- what the words of each leaf weigh together is a score, and so is at each node of its tree what it may score
+abbrev pub IsWithinScores : EnableScoring Searched → Query → Type 0
+IsWithinScores enable query = QueryFits ghosts enable query
+
+-- why it is refused where its fields serve and there is memory
+pub record IsScoreRefusal (enable : EnableScoring Searched) (query : Query) (error : QueryError) : Type 0 where
+  pub error_is : error ≡ ScoreBound
+  pub past : ¬ IsWithinScores enable query

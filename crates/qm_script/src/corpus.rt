@@ -1,6 +1,6 @@
 //! The documents of a script, and the weights of its words.
 
-ghost use Rattle.std.specs.Prelude.{◌≡◌, ◌+◌, true, ◌≤◌, ◌*◌, ◌⊎◌, IfErr, IfOk, IsErrOf, IsOkUnless, OnErr, OnOk, length, map, nat_abs, string_bytes};
+ghost use Rattle.std.specs.Prelude.{◌≡◌, ◌↔◌, ◌+◌, true, ◌≤◌, ◌*◌, ◌⊎◌, IfErr, IfOk, IsErrOf, IsOkUnless, OnErr, OnOk, length, map, nat_abs, string_bytes};
 ghost use Rattle.std.specs.FinMap.{empty, insert};
 ghost use Rattle.std.specs.List.{range_with_len};
 ghost use Rattle.std.specs.List.Sorted.{IsNonDecreasing};
@@ -38,6 +38,7 @@ pub(crate) struct Corpus {
 
 impl Corpus {
     ghost use Rattle.qm_index.specs.Indexed.{AreMerged, AreSearched, Deletes, all_segments, with_segment_ended};
+    ghost use Rattle.qm_script.specs.Answers.{IsLastSegment, IsNotRefused};
     ghost use Rattle.qm_script.specs.ScriptSegments.{IsBuilt, IsWhole, script, with_document_of};
     ghost use Rattle.qm_script.specs.Start.{start_script};
 
@@ -56,6 +57,7 @@ impl Corpus {
         ensures added { OnOk result (script self.new ≡ with_document_of (script self.old) (string_bytes text)) }
         ensures unchanged { OnErr result (script self.new ≡ script self.old) }
         ensures weights { statistics self.new.index ≡ statistics self.old.index }
+        ensures taken { OnOk result (IsNotRefused (IsTextRefusal (script self.old).current (string_bytes text))) }
         ensures refused { IfErr result (λ e. (e ≡ QueryError.Memory) ⊎ IsTextRefusal (script self.old).current (string_bytes text) e) }
     {
         let texts = vec![in alloc; (body(), text)]?;
@@ -68,7 +70,8 @@ impl Corpus {
         ensures ended { OnOk result (script self.new ≡ with_segment_ended (script self.old)) }
         ensures unchanged { OnErr result (script self.new ≡ script self.old) }
         ensures weights { statistics self.new.index ≡ statistics self.old.index }
-        ensures many { IsErrOf result QueryError.TooManySegments → length (all_segments (script self.old)) ≡ most_segments }
+        ensures many { IsErrOf result QueryError.TooManySegments ↔ (length (all_segments (script self.old)) ≡ most_segments) }
+        ensures taken { OnOk result (IsNotRefused (IsLastSegment (script self.old))) }
         ensures refused { IfErr result (λ e. (e ≡ QueryError.Memory) ⊎ (e ≡ QueryError.TooManySegments)) }
     {
         self.index.end_segment(alloc)

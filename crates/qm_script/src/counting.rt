@@ -5,7 +5,7 @@ ghost use Rattle.qm_query.specs.Query.{query_of};
 ghost use Rattle.qm_query.specs.Searches.{without_scores};
 ghost use Rattle.qm_index.specs.Parts.{segments_of};
 ghost use Rattle.qm_script.specs.Found.{AddsNumber, found_alive};
-ghost use Rattle.qm_script.specs.Under.{IsListingRefusal};
+ghost use Rattle.qm_script.specs.Under.{IsListingRefusal, IsWithinScores};
 
 use crate::listing::reserve_line_end;
 use qm_postings::Searcher;
@@ -24,6 +24,7 @@ pub(crate) fn write_count(
     text: &mut String,
 ) -> Result<(), QueryError>
     ensures count { OnOk result (AddsNumber text.old text.new (found_alive (without_scores searcher.now) (query_of query.now) (segments_of searcher.now.segments))) }
+    ensures within { OnOk result (IsWithinScores (without_scores searcher.now) (query_of query.now)) }
     ensures refused { IfErr result (IsListingRefusal (without_scores searcher.now) (query_of query.now)) }
 {
     let count = query.count(alloc, searcher)?;

@@ -9,14 +9,14 @@ ghost use Rattle.qm_script.specs.Found.{found_matches};
 ghost use Rattle.qm_script.specs.Parts.{document_count};
 ghost use Rattle.qm_script.specs.ProgramNumbers.{most_segments};
 ghost use Rattle.qm_script.specs.Text.{AddsToListing, IsListing, ListsMore, numbered};
-ghost use Rattle.qm_script.specs.Under.{IsListingRefusal};
+ghost use Rattle.qm_script.specs.Under.{IsListingRefusal, IsWithinScores};
 ghost use Rattle.qm_weight.specs.Scorers.{IsRefusalOf};
 ghost use Rattle.qm_weight.specs.Tree.{is_scoring};
 ghost use Rattle.qm_weight.specs.Weights.{tree_of};
 
 use qm_docset::{DocId, Score};
 use qm_postings::{Searcher, SegmentReader};
-use qm_query::{AnyQuery, EnableScoring, Query};
+use qm_query::{AnyQuery, EnableScoring, fitting_weight};
 use qm_schema::QueryError;
 use qm_weight::{AnyWeight, Weight};
 use std::alloc::{AllocError, Global};
@@ -25,7 +25,8 @@ use std::alloc::{AllocError, Global};
 /// numbered over all segments; each with its score where scoring is on. The query's weight is built
 /// once, and run over each segment; no list of documents is made.
 ///
-/// Refused as the weight and the scorers are. What a refused call has written is of no use.
+/// Refused as [`fitting_weight`] is, before anything is written, and else for want of memory alone. What a
+/// refused call has written is of no use.
 pub(crate) fn write_matches(
     alloc: Global,
     segments: &[SegmentReader],
@@ -36,9 +37,10 @@ pub(crate) fn write_matches(
     requires few { document_count (map (λ r. r.segment) segments.now) ≤ most_segments * TERMINATED }
     requires empty { length (string_bytes text.old) ≡ 0 }
     ensures listed { OnOk result (IsListing (found_matches enable_scoring.entry (query_of query.now) (segments_of segments.now)) (string_bytes text.new)) }
+    ensures within { OnOk result (IsWithinScores enable_scoring.entry (query_of query.now)) }
     ensures refused { IfErr result (IsListingRefusal enable_scoring.entry (query_of query.now)) }
 {
-    let weight = query.weight(alloc, enable_scoring)?;
+    let weight = fitting_weight(query, alloc, enable_scoring)?;
     let is_scored = enable_scoring.is_scoring_enabled();
     write_listing(alloc, segments, &weight, is_scored, text)?;
     reserve_line_end(text)

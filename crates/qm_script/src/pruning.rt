@@ -11,7 +11,7 @@ ghost use Rattle.qm_script.specs.Parts.{document_count};
 ghost use Rattle.qm_script.specs.ProgramNumbers.{most_segments};
 ghost use Rattle.qm_script.specs.Pruned.{all_pruned, entry_item, parts_pruned, rising, threshold_after};
 ghost use Rattle.qm_script.specs.Text.{AddsToListing, IsListing};
-ghost use Rattle.qm_script.specs.Under.{IsListingRefusal};
+ghost use Rattle.qm_script.specs.Under.{IsListingRefusal, IsWithinScores};
 ghost use Rattle.qm_weight.specs.Scorers.{IsRefusalOf};
 ghost use Rattle.qm_weight.specs.Tree.{is_scoring, list};
 ghost use Rattle.qm_weight.specs.Weights.{tree_of};
@@ -19,7 +19,7 @@ ghost use Rattle.qm_weight.specs.Weights.{tree_of};
 use crate::listing::{reserve_line_end, write_scores};
 use qm_docset::{DocId, Score};
 use qm_postings::{Searcher, SegmentReader};
-use qm_query::{AnyQuery, EnableScoring, Query};
+use qm_query::{AnyQuery, EnableScoring, fitting_weight};
 use qm_schema::QueryError;
 use qm_weight::{AnyWeight, Weight};
 use std::alloc::Global;
@@ -29,7 +29,8 @@ use std::alloc::Global;
 /// at the threshold: the first `ended` of these, and behind them the one that the others are parts of,
 /// each of which goes on at the threshold that the one before it left. The query's weight is built once.
 ///
-/// Refused as the weight and the scorers are. What a refused call has written is of no use.
+/// Refused as [`fitting_weight`] is, before anything is written, and else for want of memory alone. What a
+/// refused call has written is of no use.
 pub(crate) fn write_pruned(
     alloc: Global,
     segments: &[SegmentReader],
@@ -44,9 +45,10 @@ pub(crate) fn write_pruned(
     requires empty { length (string_bytes text.old) ≡ 0 }
     requires scoring { is_enabled enable_scoring ≡ true }
     ensures listed { OnOk result (IsListing (found_above_in_parts threshold enable_scoring.entry (query_of query.now) ended (segments_of segments.now)) (string_bytes text.new)) }
+    ensures within { OnOk result (IsWithinScores enable_scoring.entry (query_of query.now)) }
     ensures refused { IfErr result (IsListingRefusal enable_scoring.entry (query_of query.now)) }
 {
-    let weight = query.weight(alloc, enable_scoring)?;
+    let weight = fitting_weight(query, alloc, enable_scoring)?;
     let first = write_runs(alloc, &segments[..ended], &weight, threshold, text)?;
     write_parts(alloc, &segments[ended..], &weight, threshold, first, text)?;
     reserve_line_end(text)

@@ -17,3 +17,5 @@ mod AliveCounts
 mod OneClauses
 mod RunSteps
 mod ExplainedScores
+mod FittingBounds
+pub mod LeafWeights

@@ -12,6 +12,7 @@ ghost use Rattle.qm_weight.specs.TreeRuns.{MayPruneTreeAt, PrunesTreeAt};
 ghost use Rattle.qm_weight.specs.Weights.{boolean_tree, clauses_from, combiner_of};
 
 use crate::any_weight::{AnyWeight, count_any, prune_any};
+use crate::bounds::bound_of_boolean;
 use crate::counts::count_alive;
 use crate::shared_runs::{StandsFor, check_document, run_node_slices, score_in_node};
 use crate::weight::Weight;
@@ -92,6 +93,10 @@ impl Weight for BooleanWeight {
         build_boolean(self, alloc, reader, boost as u64)
     }
 
+    fn fits(&self, boost: Score) -> bool {
+        bound_of_boolean(self, boost as u64).is_some()
+    }
+
     fn count(&self, alloc: Global, reader: &SegmentReader) -> Result<u32, QueryError> {
         count_boolean(self, alloc, reader, 1)
     }
@@ -119,9 +124,9 @@ impl Weight for BooleanWeight {
 
     /// Passes over blocks whose documents cannot score above the threshold, where scoring is on, the
     /// combiner is the sum or the greatest score, no clause must match or must not, one Should clause is
-    /// enough, and of terms alone two or more are there, or one scorer is left and is that of a term. Where
-    /// one clause alone decides what matches and scores, the run is that clause's. It takes memory before
-    /// the first call alone.
+    /// enough, and of at most 16 clauses, all of them terms, two or more are there, or one scorer is left
+    /// and is that of a term. For more of them the plain loop is faster. Where one clause alone decides
+    /// what matches and scores, the run is that clause's. It takes memory before the first call alone.
     fn for_each_pruning<F: FnMut(DocId, Score) -> Score>(
         &self,
         alloc: Global,

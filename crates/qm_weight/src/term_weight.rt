@@ -13,6 +13,7 @@ ghost use Rattle.qm_weight.specs.Tree.{term as leaf_of};
 ghost use Rattle.qm_weight.specs.TreeRuns.{MayPruneTree, PrunesTree};
 ghost use Rattle.qm_weight.specs.Weights.{term_tree, term_weighing, weight_term, weighing_if};
 
+use crate::bounds::bound_of_term;
 use crate::counts::count_alive;
 use crate::explanations::add_term;
 use crate::shared_runs::{
@@ -134,6 +135,10 @@ impl Weight for TermWeight {
             Some(scorer) => Ok(AnyScorer::Term(Box::new(alloc, scorer)?)),
             None => Ok(AnyScorer::Empty(EmptyScorer)),
         }
+    }
+
+    fn fits(&self, boost: Score) -> bool {
+        bound_of_term(self, boost as u64).is_some()
     }
 
     fn count(&self, _alloc: Global, reader: &SegmentReader) -> Result<u32, QueryError> {

@@ -40,5 +40,5 @@ returns-in_ok-build_segments-in-Ok-clause-answer c =
       enable,
       record { fields = fields; scores = refl },
       text-answer (count_text enable s) enable q text query c.write_count-written.result c.answer_listing.result
-          (fields ∙ c.args.corpus.now.fields) c.in-Ok.ensures written c.write_count-written.ensures.refused c.answer_listing.ensures,
+          (fields ∙ c.args.corpus.now.fields) c.in-Ok.ensures written c.write_count-written.ensures.within c.write_count-written.ensures.refused c.answer_listing.ensures,
     )

@@ -54,5 +54,5 @@ returns-in_ok-build_segments-in-Ok-clause-answer c =
       listing-answer (pruned_text threshold enable s) enable q text query
           (found_above_in_parts threshold enable query c.ended.result (segments_of c.segment_readers.result.now))
           c.write_pruned-written.result c.answer_listing.result (fields ∙ c.args.corpus.now.fields) c.in-Ok.ensures
-          (all ∙ ap listing_text listed) written c.write_pruned-written.ensures.refused c.answer_listing.ensures,
+          (all ∙ ap listing_text listed) written c.write_pruned-written.ensures.within c.write_pruned-written.ensures.refused c.answer_listing.ensures,
     )

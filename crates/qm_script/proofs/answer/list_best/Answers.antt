@@ -47,5 +47,5 @@ returns-in_ok-build_segments-in-Ok-clause-answer c =
       },
       listing-answer (best_text c.args.count enable s) enable q text query (found_best c.args.count enable query (segments_of readers))
           c.write_best-written.result c.answer_listing.result (fields ∙ c.args.corpus.now.fields) c.in-Ok.ensures
-          (ap listing_text listed) c.write_best-written.ensures.listed c.write_best-written.ensures.refused c.answer_listing.ensures,
+          (ap listing_text listed) c.write_best-written.ensures.listed c.write_best-written.ensures.within c.write_best-written.ensures.refused c.answer_listing.ensures,
     )

@@ -50,5 +50,5 @@ returns-in_ok-build_segments-in-Ok-clause-answer c =
       listing-answer (listed_text enable s) enable q text query
           (all_listed (is_enabled enable) (tree_of enable query) (segments_of c.segment_readers.result.now))
           c.write_matches-written.result c.answer_listing.result (fields ∙ c.args.corpus.now.fields) c.in-Ok.ensures
-          (all ∙ ap listing_text listed) c.write_matches-written.ensures.listed c.write_matches-written.ensures.refused c.answer_listing.ensures,
+          (all ∙ ap listing_text listed) c.write_matches-written.ensures.listed c.write_matches-written.ensures.within c.write_matches-written.ensures.refused c.answer_listing.ensures,
     )
