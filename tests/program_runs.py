@@ -38,8 +38,8 @@ from program_runs.report import Report
 HERE = os.path.dirname(os.path.abspath(__file__))
 BUILT = os.path.join(HERE, "..", "crates", "qm_search", "out", "qm_search")
 # checks that are one run after another, and those whose runs are shared out
-CHECKS = [whole_scripts, single_lines, long_scripts, input_and_output, flat_queries]
-SHARED = [refused_memory, cut_scripts, hostile_bytes]
+CHECKS = [whole_scripts, single_lines, long_scripts, input_and_output]
+SHARED = [flat_queries, refused_memory, cut_scripts, hostile_bytes]
 
 
 def arguments():
