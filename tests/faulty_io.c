@@ -6,6 +6,7 @@
    FAULTY_READ_SIGNALS=1   each read that gives something is interrupted once before
    FAULTY_READS=9          each read after 9 fails, with the error FAULTY_ERROR
    FAULTY_WRITE_SIZE=3000  each write takes at most 3000 bytes
+   FAULTY_WRITE_SIGNALS=1  each write is interrupted once before
    FAULTY_WRITES=4         each write after 4 fails, with the error FAULTY_ERROR
    FAULTY_REQUEST=12       the 12th request for memory is refused; with FAULTY_REQUESTS=1, all after too
    FAULTY_NOTES=5          notes each of these calls as a line on descriptor 5
@@ -27,7 +28,8 @@ enum { NEVER = -1 };
 static const char *sizes;
 static long size_of_read = NEVER, reads_left = NEVER, size_of_write = NEVER, writes_left = NEVER;
 static long requests_left = NEVER, notes = NEVER, error = EIO;
-static int are_reads_interrupted, was_interrupted, are_all_after_refused;
+static int are_reads_interrupted, was_read_interrupted, are_writes_interrupted, was_write_interrupted;
+static int are_all_after_refused;
 
 static long number(const char *name, long if_unnamed) {
     const char *text = getenv(name);
@@ -40,6 +42,7 @@ __attribute__((constructor)) static void look_at_environment(void) {
     reads_left = number("FAULTY_READS", NEVER);
     size_of_write = number("FAULTY_WRITE_SIZE", NEVER);
     writes_left = number("FAULTY_WRITES", NEVER);
+    are_writes_interrupted = number("FAULTY_WRITE_SIGNALS", 0) != 0;
     error = number("FAULTY_ERROR", EIO);
     are_all_after_refused = number("FAULTY_REQUESTS", 0) != 0;
     notes = number("FAULTY_NOTES", NEVER);
@@ -78,8 +81,8 @@ static size_t at_most(size_t length, long most) {
 ssize_t read(int descriptor, void *into, size_t length) {
     if (descriptor != 0)
         return syscall(SYS_read, descriptor, into, length);
-    was_interrupted = are_reads_interrupted && !was_interrupted;
-    if (was_interrupted)
+    was_read_interrupted = are_reads_interrupted && !was_read_interrupted;
+    if (was_read_interrupted)
         return fail("read interrupted", EINTR);
     if (reads_left == 0)
         return fail("read failed", (int)error);
@@ -93,6 +96,9 @@ ssize_t read(int descriptor, void *into, size_t length) {
 ssize_t write(int descriptor, const void *from, size_t length) {
     if (descriptor != 1)
         return syscall(SYS_write, descriptor, from, length);
+    was_write_interrupted = are_writes_interrupted && !was_write_interrupted;
+    if (was_write_interrupted)
+        return fail("write interrupted", EINTR);
     if (writes_left == 0)
         return fail("write failed", (int)error);
     writes_left -= writes_left > 0;

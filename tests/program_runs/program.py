@@ -5,8 +5,8 @@ import resource
 import subprocess
 from typing import NamedTuple
 
-# No run takes a second; one that takes so many seconds is taken never to end.
-LIMIT = 20
+# No run takes ten seconds on a machine that does nothing else; one that takes so many is taken never to end.
+LIMIT = 100
 
 
 class NeverEnded(Exception):
@@ -15,7 +15,7 @@ class NeverEnded(Exception):
 
 class Call(NamedTuple):
     """A call that the library noted, with its bytes or its error: "read", "write", "read interrupted",
-    "read failed", "write failed" or "request refused"."""
+    "write interrupted", "read failed", "write failed" or "request refused"."""
 
     what: str
     number: int

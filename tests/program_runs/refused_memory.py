@@ -1,33 +1,17 @@
-"""Runs in which a request for memory is refused, each in turn."""
+"""Runs in which a request for memory is refused, each in turn: a query is refused for it, or the run ends, and no line
+shows another answer in place of these two."""
 
+from script_model import answers, lines_of, text_of
+
+from .cut_scripts import SCRIPTS
 from .program import calls_of
+from .report import in_parallel
 
-# A script with every kind of line, whose last four are queries.
-SCRIPT = (
-    b"doc a b\ndoc b c\nsegment\ndoc a b c\ndelete 1\nweight a 500\n"
-    b"docs bool 0 2 + term b + term a\nscores term a\ncount term b\nprune 130 term a\n"
-)
+# Lines that ask for something: want of memory refuses them, and ends the run in all others.
+QUERIES = (b"docs", b"scores", b"count", b"prune", b"top")
 
-# The number of each query's line, and its answer: 500 / 3 and 500 / 4; two of three documents, and the
-# score that is above 130.
-ANSWERS = {7: b"0 2\n", 8: b"0:166 2:125\n", 9: b"2\n", 10: b"0:166\n"}
-TEXT = b"".join(ANSWERS.values())
-
-# A run of a short script asks for memory less often.
-MANY = 1000
-
-
-def text_without(refused):
-    """What is written where there is no memory for the query on this line; for all others there is."""
-    answers = ANSWERS | {refused: b"line %d: refused 13\n" % refused}
-    return b"".join(answers.values())
-
-
-# What a run may write that was refused one request and went on, by the line that was refused.
-REFUSED = {line: text_without(line) for line in ANSWERS}
-
-# What may be written for each query.
-EITHER = [(answer, b"line %d: refused 13\n" % line) for line, answer in ANSWERS.items()]
+# No run of a short script asks for memory so often, and none of a long one.
+MANY, MOST = 4000, 1 << 20
 
 # Scripts whose last line lists a text of each of many lengths, among them those that fill the room that
 # the text has taken: there the end of the line needs the last request.
@@ -35,64 +19,97 @@ NUMBERS = [b"9" * digits for digits in range(1, 19)]
 LISTINGS = [
     *[b"doc a\nscores const %b all\n" % number for number in NUMBERS],
     *[b"doc a\nprune 0 const %b all\n" % number for number in NUMBERS],
+    *[b"doc a\ntop 1 const %b all\n" % number for number in NUMBERS],
     *[b"doc a\n" * documents + b"docs all\n" for documents in range(1, 33)],
 ]
 
-# A script of which a run asks for memory more often than any other here, and so many requests at most.
+# A script of which a run asks for memory more often than any other here.
 SEGMENTS = b"doc a\nsegment\n" * 1000 + b"delete 7\nweight a 6\nscores term a\n"
-MOST = 1 << 20
-
-# What a run may write that ended where it was refused one: whole lines, from the first on.
-ENDED = [b"".join(list(ANSWERS.values())[:count]) for count in range(len(ANSWERS) + 1)]
 
 
-def check(program, report):
+def check(program, report, jobs):
     """Refuses each request in turn, alone, and then with all requests after it; and the last ones."""
-    check_each(program, report)
-    check_all_after(program, report)
-    check_last(program, report)
+    parts = [(check_each, script) for script in SCRIPTS] + [(check_all_after, script) for script in SCRIPTS]
+    parts += [(check_last, script) for script in (*LISTINGS, SEGMENTS)]
+    in_parallel(program, report, check_part, parts, jobs)
 
 
-def check_each(program, report):
+def check_part(program, report, part):
+    check_script, script = part
+    check_script(program, report, script)
+
+
+def check_each(program, report, script):
     """Refuses each request in turn, until a run has no request left to be refused."""
-    refused = []
+    wanted, queries = answers(script), queries_of(script)
+    refused, ended, least = set(), 0, 0
     for number in range(1, MANY):
-        outcome = program.run_faulty(SCRIPT, request=number)
+        outcome = program.run_faulty(script, request=number)
+        lines = outcome.text.splitlines(keepends=True)
         if not calls_of(outcome, "request refused"):
-            report.expect("no request is refused", TEXT, 0, outcome)
-            report.expect_same("some requests are refused", True, number > 5)
-            report.expect_same("the queries that are refused", list(REFUSED), sorted(set(refused)))
-            return
-        refused += [line for line, text in REFUSED.items() if text == outcome.text]
-        # later requests are later lines', so the lines before the query last refused were answered
-        answered = list(ANSWERS).index(refused[-1]) if refused else 0
-        is_ended = outcome.status == 3 and outcome.text in ENDED[answered:]
-        is_right = is_ended or outcome.status == 1 and outcome.text in REFUSED.values()
-        wanted = outcome if is_right else "whole first lines and status 3, or one query refused and 1"
-        report.expect_same(f"request {number} is refused", wanted, outcome)
-    report.expect_same("the requests of a run", f"fewer than {MANY}", "as many")
+            break
+        right = [text in texts for (_, texts), text in zip(wanted, lines)]
+        line = refused_line(wanted, lines, right)
+        is_refusal = line in queries and len(lines) == len(wanted) and outcome.status in (1, 2)
+        is_ended = outcome.status == 3 and all(right) and len(lines) <= len(wanted)
+        # a later request is that of the same line, or of a later one
+        is_later = (line if is_refusal else len(lines)) >= (least if is_refusal else 0)
+        is_right = is_refusal and is_later or is_ended
+        told = "whole first lines and status 3, or one query refused and the others answered"
+        report.expect_same(f"request {number} of {script!r} is refused", outcome if is_right else told, outcome)
+        refused |= {line} if is_refusal else set()
+        least, ended = (line if is_refusal else least), ended + is_ended
+    report.expect(f"no request of {script!r} is refused", *text_of(script), outcome)
+    report.expect_same(f"the queries of {script!r} that are refused", understood(wanted, queries), sorted(refused))
+    report.expect_same(f"a run of {script!r} that ends for want of memory", True, ended > 0)
 
 
-def check_all_after(program, report):
-    """Where memory runs out for good, each line that is written is the query's answer or its refusal."""
+def check_all_after(program, report, script):
+    """Where memory runs out for good, each line that is written is the line's answer or its refusal."""
+    wanted, queries = answers(script), queries_of(script)
     for number in range(1, MANY):
-        outcome = program.run_faulty(SCRIPT, request=number, requests=1)
+        outcome = program.run_faulty(script, request=number, requests=1)
         if not calls_of(outcome, "request refused"):
             return
         lines = outcome.text.splitlines(keepends=True)
-        are_right = all(line in either for line, either in zip(lines, EITHER))
-        is_whole = len(lines) == len(EITHER) and outcome.text != TEXT
-        is_right = are_right and (outcome.status == 3 or outcome.status == 1 and is_whole)
-        wanted = outcome if is_right else "answers and refusals with status 3, or all with 1"
-        report.expect_same(f"requests from {number} on are refused", wanted, outcome)
+        refusals = [text == refusal(line) and line in queries for (line, _), text in zip(wanted, lines)]
+        right = [text in texts for (_, texts), text in zip(wanted, lines)]
+        is_whole = len(lines) == len(wanted) and any(refusals) and outcome.status in (1, 2)
+        # behind a refusal all others want memory too
+        are_right = all(a or b for a, b in zip(right, refusals)) and (outcome.status == 3 or is_whole)
+        told = "answers and refusals with status 3, or all lines"
+        name = f"requests from {number} on of {script!r} are refused"
+        report.expect_same(name, outcome if are_right else told, outcome)
 
 
-def check_last(program, report):
+def queries_of(script):
+    """The numbers of the lines that ask for something."""
+    words = [line.split() for line in lines_of(script)]
+    return {number for number, it in enumerate(words, 1) if it and it[0] in QUERIES}
+
+
+def understood(wanted, queries):
+    """Those of them that are understood: each wants memory, also where it is refused for its form."""
+    return [line for line, texts in wanted if line in queries and b": not understood" not in texts[-1]]
+
+
+def refusal(line):
+    return b"line %d: refused 13\n" % line
+
+
+def refused_line(wanted, lines, right):
+    """The number of the one line that is refused for want of memory, where all others are answered."""
+    wrong = [at for at, it in enumerate(right) if not it]
+    if len(wrong) != 1 or lines[wrong[0]] != refusal(wanted[wrong[0]][0]):
+        return None
+    return wanted[wrong[0]][0]
+
+
+def check_last(program, report, script):
     """Refuses the last request that a run makes, which is made for the answer of its last line."""
-    for script, most in [*((it, MANY) for it in LISTINGS), (SEGMENTS, MOST)]:
-        outcome = last_refused(program, script, most)
-        text = b"line %d: refused 13\n" % script.count(b"\n")
-        report.expect(f"the last request of {script[-40:]!r} is refused", text, 1, outcome)
+    outcome = last_refused(program, script, MOST if script == SEGMENTS else MANY)
+    text = refusal(script.count(b"\n"))
+    report.expect(f"the last request of {script[-40:]!r} is refused", text, 1, outcome)
 
 
 def last_refused(program, script, most):

@@ -1,5 +1,8 @@
 """What was wanted of the runs and what came: each difference is printed, and counted."""
 
+import functools
+import multiprocessing
+
 # So much of a long value is shown, from a little before the first difference on.
 SHOWN = 200
 
@@ -29,6 +32,21 @@ class Report:
             return 1
         print(f"program runs: {runs} as wanted")
         return 0
+
+
+def in_parallel(program, report, check, parts, jobs):
+    """Calls `check(program, report, part)` for each part, by so many processes; their runs and differences are
+    counted as if there were one."""
+    with multiprocessing.Pool(jobs) as pool:
+        for runs, failed in pool.imap_unordered(functools.partial(_check_part, program, check), parts):
+            program.runs += runs
+            report.failed += failed
+
+
+def _check_part(program, check, part):
+    runs, report = program.runs, Report()
+    check(program, report, part)
+    return program.runs - runs, report.failed
 
 
 def _shown(value, other):
