@@ -19,15 +19,14 @@ static const size_t IF_AWAITED = (size_t)1 << 59;
 // how many requests are left until one is refused, counting it; 0 where none is to be
 static size_t until_refused;
 static int are_all_after;
-// whether the last request that was to be refused alone has not come
-static int is_awaited;
+// whether a case has that one refused alone, and whether the last one of which it had that is still to come
+static int is_alone, is_awaited;
 
 static void turn(size_t size) {
     are_all_after = (size & AND_ALL_AFTER) != 0;
     until_refused = size & IF_AWAITED ? (size_t)is_awaited : size & 0xffffffff;
-    if (until_refused != 0 && !are_all_after) {
-        is_awaited = 1;
-    }
+    is_alone = until_refused != 0 && !(size & (AND_ALL_AFTER | IF_AWAITED));
+    is_awaited = is_awaited || is_alone;
 }
 
 static int is_refused(size_t size) {
@@ -39,7 +38,7 @@ static int is_refused(size_t size) {
         until_refused -= until_refused != 0;
         return 0;
     }
-    is_awaited = is_awaited && are_all_after;
+    is_awaited = is_awaited && !is_alone;
     until_refused = are_all_after;
     return 1;
 }
