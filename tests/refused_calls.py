@@ -4,9 +4,10 @@
     python3 tests/refused_calls.py
 
 Public calls are read from the sources: functions of a crate, of its types, and of its traits for each type
-that has them, whose answer is a `Result` of `QueryError` or `AllocError`. tests/refused_calls.txt says by which
-words rows name each. A call that is not there, a name there that no call has, and a call without such a row are
-printed; the exit status is 1 where there is one.
+that has them, whose answer is a `Result` of `QueryError`, `AllocError` or `RunError`. tests/refused_calls.txt says
+by which words rows name each. So with the types that have the traits of ROWS, whose calls can't be refused. A call
+or a type that is not there, a name there that no call or type has, and a call without such a row are printed; the
+exit status is 1 where there is one.
 """
 
 import os
@@ -16,9 +17,18 @@ import sys
 ROOT = os.path.realpath(os.path.join(os.path.dirname(os.path.abspath(__file__)), ".."))
 TABLE = "tests/refused_calls.txt"
 CRATES = (
-    "qm_docset qm_schema qm_postings qm_index qm_combine qm_term qm_phrase qm_scorer qm_weight qm_query".split()
-)
-FAILS = re.compile(r"-> Result<.*\b(QueryError|AllocError)>")
+    "qm_docset qm_schema qm_postings qm_index qm_combine qm_term qm_phrase qm_scorer qm_weight qm_query qm_script"
+).split()
+# by trait the rows that name its calls, none of which takes memory
+ROWS = {
+    "DocSet": "doc advance seek seek_danger fill count total hint cost",
+    "Scorer": "score max_score",
+    "Postings": "freq max_term_freq append positions positions_with_offset",
+    "ScoreCombiner": "clear update score",
+    "ExclusionSet": "contains",
+    "HasLen": "len is_empty",
+}
+FAILS = re.compile(r"-> Result<.*\b(QueryError|AllocError|RunError)>")
 ALLOCATOR = re.compile(r"\w: Global\b")
 GENERICS = r"(?:<(?:[^<>]|<[^<>]*>)*>)?"
 BLOCK = re.compile(rf"(?:pub )?(impl|trait)\b{GENERICS} (?:(\w+){GENERICS} for )?(\w+)({GENERICS})")
@@ -87,6 +97,19 @@ def public_calls():
     return calls
 
 
+def types():
+    """The types that have a trait of ROWS, each as its crate and its name, with the rows that name the calls of its
+    traits. Those of a generic parameter are any type's."""
+    found = {}
+    for crate in CRATES:
+        known = exported(crate) | {"Box", "Vec"}
+        for _, block, _, _ in functions(crate):
+            name = block[2].partition("<")[0] if block else ""
+            if name in known and block[1] in ROWS:
+                found.setdefault(f"{crate} {name}", set()).update(ROWS[block[1]].split())
+    return found
+
+
 def rows_of(path):
     """What the rows of a case file say: a block's words and a call's, how requests are refused, and the answer. A
     block's own making is a row without a call."""
@@ -119,15 +142,16 @@ def begins(words, pattern):
 
 
 class Pattern:
-    """By which words rows name a call: `BLOCK`, or `BLOCK > ROW`."""
+    """By which words rows name a call: `BLOCK`, or `BLOCK > ROW`; a name of a crate before them says whose cases."""
 
     def __init__(self, text):
         block, _, row = text.partition(">")
         self.block, self.row = block.split(), row.split()
+        self.crate = self.block.pop(0) if self.block[0] in CRATES else ""
 
-    def names(self, block, row):
+    def names(self, crate, block, row):
         is_row = begins(row, self.row) if self.row else not row
-        return is_row and begins(block, self.block)
+        return is_row and begins(block, self.block) and self.crate in ("", crate)
 
 
 def read_table():
@@ -141,16 +165,42 @@ def read_table():
             yield how, call.strip(), [it.strip() for it in patterns.split(",")] if patterns else []
 
 
-def main():
+def all_rows():
+    """The rows of all cases, by how requests are refused."""
     rows = {"each": [], "all": [], "none": []}
-    for crate in CRATES:
-        folder = f"{ROOT}/cases/{crate}"
-        for name in sorted(os.listdir(folder)):
-            for block, row, how in rows_of(f"{folder}/{name}"):
+    for crate in os.listdir(f"{ROOT}/cases"):
+        for name in sorted(os.listdir(f"{ROOT}/cases/{crate}")):
+            for block, row, how in rows_of(f"{ROOT}/cases/{crate}/{name}"):
                 if how:
-                    rows[how].append((block, row))
-    calls, faults, listed, shown = public_calls(), [], set(), 0
-    for how, call, patterns in read_table():
+                    rows[how].append((crate, block, row))
+    return rows
+
+
+def type_faults(table):
+    """What of the types' traits no `calls` line of the table has rows for."""
+    wanted, listed = types(), set()
+    called = {call: set(rows[0].split()) for how, call, rows in table if how == "calls"}
+    for how, said, blocks in table:
+        if how != "type":
+            continue
+        name, _, without = said.partition(" without ")
+        listed.add(name)
+        yield from (f"{name}: no line `calls {it}`" for it in blocks if it not in called)
+        told = set(without.split()).union(*(called.get(it, ()) for it in blocks))
+        missing = sorted(wanted.get(name, set()) - told)
+        if name not in wanted:
+            yield f"{name}: no public type has this name and a trait whose calls take no memory"
+        if missing:
+            yield f"{name}: no `calls` line has its rows {' '.join(missing)}"
+    yield from (f"{it}: the table doesn't have the type" for it in sorted({*wanted} - listed))
+
+
+def main():
+    rows, table = all_rows(), list(read_table())
+    calls, faults, listed, shown = public_calls(), [*type_faults(table)], set(), 0
+    for how, call, patterns in table:
+        if how == "type":
+            continue
         if how == "calls":
             # several rows of one block, all of them behind `takes no memory`
             patterns, how, named = [f"{call} > {it}" for it in patterns[0].split()], "none", call
@@ -161,7 +211,7 @@ def main():
                 faults.append(f"{call}: no public call has this name, or it can't be refused")
             if how == "bare" and calls.get(call):
                 faults.append(f"{call}: it is handed an allocator")
-        if how == "bare":
+        if how in ("bare", "runs"):
             continue
         if not patterns:
             faults.append(f"{call}: the table doesn't say by which words rows name it")

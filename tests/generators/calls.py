@@ -45,6 +45,19 @@ def danger(left, target):
     return row(f"{said} within {spelled.document(head)}", "allowed"), False
 
 
+# where nothing is to be found below 4: targets that ascend, descend, are repeated, and that go back and forth
+ORDERS = ([0, 1, 2, 3, 4, END], [4, 3, 2, 1, 0], [0, 0, 1, 1, 2, 2, 3, 3, END, END], [2, 0, 3, 1, 2, 4])
+
+
+def asked_for(listed, targets):
+    """Calls of `seek_danger` for targets one after another, and the document that is left then."""
+    left = Left(listed)
+    yield from (danger(left, target)[0] for target in targets)
+    yield row("seek 0", spelled.document(left.doc()))
+    if left.doc() < END:
+        yield row("score", left.score())
+
+
 class Player:
     """Chooses calls on a scorer by chance. With scoring off no score is asked for, and where it isn't known which
     documents are deleted no alive ones are counted."""

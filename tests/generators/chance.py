@@ -56,10 +56,17 @@ def deleted(random, count):
     return [doc for doc in range(count) if random.random() < share]
 
 
-def segment(random, count, field=BODY):
+def norms(random):
+    """Norms of length ids, which don't fall; the last stands for all ids behind it. The first may be 0."""
+    count = random.choice([1, 2, 3, 10, 256])
+    return sorted(random.choice([0, 1, random.randrange(300), 4294967295]) for _ in range(count))
+
+
+def segment(random, count, field=BODY, of_ids=range(256)):
     """A segment of so many documents, and their words."""
     words = texts(random, count)
-    made = Segment((field,), [{field.name: it.split()} for it in words], deleted(random, count))
+    by_id = [of_ids[min(number, len(of_ids) - 1)] for number in range(256)]
+    made = Segment((field,), [{field.name: it.split()} for it in words], deleted(random, count), by_id)
     return made, words
 
 

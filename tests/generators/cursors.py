@@ -90,6 +90,20 @@ def all_small(manner):
         yield from shown(made)
 
 
+def odd_members(manners):
+    """What is made of each two leaves that are odd in these manners, asked for targets in each order."""
+    yield "given"
+    yield "  alive 4 0 2"
+    for lists in itertools.product(SMALL, repeat=2):
+        first, second = (leaf(*it) for it in zip(lists, manners, (1, 5)))
+        made = [*gathered([first, second], "sum", 2, 4), *of_two(first, second, "sum")]
+        made += of_one(first, 3) if second.listed == {} else []
+        for line, listed in made:
+            for targets in calls.ORDERS:
+                yield line
+                yield from calls.asked_for(listed, targets)
+
+
 def shown(made):
     """What each lists, how many documents that are, and a seek to each."""
     for line, listed in made:

@@ -13,9 +13,12 @@ GENERATORS = {
     "every call": tables.every_call,
     "pairs of kinds": trees.pairs_of_kinds,
     "groups": trees.groups,
+    "odd members": trees.odd_members,
     "queries": queries.by_chance,
     "trees": trees.by_chance,
     "small cursors": cursors.all_small,
+    "odd cursors": cursors.odd_members,
+    "odd exclusions": sets.odd_exclusions,
     "cursors": cursors.by_chance,
     "windows": cursors.windows,
     "sets": sets.by_chance,
@@ -28,6 +31,9 @@ GENERATORS = {
 # sorts of leaves: those of lists and terms are sent to every document, phrases to some
 SORTS = [("own", 1), ("term", 1), ("phrase", 7), ("prefix", 7)]
 
+# the manners of two cursors that are odd each in its own way
+ODD = [("least", "greatest"), ("greatest", "fickle"), ("fickle", "least")]
+
 # by program: the tables' names, each with what they are asked for one after another
 TABLES = {
     "cases_queries": [
@@ -39,8 +45,9 @@ TABLES = {
         ("every call", range(len(tables.CALL_TEXTS) + 1)),
         ("pairs of kinds", [(*pair, *sort) for sort in SORTS for pair in itertools.product(trees.KINDS, repeat=2)]),
         ("groups", ("least", "fickle")),
+        ("odd members", ODD),
     ],
-    "cases_cursors": [("small cursors", cursors.MANNERS)],
+    "cases_cursors": [("small cursors", cursors.MANNERS), ("odd cursors", ODD), ("odd exclusions", ODD)],
     "cases_postings": [
         ("small phrases", [*((slop, (0, 1)) for slop in (0, 1, 2, 7)), (1, (2, 0, 3))]),
         ("blocks of small lists", list(itertools.product((1, 2, 3, 128), postings.SMALL_LISTS))),

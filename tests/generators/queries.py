@@ -113,10 +113,11 @@ def of_great_query(random, searcher, field, depth):
 def corpus(random):
     """Some segments over one field, with the block that makes them, and a searcher over them."""
     field = random.choice(chance.FIELDS)
-    made = [chance.segment(random, chance.size(random), field) for _ in range(random.choice([1, 1, 2, 3, 4]))]
+    norms, count = random.choice([None, None, chance.norms(random)]), random.choice([1, 1, 2, 3, 4])
+    made = [chance.segment(random, chance.size(random), field, norms or range(256)) for _ in range(count)]
     segments, words = zip(*made)
     weighed, default = weights(random)
-    block = spelled.given(segments, words, random.choice(chance.BLOCKS), weighed, default, field)
+    block = spelled.given(segments, words, random.choice(chance.BLOCKS), weighed, default, field, norms)
     by_term = {(field.name, word): points for word, points in weighed}
     return field, list(block), Searcher(segments, by_term, 1000 if default is None else default)
 

@@ -1,6 +1,8 @@
 """Cases of sets of numbers, of lists of documents and of combiners, by chance."""
 
-from generators import cursors, spelled
+import itertools
+
+from generators import calls, cursors, spelled
 from generators.spelled import row
 from model import END, combined
 
@@ -144,6 +146,16 @@ def excluded(random):
             for _ in range(order - 1):
                 at = random.randrange(len(docs))
                 docs.insert(random.randrange(len(docs)), docs[at])
+            yield row(f"contains {numbers_in(docs)}", " ".join(map(truth, exclusions(lists, docs))))
+
+
+def odd_exclusions(manners):
+    """Which documents each two leaves exclude that are odd in these manners, asked for in each order."""
+    yield "given"
+    for lists in itertools.product(cursors.SMALL, repeat=2):
+        yield f"exclusion {cursors.joined(cursors.leaf(*it) for it in zip(lists, manners, (1, 5)))}"
+        for targets in calls.ORDERS:
+            docs = [it for it in targets if it != END]
             yield row(f"contains {numbers_in(docs)}", " ".join(map(truth, exclusions(lists, docs))))
 
 

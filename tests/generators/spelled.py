@@ -120,8 +120,8 @@ def field(it):
     return f"  field {it.name} {it.keeps}{' lengths' if it.lengths else ''}"
 
 
-def given(segments, texts, blocks, weights=(), default=None, one_field=None):
-    """The block that makes segments of these texts, lists of words."""
+def given(segments, texts, blocks, weights=(), default=None, one_field=None, norms=None):
+    """The block that makes segments of these texts, lists of words; without norms these are the length ids."""
     yield "given"
     if one_field:
         yield field(one_field)
@@ -130,6 +130,8 @@ def given(segments, texts, blocks, weights=(), default=None, one_field=None):
         yield f"  weight {word} {points}"
     if default is not None:
         yield f"  default {default}"
+    if norms:
+        yield f"  norms {' '.join(map(str, norms))}"
     for number, (segment, words) in enumerate(zip(segments, texts)):
         if number > 0:
             yield "  segment"

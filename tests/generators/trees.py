@@ -5,7 +5,7 @@ import itertools
 import random as chances
 
 from generators import calls, chance, spelled
-from generators.scorers import Left, Made, at_least, boosted, constant, exclude, intersection, optional
+from generators.scorers import Made, at_least, boosted, constant, exclude, intersection, optional
 from generators.spelled import row
 from model import END, GREATEST, Phrase, Prefix, Term, scored
 
@@ -85,12 +85,7 @@ def sent(made, target):
         yield row("score", made.listed[head])
     # asked for it, for it again, and for what is before and past it
     yield f"tree {made.words}"
-    left = Left(made.listed)
-    for it in (target, target, max(0, target - 3), target + 2, target):
-        yield calls.danger(left, it)[0]
-    yield row("seek 0", spelled.document(left.doc()))
-    if left.doc() < END:
-        yield row("score", left.score())
+    yield from calls.asked_for(made.listed, (target, target, max(0, target - 3), target + 2, target))
 
 
 def pairs_of_kinds(asked):
@@ -153,6 +148,21 @@ def groups(manner):
         for it in made:
             yield f"tree {it.words}"
             yield row("scores", spelled.pairs(sorted(it.listed.items())))
+
+
+def odd_members(manners):
+    """Each node over each two cursors of the case's own that are odd in these manners, asked for targets in each
+    order."""
+    # own cursors alone: of the segment nothing is asked
+    yield "given"
+    yield "  blocks 2"
+    for lists in itertools.product(SMALL, repeat=2):
+        members = [own(docs, points, manner) for docs, points, manner in zip(lists, (1, 5), manners)]
+        for kind in KINDS:
+            made = pair_node(kind, *members)
+            for targets in calls.ORDERS:
+                yield f"tree {made.words}"
+                yield from calls.asked_for(made.listed, targets)
 
 
 # ---- by chance

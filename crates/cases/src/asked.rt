@@ -1,7 +1,7 @@
 //! Rows played on what answers with a text.
 
 use crate::fault::Fault;
-use crate::memory::{Memory, end_refusals, is_heard};
+use crate::memory::{Memory, end_refusals, is_awaited, is_heard};
 use crate::report::Report;
 use crate::row::Row;
 use qm_schema::QueryError;
@@ -25,7 +25,7 @@ pub trait Asker {
 
 /// Plays rows. A row `refused each CALL` is made again and again, with the first of its requests for
 /// memory refused, then the second, until none is; each time it must be refused for want of memory
-/// before it has said anything. Behind a row `takes no memory` calls are made with every request refused.
+/// before it has said anything, and where it succeeds that request must not have been made. Behind a row `takes no memory` calls are made with every request refused.
 pub fn play_asked<A: Asker>(
     alloc: Global,
     asker: &mut A,
@@ -87,6 +87,9 @@ fn play_refused<A: Asker>(
         if answer != Err(Fault::Refused(QueryError::Memory)) {
             if number == 1 {
                 return Ok(report.wrong(row.line, "no request for memory was refused")?);
+            }
+            if !is_awaited(alloc) {
+                return Ok(report.wrong(row.line, "a call that goes on behind a refusal")?);
             }
             return take(row, answer, report);
         }

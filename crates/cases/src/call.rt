@@ -24,6 +24,8 @@ pub enum Call {
     Moves,
     MovesOfFirst,
     MovesOfOthers,
+    /// whether all moves together are at most so many
+    MovesWithin(u64),
     /// all requests for memory are refused from here on
     TakesNoMemory,
     /// Words that name no call.
@@ -47,7 +49,17 @@ pub fn read_call(text: &str) -> Call {
         "moves of first" => Call::MovesOfFirst,
         "moves of others" => Call::MovesOfOthers,
         "takes no memory" => Call::TakesNoMemory,
-        _ => read_seek(text),
+        _ => match text.strip_prefix("moves within ") {
+            Some(most) => read_moves_within(most),
+            None => read_seek(text),
+        },
+    }
+}
+
+fn read_moves_within(most: &str) -> Call {
+    match most.parse::<u64>() {
+        Ok(most) => Call::MovesWithin(most),
+        Err(_) => Call::NotUnderstood,
     }
 }
 

@@ -2,7 +2,7 @@
 
 use crate::block::{Block, Player};
 use crate::fault::Fault;
-use crate::memory::{Memory, end_refusals, is_heard};
+use crate::memory::{Memory, end_refusals, is_awaited, is_heard};
 use crate::repeat::{expand, is_repeated, read_rows, spell_rows};
 use crate::report::Report;
 use crate::row::{Row, read_row};
@@ -145,6 +145,8 @@ fn play_refused<P: Player>(
         if played != Err(Fault::Refused(QueryError::Memory)) {
             if number == 1 {
                 report.wrong(block.line, "no request for memory was refused")?;
+            } else if !is_awaited(alloc) {
+                report.wrong(block.line, "what is made behind a refusal")?;
             }
             return played;
         }

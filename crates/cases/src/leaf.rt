@@ -25,7 +25,7 @@ enum Manner {
     Plain,
     /// the least bounds that are allowed, and the least hint
     Least,
-    /// the least bounds, and the greatest hint
+    /// the least bounds, and the greatest hint, with a cost that is greater by one
     Greatest,
     /// the least bounds, and another hint each time
     Fickle,
@@ -112,6 +112,14 @@ impl<'a> DocSet for Leaf<'a> {
                 self.hint.get()
             }
         }
+    }
+
+    fn cost(&self) -> u64 {
+        if self.manner == Manner::Greatest {
+            // more than any hint
+            return u64::from(u32::MAX) + 1;
+        }
+        u64::from(self.size_hint())
     }
 
     ghost ascending = { λ s h. AreEntries-rescored _ (s.score + s.more) 0 no_limits _ (λ e _. Prim.grind arith) (AreEntries-documents _ _ h.documents) };

@@ -26,7 +26,7 @@ pub use documents::read_documents;
 pub use fault::Fault;
 pub use file::play_cases;
 pub use leaf::{Leaf, read_leaf, read_leaves};
-pub use memory::{Memory, end_refusals};
+pub use memory::{Memory, end_refusals, is_awaited, is_heard};
 pub use moves::Moves;
 pub use play::{Desk, play_scores};
 pub use pruning::{Pruning, Reply, replies_of, threshold_of};

@@ -31,7 +31,19 @@ pub fn end_refusals(alloc: Global) {
 
 /// Whether a refusal is heard.
 pub fn is_heard(alloc: Global) -> bool {
-    Memory::Refused(1).begin(alloc);
+    Memory::None.begin(alloc);
+    is_next_refused(alloc)
+}
+
+/// Whether the request that was to be refused last, and it alone, never came. A call that succeeds where
+/// it did come went on behind a refusal.
+pub fn is_awaited(alloc: Global) -> bool {
+    refuse(alloc, 1 << 59);
+    is_next_refused(alloc)
+}
+
+// Whether the next request is refused; none behind it is.
+fn is_next_refused(alloc: Global) -> bool {
     let is_refused = Vec::<u8>::with_capacity(alloc, 1).is_err();
     end_refusals(alloc);
     is_refused

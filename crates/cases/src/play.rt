@@ -102,6 +102,7 @@ fn ask<S: Scorer>(
         Call::Moves => Ok(Answer::Number(desk.moves.total())),
         Call::MovesOfFirst => Ok(Answer::Number(desk.moves.first.get())),
         Call::MovesOfOthers => Ok(Answer::Number(desk.moves.others.get())),
+        Call::MovesWithin(most) => Ok(moves_within(desk.moves.total(), most)),
         _ => {
             if !*placed {
                 Ok(Answer::NotAllowed)
@@ -155,6 +156,15 @@ fn within(answer: Answer, target: DocId, most: DocId) -> Answer {
             Answer::Allowed
         }
         _ => answer,
+    }
+}
+
+// Whether so many moves are at most so many, else how many they are.
+fn moves_within(moves: u64, most: u64) -> Answer {
+    if moves <= most {
+        Answer::Allowed
+    } else {
+        Answer::Number(moves)
     }
 }
 

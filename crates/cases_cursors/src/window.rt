@@ -71,13 +71,13 @@ impl<C: ScoreCombiner> Asker for AskedWindow<C> {
             return Ok(self.changes.push(change)?);
         }
         let window = Window::new(alloc, self.combiner)?;
+        memory.begin(alloc);
         let Some(window) = changed(window, &self.changes) else {
             return Err(Fault::NotAllowed);
         };
         if let Some(doc) = call.strip_prefix("fill ") {
-            return write_filled(alloc, &window, doc, memory, text);
+            return write_filled(alloc, &window, doc, text);
         }
-        memory.begin(alloc);
         let answer = answer(&window, call);
         end_refusals(alloc);
         answer.write(text)
@@ -103,12 +103,11 @@ fn changed<C: ScoreCombiner>(window: Window<C>, changes: &[Change]) -> Option<Wi
     Some(window)
 }
 
-// Writes the documents that `fill` puts into 64 places.
+// Writes the documents that `fill` puts into 64 places, and ends the refusals of memory before that.
 fn write_filled<C: ScoreCombiner>(
     alloc: Global,
     window: &Window<C>,
     doc: &str,
-    memory: Memory,
     text: &mut String,
 ) -> Result<(), Fault>
     requires { IsUntil window.now }
@@ -117,7 +116,6 @@ fn write_filled<C: ScoreCombiner>(
         return Err(Fault::NotUnderstood);
     };
     let mut places = [0; COLLECT_BLOCK_BUFFER_LEN];
-    memory.begin(alloc);
     let count = window.fill(doc, &mut places);
     end_refusals(alloc);
     // the places before this one are written

@@ -4,7 +4,7 @@ ghost use Rattle.std.specs.Prelude.{IsTrue};
 ghost use Rattle.qm_docset.specs.Lists.{IsPlaced};
 
 use crate::moved::{Moved, make_move, read_move};
-use cases::{Fault, Memory, Report, Row, end_refusals};
+use cases::{Fault, Memory, Report, Row, end_refusals, is_awaited, is_heard};
 use qm_docset::{AliveBitSet, COLLECT_BLOCK_BUFFER_LEN, DocSet};
 use qm_schema::QueryError;
 use std::alloc::Global;
@@ -59,14 +59,6 @@ pub fn play_cursor<C: Played>(
     Ok(())
 }
 
-// Whether a refusal of memory is heard.
-fn is_heard(alloc: Global) -> bool {
-    Memory::Refused(1).begin(alloc);
-    let is_refused = Vec::<u8>::with_capacity(alloc, 1).is_err();
-    end_refusals(alloc);
-    is_refused
-}
-
 // Plays a row with each of its requests for memory refused in turn.
 fn play_refused<C: Played>(
     alloc: Global,
@@ -89,6 +81,9 @@ fn play_refused<C: Played>(
         if answer != Err(Fault::Refused(QueryError::Memory)) {
             if number == 1 {
                 return Ok(report.wrong(row.line, "no request for memory was refused")?);
+            }
+            if !is_awaited(alloc) {
+                return Ok(report.wrong(row.line, "a call that goes on behind a refusal")?);
             }
             return take(row, answer, report);
         }

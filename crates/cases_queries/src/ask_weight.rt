@@ -1,7 +1,7 @@
 //! Rows on a weight.
 
 use crate::asked::{Asked, read_asked};
-use crate::explained::explain;
+use crate::explained::{explain, print};
 use crate::phrase_counts::{write_counts, write_kind};
 use crate::runs::{run_called, run_documents, run_each, run_pruning, run_slices};
 use crate::world::World;
@@ -67,6 +67,7 @@ pub fn ask_weight(
         Asked::Count => count(alloc, segment, weight, memory, text),
         Asked::Explain(doc) => explain(alloc, segment, weight, doc, false, memory, text),
         Asked::Details(doc) => explain(alloc, segment, weight, doc, true, memory, text),
+        Asked::Prints(doc) => print(alloc, segment, weight, doc, call, text),
         Asked::PhraseCounts => write_counts(alloc, segment, weight, text),
         Asked::Kind => write_kind(alloc, segment, weight, memory, text),
     }

@@ -21,6 +21,8 @@ pub enum Asked {
     Explain(DocId),
     /// the values of its details
     Details(DocId),
+    /// whether a text stands in what is printed of it
+    Prints(DocId),
     /// how often the words of a phrase stand together
     PhraseCounts,
     /// which variant the scorer is
@@ -42,6 +44,7 @@ pub fn read_asked(alloc: Global, call: &str) -> Result<Asked, Fault> {
         ("kind", _) => Ok(Asked::Kind),
         ("explain", Some(doc)) => Ok(Asked::Explain(doc)),
         ("details", Some(doc)) => Ok(Asked::Details(doc)),
+        ("prints", Some(doc)) => Ok(Asked::Prints(doc)),
         _ => Err(Fault::NotUnderstood),
     }
 }

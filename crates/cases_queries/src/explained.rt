@@ -25,6 +25,22 @@ pub fn explain(
     write_values(&explained?, are_details, text)
 }
 
+/// Whether the text behind `prints DOC` stands in what is printed of a weight's explanation.
+pub fn print(
+    alloc: Global,
+    segment: &SegmentReader,
+    weight: &AnyWeight,
+    doc: DocId,
+    call: &str,
+    text: &mut String,
+) -> Result<(), Fault> {
+    let (_, words) = call.split_once(' ').ok_or(Fault::NotUnderstood)?;
+    let (_, wanted) = words.split_once(' ').ok_or(Fault::NotUnderstood)?;
+    let explanation = weight.explain(alloc, segment, doc)?;
+    let printed = format!(in alloc; "{explanation:?}")?;
+    Ok(write!(text, "{}", printed.contains(wanted))?)
+}
+
 /// The value of a query's explanation.
 pub fn explain_at(
     alloc: Global,
