@@ -7,9 +7,9 @@ ghost use Rattle.qm_combine.specs.HeldSum.{held_sum};
 ghost use Rattle.qm_combine.specs.Union.{IsBoundOrMemory, IsRefusedByBounds};
 ghost use Rattle.qm_scorer.specs.Built.{IsAtLeastOf, IsUnionOf};
 ghost use Rattle.qm_scorer.specs.Bare.{IsBounded};
-ghost use Rattle.qm_scorer.specs.Group.{AreHeads, IsGroupNode, IsGroupOver, IsMadeOf, group_entries};
+ghost use Rattle.qm_scorer.specs.Group.{IsGroupNode, IsGroupOver, IsMadeOf, group_entries};
 ghost use Rattle.qm_scorer.specs.Intersection.{ListsShared};
-ghost use Rattle.qm_scorer.specs.Tree.{HasRoom, IsTree, gathered_list, tree_entries, tree_top};
+ghost use Rattle.qm_scorer.specs.Tree.{AreHeads, HasRoom, IsTree, gathered_list, tree_entries, tree_top};
 ghost use Rattle.qm_scorer.specs.United.{IsUnitedOf};
 
 use crate::any_combiner::AnyCombiner;
