@@ -88,7 +88,7 @@ module _ {S : Type 0} (D : Ghosts S) where
   tree-head own (RequiredOptional' p required optional top) h here = tree-head own required h.0 here ∙ sym (head_document-rescored _ _)
   tree-head own (Exclude' p inner out top) h here = tree-head own inner h.0 here.0 ∙ sym (head_document-without _ 0 _ _ (tree-ascends D own inner h.0) here.1)
   tree-head own (Union' p room row window ahead doc span top) h here = h.2.standing.first
-  tree-head own (Disjunction' p room row shape current) h here = h.2.first
+  tree-head own (Disjunction' p room row heads shape current) h here = h.2.first
   tree-head own (Intersection' p leader room row num_docs top) h here = tree-head own leader h.0 here.0
       ∙ head_document-led own leader _ row h.0 h.1 (λ below. (here.1 below).1)
 

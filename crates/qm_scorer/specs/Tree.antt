@@ -1,6 +1,6 @@
 -- What a tree of scorers lists, by recursion over its nodes: each node lists what the combinator of
 -- its kind does. `D` are the ghost members of the caller's own scorers.
-use Rattle.std.specs.Prelude.{◌≡◌, ℕ, ◌*◌, ◌<◌, ◌≤◌, List, [], ◌∷◌, max, sum}
+use Rattle.std.specs.Prelude.{◌≡◌, ℕ, ◌*◌, ◌<◌, ◌≤◌, List, [], ◌∷◌, map, max, sum}
 use Rattle.std.specs.List.{All as Each}
 use Rattle.qm_docset.specs.BitSetDocSet.{IsBitSetCursor, IsOnMember, remaining_members}
 use Rattle.qm_docset.specs.Entry.{Entry, Limits, greatest_score, head_document, no_limits}
@@ -27,11 +27,13 @@ use Rattle.qm_phrase.specs.PhraseScorer.{IsOnPhrase, IsPhrase, phrase_left, phra
 use Rattle.qm_term.specs.TermScorer.{IsTermScorer, scored_left, scored_limits}
 use Rattle.qm_scorer.specs.AnyCombiner.{AreTakenBy, any_cleared, any_combined, any_value}
 use Rattle.qm_scorer.specs.Bare.{IsBounded, bare, scores_to}
+use Rattle.qm_scorer.specs.LeastDocs.{IsLeastDocs}
 use Rattle.qm_scorer.specs.declared.any_combiner.AnyCombiner.{AnyCombiner}
 use Rattle.qm_scorer.specs.declared.any_scorer.AnyScorer.{AnyScorer, Row_of-AnyScorer, end_of-AnyScorer, more_of-AnyScorer, All, BitSet, Boost', Const'}
 use Rattle.qm_scorer.specs.declared.any_scorer.AnyScorer.{Disjunction', Empty, Exclude', Intersection', Own, Phrase, PhrasePrefix, RequiredOptional', Term}
 use Rattle.qm_scorer.specs.declared.any_scorer.AnyScorer.{Union'}
 use Rattle.qm_scorer.specs.declared.group_node.Shape.{Shape}
+use Rattle.qm_scorer.specs.declared.least_docs.LeastDocs.{LeastDocs}
 
 -- ---- the ghost members of the cursors below the leaves
 
@@ -59,6 +61,11 @@ pub record IsGroup (shape : Shape) (current : ℕ) (ess : List (List Entry)) : T
   pub first : current ≡ head_document (gathered_list shape ess)
   pub least : current ≡ least_head ess
   pub room : HasRoom shape.combiner ess
+
+-- the documents that the members stand on, each in its place
+pub record AreHeads (heads : LeastDocs) (ess : List (List Entry)) : Type 0 where
+  pub valid : IsLeastDocs heads
+  pub docs : heads.docs.items ≡ map head_document ess
 
 -- ---- unions
 
@@ -101,7 +108,7 @@ module _ {S : Type 0} (D : Ghosts S) where
     tree_entries (RequiredOptional' p required optional top) = with_optional sum (tree_entries required) (tree_entries optional)
     tree_entries (Exclude' p inner out top) = without (has_document (tree_entries out)) (tree_entries inner)
     tree_entries (Union' p room row window ahead doc span top) = united window doc (row_lists row)
-    tree_entries (Disjunction' p room row shape current) = gathered_list shape (row_lists row)
+    tree_entries (Disjunction' p room row heads shape current) = gathered_list shape (row_lists row)
     tree_entries (Intersection' p leader room row num_docs top) = common_entries held_sum (tree_entries leader ∷ row_lists row)
 
     -- the same of each of a row of trees
@@ -134,7 +141,7 @@ module _ {S : Type 0} (D : Ghosts S) where
   tree_top (RequiredOptional' p required optional top) = top
   tree_top (Exclude' p inner out top) = top
   tree_top (Union' p room row window ahead doc span top) = top
-  tree_top (Disjunction' p room row shape current) = shape.top
+  tree_top (Disjunction' p room row heads shape current) = shape.top
   tree_top (Intersection' p leader room row num_docs top) = top
 
   abbrev pub tree_limits : AnyScorer S → Limits
@@ -159,7 +166,7 @@ module _ {S : Type 0} (D : Ghosts S) where
   tree_head (RequiredOptional' p required optional top) = tree_head required
   tree_head (Exclude' p inner out top) = tree_head inner
   tree_head (Union' p room row window ahead doc span top) = doc
-  tree_head (Disjunction' p room row shape current) = current
+  tree_head (Disjunction' p room row heads shape current) = current
   tree_head (Intersection' p leader room row num_docs top) = tree_head leader
 
   -- all of several lists begin with this document
@@ -181,7 +188,7 @@ module _ {S : Type 0} (D : Ghosts S) where
     IsTreePlaced (RequiredOptional' p required optional top) = IsTreePlaced required
     IsTreePlaced (Exclude' p inner out top) = IsTreePlaced inner × IsKept (has_document (tree_entries out)) (tree_entries inner)
     IsTreePlaced (Union' p room row window ahead doc span top) = Unit {0}
-    IsTreePlaced (Disjunction' p room row shape current) = Unit {0}
+    IsTreePlaced (Disjunction' p room row heads shape current) = Unit {0}
     IsTreePlaced (Intersection' p leader room row num_docs top) = IsTreePlaced leader ×
         (head_document (tree_entries leader) < TERMINATED → IsRowPlaced row × StandAt (head_document (tree_entries leader)) (row_lists row))
 
@@ -206,7 +213,8 @@ module _ {S : Type 0} (D : Ghosts S) where
         IsTreePlaced optional × IsBounded top (with_optional sum (tree_entries required) (tree_entries optional))
     IsTree (Exclude' p inner out top) = IsTree inner × IsTree out × IsBounded top (without (has_document (tree_entries out)) (tree_entries inner))
     IsTree (Union' p room row window ahead doc span top) = IsRow row × IsRowPlaced row × IsUnited window doc ahead top (row_limits row) (row_lists row)
-    IsTree (Disjunction' p room row shape current) = IsRow row × IsRowPlaced row × IsGroup shape current (row_lists row)
+    IsTree (Disjunction' p room row heads shape current) = IsRow row × IsRowPlaced row ×
+        IsGroup shape current (row_lists row) × AreHeads heads (row_lists row)
     IsTree (Intersection' p leader room row num_docs top) = IsTree leader × IsRow row ×
         IsBounded top (common_entries held_sum (tree_entries leader ∷ row_lists row))
 

@@ -34,5 +34,5 @@ module _ {S : Type 0} (D : Ghosts S) where
   tree-ascends own (Exclude' p inner out top) h = h.2.entries
   tree-ascends own (Union' p room row window ahead doc span top) h =
       subst (λ t. AreEntries 0 (scores_to t) (tree_entries D (Union' p room row window ahead doc span top))) (sym h.2.parts.bound) h.2.standing.ascending
-  tree-ascends own (Disjunction' p room row shape current) h = h.2.bounded.entries
+  tree-ascends own (Disjunction' p room row heads shape current) h = h.2.bounded.entries
   tree-ascends own (Intersection' p leader room row num_docs top) h = h.2.entries

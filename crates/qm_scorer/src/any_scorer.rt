@@ -33,8 +33,8 @@ use qm_term::TermScorer;
 /// be scorers of the caller's own type `S`. A leaf is made by its variant, a node by its builder.
 ///
 /// A call costs the choice of the variant in each node that it comes through, and what the same call of
-/// the combinator of that name in `qm_combine` costs; but a `Disjunction` asks each member where it
-/// stands, and keeps no heap. A leaf answers each call as its cursor does, and so does a `Boost` or a
+/// the combinator of that name in `qm_combine` costs; but a `Disjunction` keeps where its members stand in
+/// rows, and no heap. A leaf answers each call as its cursor does, and so does a `Boost` or a
 /// `Const` over it; a `Union` steps, fills buffers and counts all its documents by its window; an
 /// `Intersection` goes to its next document by a step of its leader, every other node by a seek, and
 /// these fill buffers and count by such steps. No call takes memory; each takes stack for every level

@@ -1,14 +1,15 @@
 //! What builds the nodes over several scorers.
 
-ghost use Rattle.std.specs.Prelude.{◌≡◌, ◌≤◌, All, IfErr, IfOk, IsOkUnless, map};
+ghost use Rattle.std.specs.Prelude.{◌≡◌, ◌<◌, ◌≤◌, [], All, IfErr, IfOk, IsOkUnless, length, map};
 ghost use Rattle.qm_docset.specs.Gather.{gather};
 ghost use Rattle.qm_docset.specs.Lists.{ArePlaced, IsPlaced};
 ghost use Rattle.qm_combine.specs.HeldSum.{held_sum};
 ghost use Rattle.qm_combine.specs.Union.{IsBoundOrMemory, IsRefusedByBounds};
 ghost use Rattle.qm_scorer.specs.Built.{IsAtLeastOf, IsUnionOf};
-ghost use Rattle.qm_scorer.specs.Group.{IsGroupNode, IsMadeOf, group_entries};
+ghost use Rattle.qm_scorer.specs.Bare.{IsBounded};
+ghost use Rattle.qm_scorer.specs.Group.{IsGroupNode, IsGroupOver, IsMadeOf, group_entries};
 ghost use Rattle.qm_scorer.specs.Intersection.{ListsShared};
-ghost use Rattle.qm_scorer.specs.Tree.{IsTree, tree_entries, tree_top};
+ghost use Rattle.qm_scorer.specs.Tree.{AreHeads, HasRoom, IsTree, gathered_list, tree_entries, tree_top};
 ghost use Rattle.qm_scorer.specs.United.{IsUnitedOf};
 
 use crate::any_combiner::AnyCombiner;
@@ -17,6 +18,7 @@ use crate::bounds::GREATEST_SCORE;
 use crate::builders::bound_of;
 use crate::group_node::{GroupNode, Shape, next_match};
 use crate::intersection_node::{IntersectionNode, align};
+use crate::least_docs::LeastDocs;
 use crate::union_node::{UnionNode, go_on};
 use qm_combine::{
     DoNothingCombiner, EmptyScorer, FIRST_SPAN, Scorer, Window, by_cost, least_document,
@@ -24,7 +26,7 @@ use qm_combine::{
 };
 use qm_docset::DocSet;
 use qm_schema::QueryError;
-use std::alloc::Global;
+use std::alloc::{AllocError, Global};
 
 /// The documents that any of several scorers has, each with what the combiner, cleared, makes of the
 /// scores there: none where there are no scorers. A scorer that is given twice counts twice.
@@ -81,10 +83,12 @@ fn union_of<'a, S: Scorer>(
 /// twice. Asks for a minimum of 1 or more, which may be `usize::MAX`.
 ///
 /// Refuses with [`QueryError::ScoreBound`] exactly where the `max_score` of the scorers add up to more
-/// than 9223372036854775807, and else with [`QueryError::Memory`] alone. A minimum of 1 makes the scorer
-/// that [`union`] makes. Else the scorers go on up to the first document that enough of them have. A step
-/// and a seek then ask every scorer twice for each document that any has until enough have one, and a
-/// score asks every scorer.
+/// than 9223372036854775807, and else with [`QueryError::Memory`] alone, where there is no room for a
+/// node and some four bytes a scorer. A minimum of 1 makes the scorer that [`union`] makes. Fewer scorers
+/// than the minimum are not moved. Else they go on up to the first document that enough of them have. A
+/// step or a seek then costs a move of each scorer for each of its documents up to the next that enough
+/// have, and a score one of those that have it; to find each of these costs a look at some 64 documents,
+/// and at one more for each 1,024 scorers.
 pub fn at_least<'a, S: Scorer>(
     alloc: Global,
     members: Vec<AnyScorer<'a, S>>,
@@ -100,12 +104,13 @@ pub fn at_least<'a, S: Scorer>(
     if minimum == 1 {
         return union(alloc, members, combiner);
     }
-    let node = group_of(members, combiner, minimum)?;
+    let node = group_of(alloc, members, combiner, minimum)?;
     Ok(AnyScorer::Disjunction(Box::new(alloc, node)?))
 }
 
 // A group of the members, on its first document.
 fn group_of<'a, S: Scorer>(
+    alloc: Global,
     members: Vec<AnyScorer<'a, S>>,
     combiner: AnyCombiner,
     minimum: usize,
@@ -124,8 +129,60 @@ fn group_of<'a, S: Scorer>(
         combiner,
         top: sum.max(1) as u64,
     };
+    let members = needed_members(members, minimum);
+    Ok(first_match(alloc, members, shape)?)
+}
+
+// The members, or none where they are fewer than each document needs: then none of them has to move.
+fn needed_members<'a, S: Scorer>(
+    members: Vec<AnyScorer<'a, S>>,
+    minimum: usize,
+) -> Vec<AnyScorer<'a, S>>
+    ensures kept { minimum ≤ length members.entry.items → result.items ≡ members.entry.items }
+    ensures none { length members.entry.items < minimum → result.items ≡ [] }
+{
+    let mut members = members;
+    if members.len() < minimum {
+        members.clear();
+    }
+    members
+}
+
+// A group of the documents that any of the members has, whose scores nobody asks for: so they may add up
+// to any number.
+pub(crate) fn any_of<'a, S: Scorer>(
+    alloc: Global,
+    members: Vec<AnyScorer<'a, S>>,
+) -> Result<GroupNode<'a, S>, AllocError>
+    requires placed { ArePlaced ⟦<AnyScorer<'a, S> as DocSet>⟧ members.items }
+    ensures { IfOk result (λ node. IsGroupNode S.DocSet node ×
+        (group_entries S.DocSet node ≡ gather 1 (λ _. 1) (map (tree_entries S.DocSet) members.entry.items))) }
+{
+    let shape = Shape {
+        minimum: 1,
+        combiner: AnyCombiner::DoNothing(DoNothingCombiner),
+        top: 1,
+    };
+    first_match(alloc, members, shape)
+}
+
+// A group of this shape over the members, which leave nothing behind but what comes before its first
+// document.
+fn first_match<'a, S: Scorer>(
+    alloc: Global,
+    members: Vec<AnyScorer<'a, S>>,
+    shape: Shape,
+) -> Result<GroupNode<'a, S>, AllocError>
+    requires placed { ArePlaced ⟦<AnyScorer<'a, S> as DocSet>⟧ members.items }
+    requires some { 1 ≤ shape.minimum }
+    requires room { HasRoom shape.combiner (map (tree_entries S.DocSet) members.items) }
+    requires bounded { IsBounded shape.top (gathered_list shape (map (tree_entries S.DocSet) members.items)) }
+    ensures { IfOk result (IsGroupOver S.DocSet shape members.entry.items) }
+{
+    let heads = heads_of(alloc, &members)?;
     let mut node = GroupNode {
         members,
+        heads,
         shape,
         current: 0,
     };
@@ -133,25 +190,20 @@ fn group_of<'a, S: Scorer>(
     Ok(node)
 }
 
-// A group of the documents that any of the members has, whose scores nobody asks for: so they may add up
-// to any number.
-pub(crate) fn any_of<'a, S: Scorer>(members: Vec<AnyScorer<'a, S>>) -> GroupNode<'a, S>
-    requires placed { ArePlaced ⟦<AnyScorer<'a, S> as DocSet>⟧ members.items }
-    ensures valid { IsGroupNode S.DocSet result }
-    ensures entries { group_entries S.DocSet result ≡ gather 1 (λ _. 1) (map (tree_entries S.DocSet) members.entry.items) }
+// The documents that scorers stand on.
+fn heads_of<'a, S: Scorer>(
+    alloc: Global,
+    members: &[AnyScorer<'a, S>],
+) -> Result<LeastDocs, AllocError>
+    requires placed { ArePlaced ⟦<AnyScorer<'a, S> as DocSet>⟧ members.now }
+    ensures { IfOk result (λ heads. AreHeads heads (map (tree_entries S.DocSet) members.now)) }
 {
-    let shape = Shape {
-        minimum: 1,
-        combiner: AnyCombiner::DoNothing(DoNothingCombiner),
-        top: 1,
-    };
-    let mut node = GroupNode {
-        members,
-        shape,
-        current: 0,
-    };
-    node.current = next_match(&mut node, 0);
-    node
+    let mut docs = Vec::with_capacity(alloc, members.len())?;
+    // those of the members before are there
+    for member in members {
+        docs.push(doc_tree(member))?;
+    }
+    LeastDocs::new(alloc, docs)
 }
 
 /// The documents that all of several scorers have, each with the sum of the scores there, held at

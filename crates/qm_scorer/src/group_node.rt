@@ -11,7 +11,8 @@ ghost use Rattle.qm_scorer.specs.Tree.{HasRoom};
 ghost use Rattle.qm_scorer.specs.declared.group_node.GroupNode.{size-GroupNode};
 
 use crate::any_combiner::AnyCombiner;
-use crate::any_scorer::{AnyScorer, doc_tree, reach_tree, score_tree};
+use crate::any_scorer::{AnyScorer, score_tree, seek_tree};
+use crate::least_docs::LeastDocs;
 use qm_combine::{AllScorer, ConstScorer, ScoreCombiner, Scorer};
 use qm_docset::{DocId, Score, SeekDangerResult, TERMINATED};
 
@@ -26,13 +27,15 @@ pub(crate) struct Shape {
 /// The documents that at least a minimum of its members have, each with what a combiner makes of the
 /// members' scores there.
 ///
-/// A plain scan: a step or a seek asks every member where it stands and moves those below the target,
-/// a score asks again, and nothing is kept between calls but the document. A seek at or below the
-/// document does nothing.
+/// Beside the members it keeps the documents that they stand on, with the least of each 32 and of each
+/// 1,024 of them. So a step or a seek moves the members below the target without a look at the others,
+/// and a score asks those alone that stand on the document. A seek at or below the document does
+/// nothing.
 #[cycle(any)]
 #[derive(Drop)]
 pub struct GroupNode<'a, S> {
     pub(crate) members: Vec<AnyScorer<'a, S>>,
+    pub(crate) heads: LeastDocs,
     pub(crate) shape: Shape,
     pub(crate) current: DocId,
 }
@@ -51,11 +54,14 @@ pub(crate) fn reach_members<'a, S: Scorer>(node: &mut GroupNode<'a, S>, target: 
     ensures current { node.new.current ≡ node.old.current }
     ensures depth { size-GroupNode _ node.new ≤ size-GroupNode _ node.old }
 {
-    let mut least = TERMINATED;
-    for i in 0..node.members.len() {
-        least = reach_tree(&mut node.members[i], target).min(least);
+    let mut place = node.heads.next_below(0, target);
+    // the members before this one stand at or past the target
+    while place < node.members.len() {
+        let doc = seek_tree(&mut node.members[place], target);
+        node.heads.put(place, doc);
+        place = node.heads.next_below(place + 1, target);
     }
-    least
+    node.heads.least()
 }
 
 // Whether at least a minimum of the members, all of which stand at or past a document, has it.
@@ -65,16 +71,7 @@ fn has_enough<'a, S: Scorer>(node: &GroupNode<'a, S>, doc: DocId) -> bool
     requires least { doc ≡ least_head (group_lists S.DocSet node.now) }
     ensures { (result ≡ true) ↔ (node.now.shape.minimum ≤ length (scores_at doc (group_lists S.DocSet node.now))) }
 {
-    if node.shape.minimum <= 1 {
-        return true;
-    }
-    let mut count = 0;
-    for member in &node.members {
-        if doc_tree(member) == doc {
-            count += 1;
-        }
-    }
-    node.shape.minimum <= count
+    node.shape.minimum <= 1 || node.heads.has_times(doc, node.shape.minimum)
 }
 
 // Moves the members to the first document at or past the target that enough of them have, and
@@ -168,13 +165,14 @@ pub(crate) fn score_group<'a, S: Scorer>(node: &mut GroupNode<'a, S>) -> u64
     ensures current { node.new.current ≡ node.old.current }
     ensures depth { size-GroupNode _ node.new ≤ size-GroupNode _ node.old }
 {
-    let doc = node.current;
+    let past = node.current + 1;
     let mut combiner = node.shape.combiner;
     combiner.clear();
-    for i in 0..node.members.len() {
-        if doc_tree(&node.members[i]) == doc {
-            take_score(&mut combiner, score_tree(&mut node.members[i]));
-        }
+    let mut place = node.heads.next_below(0, past);
+    // the scores of the members before this one are taken in
+    while place < node.members.len() {
+        take_score(&mut combiner, score_tree(&mut node.members[place]));
+        place = node.heads.next_below(place + 1, past);
     }
     combiner.score() as u64
 }

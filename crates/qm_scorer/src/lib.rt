@@ -13,6 +13,7 @@ mod exclude_node;
 mod group_builders;
 mod group_node;
 mod intersection_node;
+mod least_docs;
 mod optional_node;
 mod passing;
 mod union_node;

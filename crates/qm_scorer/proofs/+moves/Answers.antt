@@ -33,9 +33,11 @@ use Rattle.qm_phrase.specs.PhrasePrefixScorer.{phrase_prefix_left}
 use Rattle.qm_phrase.specs.PhraseScorer.{phrase_left}
 use Rattle.qm_term.specs.TermScorer.{scored_left}
 use Rattle.qm_scorer.specs.Group.{IsGroupNode, group_entries, group_lists}
-use Rattle.qm_scorer.specs.Tree.{HasRoom, IsTree, IsTreePlaced, postings_cursors, set_cursors, tree_entries, tree_limits, HasParts, kept_score, tree_head}
+use Rattle.qm_scorer.specs.Tree.{AreHeads, HasRoom, IsTree, IsTreePlaced, postings_cursors, set_cursors, tree_entries, tree_limits, HasParts, kept_score, tree_head}
 use Rattle.qm_scorer.specs.Tree.{tree_top, united}
 use Rattle.qm_scorer.specs.TreeFacts.{tree-ascends}
+use Rattle.qm_scorer.specs.LeastDocs.{least_of}
+use Rattle.qm_scorer.proofs.GroupHeads.{AreHeads-put, all-reached, head-least, heads-length, least_of-heads, passed-more, scores_at-skipped}
 use Rattle.qm_scorer.proofs.Groups.{HasRoom-moved, group-ended, group-enough, group-moved, group-passed, group-reached, group-there, least_head-from}
 use Rattle.qm_scorer.proofs.Depth.{most-set, same-All, same-BitSet, same-Empty, same-Own, same-Phrase, same-PhrasePrefix, same-Term, size-kept, size-led}
 use Rattle.qm_scorer.proofs.Depth.{size-members, size-others, size-united}
@@ -72,7 +74,6 @@ use Rattle.qm_scorer.proofs.+moves.Goals.{group_node::danger_group-else-doc-targ
 use Rattle.qm_scorer.proofs.+moves.Goals.{group_node::seek_group-else-node-target, group_node::seek_group-then-node-target}
 use Rattle.qm_scorer.proofs.+moves.Goals.{union_node::danger_union-else-doc-target-via-else-doc-target}
 use Rattle.qm_scorer.proofs.+moves.Goals.{union_node::danger_union-else-doc-target-via-then-doc-target+else-target-lt-TERMINATED}
-use Rattle.qm_scorer.proofs.+moves.Goals.{group_node::score_group-else-doc_tree-doc, group_node::score_group-then-doc_tree-doc}
 use Rattle.std.specs.List.{sum}
 use Rattle.std.proofs.lemmas.List.Sums.{fold-append, sum_by-cons, sum_by_more}
 use Rattle.qm_scorer.specs.MoveFacts.{head_score-bounded}
@@ -284,53 +285,97 @@ any_scorer::reach_tree-returns-else-doc-target g t c =
 
 -- ---- groups
 
-pub group_node::reach_members-loop-i-preserved : goal.group_node::reach_members-loop-i-preserved
-group_node::reach_members-loop-i-preserved g t c =
-    let i = c.loop-i.i in
-    let xs = c.loop-i.node.members.items in
-    let x = c.reach_tree.new.scorer in
-    let d = c.args.target in
-    let long = c.loop-i.invariant.unvisited.0 in
-    let here : i < length xs = omega (arith, long, c.loop-i-test.true, c.len-i-end.ensures, c.args.node.now.members.ok.0) in
-    let item = c.index_mut.result.now in
-    let read : tree_entries g.S.DocSet item ≡ tree_entries g.S.DocSet (get_or xs i item) = ap (tree_entries g.S.DocSet) (c.index_mut.ensures.value) in
-    let cut : from d (tree_entries g.S.DocSet x) ≡ from d (tree_entries g.S.DocSet (get_or xs i c.index_mut.result.now)) =
-    ap (from d) (c.reach_tree.ensures.entries ∙ ap (from d) read) ∙ from-from d d _ (omega arith) in
-    let Stands : AnyScorer g.row.S.Denot → Type 0 = λ m. d ≤ head_document (tree_entries g.S.DocSet m) in
-    let grown : take (i + 1) (set xs i x) ≡ take i xs ++ x ∷ [] = take-set_at xs i (i + 1) x (omega arith) here in
-    let past : Stands x = rw c.reach_tree.ensures.entries (head_document-from d _ c.requires.target) in
-    let more = take-map-set_more (tree_entries g.S.DocSet) xs i x here in
-    let pushed = least_head-push (take i (map (tree_entries g.S.DocSet) xs)) (tree_entries g.S.DocSet x) in
-    let smaller = subst (λ (y : AnyScorer g.row.S.Denot). size-AnyScorer g.row.S.Denot x ≤ size-AnyScorer g.row.S.Denot y)
-    c.index_mut.ensures.value c.reach_tree.ensures.depth in
+pub group_node::reach_members-loop-place-init : goal.group_node::reach_members-loop-place-init
+group_node::reach_members-loop-place-init g t c =
+    let h = c.requires.members in
+    let next = c.next_below-place.ensures in
+    let long = heads-length (tree_entries g.S.DocSet) c.args.node.now.members.items c.args.node.now.heads h.heads in
     record {
-      unvisited = search (rules, gq.the_lemmas);
-      valid = All-set (IsTree g.S.DocSet) xs i x c.reach_tree.ensures.valid c.loop-i.invariant.valid;
-      placed = All-set (IsTreePlaced g.S.DocSet) xs i x c.reach_tree.ensures.placed c.loop-i.invariant.placed;
-      lists = map-map-set_same (from d) (tree_entries g.S.DocSet) xs i x c.index_mut.result.now here cut ∙ c.loop-i.invariant.lists;
-      reached = rw grown (All-push Stands (take i xs) x c.loop-i.invariant.reached past);
-      least = omega (arith, ap least_head more, pushed, c.loop-i.invariant.least, c.reach_tree.ensures.head, c.min-least.ensures);
-      shape = c.loop-i.invariant.shape;
-      current = c.loop-i.invariant.current;
-      depth = size-members c.loop-i.node _ _ (most-set (size-AnyScorer g.row.S.Denot) xs i x c.index_mut.result.now here smaller) c.loop-i.invariant.depth;
+      members = h;
+      lists = refl;
+      within = omega (arith, next.within.1, long);
+      passed = λ k below. next.passed k (omega arith) below;
+      shape = refl;
+      current = refl;
+      depth = omega arith;
     }
+
+pub group_node::reach_members-loop-place-preserved : goal.group_node::reach_members-loop-place-preserved
+group_node::reach_members-loop-place-preserved g t c =
+    let D = g.S.DocSet in
+    let e = tree_entries D in
+    let h = c.loop-place.invariant in
+    let before = c.loop-place.node in
+    let xs = before.members.items in
+    let k = c.loop-place.place in
+    let d = c.args.target in
+    let x = c.seek_tree-doc.new.scorer in
+    let doc = c.seek_tree-doc.result in
+    let item = c.index_mut.result.now in
+    let sought = c.seek_tree-doc.ensures in
+    let put = c.put.ensures in
+    let next = c.next_below-place-in-loop-place.ensures in
+    let here : k < length xs = omega (arith, c.loop-place-test.true, before.members.ok.0) in
+    let long = heads-length e xs before.heads h.members.heads in
+    let read : e item ≡ e (get_or xs k item) = ap e c.index_mut.ensures.value in
+    let cut : from d (e x) ≡ from d (e (get_or xs k item)) = ap (from d) (sought.entries ∙ ap (from d) read) ∙ from-from d d _ (omega arith) in
+    let past : d ≤ doc = omega (arith, sought.head, ap head_document sought.entries, head_document-from d (e item) c.requires.target) in
+    let smaller = subst (λ (y : AnyScorer g.row.S.Denot). size-AnyScorer g.row.S.Denot x ≤ size-AnyScorer g.row.S.Denot y)
+    c.index_mut.ensures.value sought.depth in
+    let behind : (j : ℕ) → k + 1 ≤ j → j < c.next_below-place-in-loop-place.result → d ≤ get_or (set before.heads.docs.items k doc) j 0 =
+    λ j after below. subst (λ ds. d ≤ get_or ds j 0) put.docs (next.passed j after below) in
+    record {
+      members = record {
+        valid = All-set (IsTree D) xs k x sought.valid h.members.valid;
+        placed = All-set (IsTreePlaced D) xs k x sought.placed h.members.placed;
+        heads = AreHeads-put e xs before.heads h.members.heads k doc x c.put.new.self put.valid put.docs sought.head;
+      };
+      lists = map-map-set_same (from d) e xs k x item here cut ∙ h.lists;
+      within = omega (arith, next.within.1, ap length put.docs, length-set before.heads.docs.items k doc, long, length-set xs k x);
+      passed = λ j below. subst (λ ds. d ≤ get_or ds j 0) (sym put.docs)
+          (passed-more before.heads.docs.items d k doc c.next_below-place-in-loop-place.result (omega (arith, here, long)) h.passed past behind j below);
+      shape = h.shape;
+      current = h.current;
+      depth = size-members before _ _ (most-set (size-AnyScorer g.row.S.Denot) xs k x item here smaller) h.depth;
+    }
+
+pub group_node::reach_members-loop-place-smaller : goal.group_node::reach_members-loop-place-smaller
+group_node::reach_members-loop-place-smaller g t c =
+    let before = c.loop-place.node in
+    omega (
+      arith,
+      c.next_below-place-in-loop-place.ensures.within.0,
+      c.loop-place-test.true,
+      before.members.ok.0,
+      length-set before.members.items c.loop-place.place c.seek_tree-doc.new.scorer,
+    )
+
+pub group_node::reach_members-seek_tree-doc-requires : goal.group_node::reach_members-seek_tree-doc-requires
+group_node::reach_members-seek_tree-doc-requires g t c κs within =
+    let D = g.S.DocSet in
+    let xs = c.loop-place.node.members.items in
+    let x = c.index_mut.result.now in
+    let here : c.loop-place.place < length xs = omega (arith, c.loop-place-test.true, c.loop-place.node.members.ok.0) in
+    let valid : IsTree D x = subst (IsTree D) (sym c.index_mut.ensures.value) (All-get_or (IsTree D) xs c.loop-place.place x here
+    c.loop-place.invariant.members.valid) in
+    (search (rules, gq.the_lemmas), (search rules, (valid, c.requires.target)))
 
 pub group_node::reach_members-returns : goal.group_node::reach_members-returns
 group_node::reach_members-returns g t c =
-    let xs = c.loop-i.node.members.items in
-    let long : length xs ≤ c.loop-i.i = omega (arith, c.loop-i.invariant.unvisited.0, c.loop-i-test.false, c.len-i-end.ensures, c.args.node.now.members.ok.0) in
-    let whole : take c.loop-i.i xs ≡ xs = take_all c.loop-i.i xs long in
-    let reached = subst (All (λ x. c.args.target ≤ head_document (tree_entries g.S.DocSet x))) whole c.loop-i.invariant.reached in
-    let law = tree-ascends g.S.DocSet g.met.S.DocSet.ascending in
+    let D = g.S.DocSet in
+    let h = c.loop-place.invariant in
+    let node = c.loop-place.node in
+    let xs = node.members.items in
+    let law = tree-ascends D g.met.S.DocSet.ascending in
+    let all : length xs ≤ c.loop-place.place = omega (arith, c.loop-place-test.false, node.members.ok.0) in
+    let reached = all-reached (tree_entries D) xs node.heads h.members.heads c.args.target (λ k below. h.passed k (omega (arith, below, all))) in
     record {
-      least = c.loop-i.invariant.least
-          ∙ ap least_head (take_all c.loop-i.i (map (tree_entries g.S.DocSet) xs) (omega (arith, length-map xs (tree_entries g.S.DocSet), long)));
-      lists = sym (from-row (tree_entries g.S.DocSet) (tree_limits g.S.DocSet) c.args.target xs
-          (λ k d below. law _ (c.loop-i.invariant.valid k d below)) reached) ∙ c.loop-i.invariant.lists;
-      members = record { valid = c.loop-i.invariant.valid; placed = c.loop-i.invariant.placed };
-      shape = c.loop-i.invariant.shape;
-      current = c.loop-i.invariant.current;
-      depth = c.loop-i.invariant.depth;
+      least = c.least.ensures ∙ ap least_of h.members.heads.docs ∙ least_of-heads (group_lists D node);
+      lists = sym (from-row (tree_entries D) (tree_limits D) c.args.target xs (λ k d below. law _ (h.members.valid k d below)) reached) ∙ h.lists;
+      members = h.members;
+      shape = h.shape;
+      current = h.current;
+      depth = h.depth;
     }
 
 pub group_node::next_match-loop-doc-init : goal.group_node::next_match-loop-doc-init
@@ -415,7 +460,7 @@ group_node::seek_group-returns g t c =
       | group_node::seek_group-then-node-target w ↦
           let made = w.next_match-node.ensures in
           let moved = group-moved g.S.DocSet g.met.S.DocSet.ascending c.args.target c.args.node.now _ c.requires.valid
-          (record { valid = made.members.valid; placed = made.members.placed }) made.room made.shape made.head made.least made.entries in
+          (record { valid = made.members.valid; placed = made.members.placed; heads = made.members.heads }) made.room made.shape made.head made.least made.entries in
           rw w.node-is (record {
             head = made.head;
             entries = made.entries;
@@ -1584,121 +1629,138 @@ exclude_node::score_exclude-returns-clause-score g t c =
 
 -- ---- groups
 
-pub group_node::score_group-loop-i-init : goal.group_node::score_group-loop-i-init
-group_node::score_group-loop-i-init g t c = record {
-  unvisited = search (rules, gq.the_lemmas);
-  valid = c.requires.valid.members.valid;
-  placed = c.requires.valid.members.placed;
-  lists = refl;
-  combined = c.clear.ensures ∙ sym (ap (fold any_step (any_cleared c.args.node.now.shape.combiner)) (scores_at-nil c.args.node.now.current));
-  shape = refl;
-  current = refl;
-  depth = omega arith;
-}
+pub group_node::score_group-loop-place-init : goal.group_node::score_group-loop-place-init
+group_node::score_group-loop-place-init g t c =
+    let D = g.S.DocSet in
+    let node = c.args.node.now in
+    let h = c.requires.valid.members in
+    let xs = node.members.items in
+    let d = node.current in
+    let next = c.next_below-place.ensures in
+    let law = tree-ascends D g.met.S.DocSet.ascending in
+    let long = heads-length (tree_entries D) xs node.heads h.heads in
+    let within : c.next_below-place.result ≤ length xs = omega (arith, next.within.1, long) in
+    let none = scores_at-skipped (tree_entries D) xs node.heads h.heads (tree_limits D) (λ k x below. law _ (h.valid k x below)) d 0 c.next_below-place.result
+    (omega arith) within next.passed in
+    record {
+      valid = h.valid;
+      placed = h.placed;
+      heads = h.heads;
+      lists = refl;
+      within = within;
+      here = λ below. next.found (omega (arith, below, long));
+      combined = c.clear.ensures ∙ sym (ap (fold any_step (any_cleared node.shape.combiner)) (none ∙ scores_at-nil d));
+      shape = refl;
+      current = refl;
+      depth = omega arith;
+    }
 
-pub group_node::score_group-loop-i-preserved : goal.group_node::score_group-loop-i-preserved
-group_node::score_group-loop-i-preserved g t c =
+pub group_node::score_group-loop-place-preserved : goal.group_node::score_group-loop-place-preserved
+group_node::score_group-loop-place-preserved g t c =
     let D = g.S.DocSet in
     let e = tree_entries D in
-    let h = c.loop-i.invariant in
-    let i = c.loop-i.i in
-    let xs = c.loop-i.node.members.items in
+    let h = c.loop-place.invariant in
+    let before = c.loop-place.node in
+    let xs = before.members.items in
+    let i = c.loop-place.place in
     let d = c.args.node.now.current in
-    let item = c.index.result.now in
     let start = any_cleared c.args.node.now.shape.combiner in
     let scores = scores_at d (take i (map e xs)) in
-    let here : i < length xs = omega (arith, h.unvisited.0, c.loop-i-test.true, c.len-i-end.ensures, c.args.node.now.members.ok.0) in
-    let valid : IsTree D item = subst (IsTree D) (sym c.index.ensures) (All-get_or (IsTree D) xs i item here h.valid) in
-    let placed : IsTreePlaced D item = subst (IsTreePlaced D) (sym c.index.ensures) (All-get_or (IsTreePlaced D) xs i item here h.placed) in
-    let a = tree-ascends D g.met.S.DocSet.ascending item valid in
-    let doc : c.doc_tree.result ≡ head_document (e item) = c.doc_tree.ensures ∙ tree-head D g.met.S.DocSet.ascending item valid placed in
-    elim c.if-doc_tree-doc.branch [
-      | group_node::score_group-then-doc_tree-doc w ↦
-          let x = w.score_tree.new.scorer in
-          let old = w.index_mut.result.now in
-          let was : old ≡ item = get_or_read_under xs i (length xs) old item w.index_mut.ensures.value here refl ∙ sym c.index.ensures in
-          let same : e x ≡ e (get_or xs i old) = w.score_tree.ensures.entries ∙ ap e w.index_mut.ensures.value in
-          let still = map-set_same e xs i x old here same in
-          let more = scores_at-more e _ xs i d item a c.index.ensures here (sym doc ∙ w.if-doc_tree-doc.true) c.requires.here in
-          let added = ap (fold any_step start) more ∙ fold-append any_step start scores (head_score (e item) ∷ []) in
-          let smaller = subst (λ (y : AnyScorer g.row.S.Denot). size-AnyScorer g.row.S.Denot x ≤ size-AnyScorer g.row.S.Denot y)
-          w.index_mut.ensures.value w.score_tree.ensures.depth in
-          rw (w.node-is, w.combiner-is) (record {
-            unvisited = search (rules, gq.the_lemmas);
-            valid = All-set (IsTree D) xs i x w.score_tree.ensures.valid h.valid;
-            placed = All-set (IsTreePlaced D) xs i x w.score_tree.ensures.placed h.placed;
-            lists = still ∙ h.lists;
-            combined = w.take_score.ensures ∙ ap (λ s. any_step s w.score_tree.result) h.combined
-                ∙ ap (any_step (fold any_step start scores)) (w.score_tree.ensures.score ∙ ap (λ m. head_score (e m)) was)
-                ∙ sym added ∙ ap (λ r. fold any_step start (scores_at d (take (i + 1) r))) (sym still);
-            shape = h.shape;
-            current = h.current;
-            depth = size-members c.loop-i.node _ _ (most-set (size-AnyScorer g.row.S.Denot) xs i x old here smaller) h.depth;
-          })
-      | group_node::score_group-else-doc_tree-doc w ↦
-          let past : d ≤ head_document (e item) =
-          omega (arith, c.requires.valid.own.least, ap least_head h.lists, least_head-le e xs i item here, ap (λ m. head_document (e m)) c.index.ensures) in
-          let same = scores_at-more_ahead e _ xs i d item a c.index.ensures here (omega (arith, doc, past, w.if-doc_tree-doc.false)) in
-          rw (w.node-is, w.combiner-is) (record {
-            unvisited = search (rules, gq.the_lemmas);
-            valid = h.valid;
-            placed = h.placed;
-            lists = h.lists;
-            combined = h.combined ∙ sym (ap (fold any_step start) same);
-            shape = h.shape;
-            current = h.current;
-            depth = h.depth;
-          })
-    ]
+    let x = c.score_tree.new.scorer in
+    let old = c.index_mut.result.now in
+    let next = c.next_below-place-in-loop-place.ensures in
+    let law = tree-ascends D g.met.S.DocSet.ascending in
+    let here : i < length xs = omega (arith, c.loop-place-test.true, before.members.ok.0) in
+    let long = heads-length e xs before.heads h.heads in
+    let is = c.index_mut.ensures.value in
+    let valid : IsTree D old = subst (IsTree D) (sym is) (All-get_or (IsTree D) xs i old here h.valid) in
+    let least : d ≡ least_head (map e xs) = c.requires.valid.own.least ∙ sym (ap least_head h.lists) in
+    let on : head_document (e old) ≡ d = ap (λ y. head_document (e y)) is ∙ head-least e xs before.heads h.heads i d old here least (h.here here) in
+    let same : e x ≡ e (get_or xs i old) = c.score_tree.ensures.entries ∙ ap e is in
+    let still = map-set_same e xs i x old here same in
+    let more = scores_at-more e _ xs i d old (law old valid) is here on c.requires.here in
+    let added = ap (fold any_step start) more ∙ fold-append any_step start scores (head_score (e old) ∷ []) in
+    let within : c.next_below-place-in-loop-place.result ≤ length xs = omega (arith, next.within.1, long) in
+    let skipped = scores_at-skipped e xs before.heads h.heads (tree_limits D) (λ k y below. law _ (h.valid k y below)) d (i + 1)
+    c.next_below-place-in-loop-place.result next.within.0 within next.passed in
+    let smaller = subst (λ (y : AnyScorer g.row.S.Denot). size-AnyScorer g.row.S.Denot x ≤ size-AnyScorer g.row.S.Denot y) is c.score_tree.ensures.depth in
+    record {
+      valid = All-set (IsTree D) xs i x c.score_tree.ensures.valid h.valid;
+      placed = All-set (IsTreePlaced D) xs i x c.score_tree.ensures.placed h.placed;
+      heads = subst (AreHeads before.heads) (sym still) h.heads;
+      lists = still ∙ h.lists;
+      within = omega (arith, within, length-set xs i x);
+      here = λ below. next.found (omega (arith, below, long, length-set xs i x));
+      combined = c.take_score.ensures ∙ ap (λ s. any_step s c.score_tree.result) h.combined
+          ∙ ap (any_step (fold any_step start scores)) c.score_tree.ensures.score ∙ sym added
+          ∙ ap (fold any_step start) (sym skipped ∙ ap (λ r. scores_at d (take c.next_below-place-in-loop-place.result r)) (sym still));
+      shape = h.shape;
+      current = h.current;
+      depth = size-members before _ _ (most-set (size-AnyScorer g.row.S.Denot) xs i x old here smaller) h.depth;
+    }
+
+pub group_node::score_group-loop-place-smaller : goal.group_node::score_group-loop-place-smaller
+group_node::score_group-loop-place-smaller g t c =
+    let before = c.loop-place.node in
+    omega (
+      arith,
+      c.next_below-place-in-loop-place.ensures.within.0,
+      c.loop-place-test.true,
+      before.members.ok.0,
+      length-set before.members.items c.loop-place.place c.score_tree.new.scorer,
+    )
 
 pub group_node::score_group-take_score-requires-clause-room : goal.group_node::score_group-take_score-requires-clause-room
 group_node::score_group-take_score-requires-clause-room g t c =
     let D = g.S.DocSet in
     let e = tree_entries D in
-    let h = c.loop-i.invariant in
-    let i = c.loop-i.i in
-    let xs = c.loop-i.node.members.items in
+    let h = c.loop-place.invariant in
+    let before = c.loop-place.node in
+    let xs = before.members.items in
+    let i = c.loop-place.place in
     let d = c.args.node.now.current in
-    let item = c.index.result.now in
     let start = c.args.node.now.shape.combiner in
-    let here : i < length xs = omega (arith, h.unvisited.0, c.loop-i-test.true, c.len-i-end.ensures, c.args.node.now.members.ok.0) in
-    let valid : IsTree D item = subst (IsTree D) (sym c.index.ensures) (All-get_or (IsTree D) xs i item here h.valid) in
-    let placed : IsTreePlaced D item = subst (IsTreePlaced D) (sym c.index.ensures) (All-get_or (IsTreePlaced D) xs i item here h.placed) in
-    let a = tree-ascends D g.met.S.DocSet.ascending item valid in
-    let doc : c.doc_tree.result ≡ head_document (e item) = c.doc_tree.ensures ∙ tree-head D g.met.S.DocSet.ascending item valid placed in
-    let was : c.index_mut.result.now ≡ item = get_or_read_under xs i (length xs) c.index_mut.result.now item c.index_mut.ensures.value here refl
-    ∙ sym c.index.ensures in
+    let old = c.index_mut.result.now in
+    let here : i < length xs = omega (arith, c.loop-place-test.true, before.members.ok.0) in
+    let is = c.index_mut.ensures.value in
+    let valid : IsTree D old = subst (IsTree D) (sym is) (All-get_or (IsTree D) xs i old here h.valid) in
+    let least : d ≡ least_head (map e xs) = c.requires.valid.own.least ∙ sym (ap least_head h.lists) in
+    let on : head_document (e old) ≡ d = ap (λ y. head_document (e y)) is ∙ head-least e xs before.heads h.heads i d old here least (h.here here) in
     let room = subst (HasRoom start) (sym h.lists) c.requires.valid.own.room d in
-    let next = room-next e _ xs i d item a c.index.ensures here (sym doc ∙ c.if-doc_tree-doc.true) c.requires.here in
-    let score : c.score_tree.result ≡ head_score (e item) = c.score_tree.ensures.score ∙ ap (λ m. head_score (e m)) was in
-    let left = any-taken start (scores_at d (map e xs)) (scores_at d (take i (map e xs))) c.score_tree.result room (λ fits. omega (arith, score, next fits)) in
+    let next = room-next e _ xs i d old (tree-ascends D g.met.S.DocSet.ascending old valid) is here on c.requires.here in
+    let left = any-taken start (scores_at d (map e xs)) (scores_at d (take i (map e xs))) c.score_tree.result room
+    (λ fits. omega (arith, c.score_tree.ensures.score, next fits)) in
     subst (λ s. AnyHasRoom s c.score_tree.result) (sym h.combined) left
 
 pub group_node::score_group-score_tree-requires : goal.group_node::score_group-score_tree-requires
 group_node::score_group-score_tree-requires g t c κs within =
     let D = g.S.DocSet in
-    let h = c.loop-i.invariant in
-    let i = c.loop-i.i in
-    let xs = c.loop-i.node.members.items in
-    let item = c.index.result.now in
+    let e = tree_entries D in
+    let h = c.loop-place.invariant in
+    let before = c.loop-place.node in
+    let xs = before.members.items in
+    let i = c.loop-place.place in
+    let d = c.args.node.now.current in
     let x = c.index_mut.result.now in
-    let here : i < length xs = omega (arith, h.unvisited.0, c.loop-i-test.true, c.len-i-end.ensures, c.args.node.now.members.ok.0) in
-    let was : x ≡ item = get_or_read_under xs i (length xs) x item c.index_mut.ensures.value here refl ∙ sym c.index.ensures in
-    let valid : IsTree D x = subst (IsTree D) (sym c.index_mut.ensures.value) (All-get_or (IsTree D) xs i x here h.valid) in
-    let placed : IsTreePlaced D x = subst (IsTreePlaced D) (sym c.index_mut.ensures.value) (All-get_or (IsTreePlaced D) xs i x here h.placed) in
-    let on : tree_head D x < TERMINATED = omega (arith, ap (tree_head D) was, c.doc_tree.ensures, c.if-doc_tree-doc.true, c.requires.here) in
+    let here : i < length xs = omega (arith, c.loop-place-test.true, before.members.ok.0) in
+    let is = c.index_mut.ensures.value in
+    let valid : IsTree D x = subst (IsTree D) (sym is) (All-get_or (IsTree D) xs i x here h.valid) in
+    let placed : IsTreePlaced D x = subst (IsTreePlaced D) (sym is) (All-get_or (IsTreePlaced D) xs i x here h.placed) in
+    let least : d ≡ least_head (map e xs) = c.requires.valid.own.least ∙ sym (ap least_head h.lists) in
+    let stands : head_document (e x) ≡ d = ap (λ y. head_document (e y)) is ∙ head-least e xs before.heads h.heads i d x here least (h.here here) in
+    let on : tree_head D x < TERMINATED = omega (arith, tree-head D g.met.S.DocSet.ascending x valid placed, stands, c.requires.here) in
     (search (rules, gq.the_lemmas), (search rules, (valid, (placed, on))))
 
 pub group_node::score_group-returns-clause-score : goal.group_node::score_group-returns-clause-score
 group_node::score_group-returns-clause-score g t c =
     let D = g.S.DocSet in
-    let h = c.loop-i.invariant in
+    let h = c.loop-place.invariant in
     let node = c.args.node.now in
-    let lists = map (tree_entries D) c.loop-i.node.members.items in
-    let long : length lists ≤ c.loop-i.i =
-    omega (arith, length-map c.loop-i.node.members.items (tree_entries D), h.unvisited.0, c.loop-i-test.false, c.len-i-end.ensures, node.members.ok.0) in
-    let all = h.combined ∙ ap (λ r. fold any_step (any_cleared node.shape.combiner) (scores_at node.current r)) (take_all c.loop-i.i lists long ∙ h.lists) in
-    let value = group-score D g.met.S.DocSet.ascending node c.loop-i.combiner c.requires.valid c.requires.here all in
+    let xs = c.loop-place.node.members.items in
+    let lists = map (tree_entries D) xs in
+    let long : length lists ≤ c.loop-place.place = omega (arith, length-map xs (tree_entries D), c.loop-place-test.false, c.loop-place.node.members.ok.0) in
+    let all = h.combined ∙ ap (λ r. fold any_step (any_cleared node.shape.combiner) (scores_at node.current r)) (take_all c.loop-place.place lists long ∙ h.lists) in
+    let value = group-score D g.met.S.DocSet.ascending node c.loop-place.combiner c.requires.valid c.requires.here all in
     score_cast c.score.result _ c.score.ensures c.score.type_inv ∙ value
 
 pub group_node::score_group-returns-clause-fits : goal.group_node::score_group-returns-clause-fits
@@ -1707,8 +1769,8 @@ group_node::score_group-returns-clause-fits g t c =
 
 pub group_node::score_group-returns-clause-valid : goal.group_node::score_group-returns-clause-valid
 group_node::score_group-returns-clause-valid g t c =
-    let h = c.loop-i.invariant in
-    group-kept g.S.DocSet g.met.S.DocSet.ascending c.args.node.now c.loop-i.node c.requires.valid h.valid h.placed h.lists h.shape h.current
+    let h = c.loop-place.invariant in
+    group-kept g.S.DocSet g.met.S.DocSet.ascending c.args.node.now c.loop-place.node c.requires.valid h.valid h.placed h.heads h.lists h.shape h.current
 
 -- ---- intersections
 

@@ -1,10 +1,10 @@
-use Rattle.std.proofs.Common.{◌≡◌, ◌-◌, ◌+◌, ◌≤◌, All, map, min, take, fold, sum}
+use Rattle.std.proofs.Common.{◌≡◌, ◌-◌, ◌+◌, ◌<◌, ◌≤◌, ℕ, All, get_or, length, map, min, take, fold, sum}
 use denote.Param.Weighed.{most}
 use Rattle.qm_docset.specs.Entry.{from, head_document, greatest_score, head_score}
 use Rattle.qm_combine.specs.Union.{least_head}
 use Rattle.qm_scorer.specs.Group.{AreStanding, group_entries, group_lists}
 use Rattle.qm_scorer.specs.Intersection.{common_list, other_lists}
-use Rattle.qm_scorer.specs.Tree.{HasRoom, IsTree, IsTreePlaced, kept_entries, tree_entries, tree_limits, tree_top}
+use Rattle.qm_scorer.specs.Tree.{AreHeads, HasRoom, IsTree, IsTreePlaced, kept_entries, tree_entries, tree_limits, tree_top}
 use Rattle.qm_scorer.specs.declared.any_scorer.AnyScorer.{size-AnyScorer}
 use Rattle.qm_scorer.specs.declared.exclude_node.ExcludeNode.{size-ExcludeNode}
 use Rattle.qm_scorer.specs.declared.group_node.GroupNode.{size-GroupNode}
@@ -33,18 +33,19 @@ invariant-exclude_node::pass_excluded-loop-doc g l = record {
 abbrev pub decreases-exclude_node::pass_excluded-loop-doc : goal.decreases-exclude_node::pass_excluded-loop-doc
 decreases-exclude_node::pass_excluded-loop-doc g l = 2147483647 - l.doc
 
-abbrev pub invariant-group_node::reach_members-loop-i : goal.invariant-group_node::reach_members-loop-i
-invariant-group_node::reach_members-loop-i g l = record {
-  unvisited : goal.unvisited-group_node::reach_members-loop-i g l;
-  valid : All (IsTree g.S.DocSet) l.node.members.items;
-  placed : All (IsTreePlaced g.S.DocSet) l.node.members.items;
+abbrev pub invariant-group_node::reach_members-loop-place : goal.invariant-group_node::reach_members-loop-place
+invariant-group_node::reach_members-loop-place g l = record {
+  members : AreStanding g.S.DocSet l.node;
   lists : map (from l.target) (group_lists g.S.DocSet l.node) ≡ map (from l.target) (group_lists g.S.DocSet l.fn.node);
-  reached : All (λ x. l.target ≤ head_document (tree_entries g.S.DocSet x)) (take l.i l.node.members.items);
-  least : l.least ≡ least_head (take l.i (group_lists g.S.DocSet l.node));
+  within : l.place ≤ length l.node.members.items;
+  passed : (k : ℕ) → k < l.place → l.target ≤ get_or l.node.heads.docs.items k 0;
   shape : l.node.shape ≡ l.fn.node.shape;
   current : l.node.current ≡ l.fn.node.current;
   depth : size-GroupNode _ l.node ≤ size-GroupNode _ l.fn.node;
 }
+
+abbrev pub decreases-group_node::reach_members-loop-place : goal.decreases-group_node::reach_members-loop-place
+decreases-group_node::reach_members-loop-place g l = length l.node.members.items - l.place
 
 abbrev pub invariant-group_node::next_match-loop-doc : goal.invariant-group_node::next_match-loop-doc
 invariant-group_node::next_match-loop-doc g l = record {
@@ -123,17 +124,22 @@ invariant-union_node::reach_each-loop-i g l = record {
 
 -- ---- scores
 
-abbrev pub invariant-group_node::score_group-loop-i : goal.invariant-group_node::score_group-loop-i
-invariant-group_node::score_group-loop-i g l = record {
-  unvisited : goal.unvisited-group_node::score_group-loop-i g l;
+abbrev pub invariant-group_node::score_group-loop-place : goal.invariant-group_node::score_group-loop-place
+invariant-group_node::score_group-loop-place g l = record {
   valid : All (IsTree g.S.DocSet) l.node.members.items;
   placed : All (IsTreePlaced g.S.DocSet) l.node.members.items;
+  heads : AreHeads l.node.heads (group_lists g.S.DocSet l.node);
   lists : group_lists g.S.DocSet l.node ≡ group_lists g.S.DocSet l.fn.node;
-  combined : l.combiner ≡ fold any_step (any_cleared l.fn.node.shape.combiner) (scores_at l.fn.node.current (take l.i (group_lists g.S.DocSet l.node)));
+  within : l.place ≤ length l.node.members.items;
+  here : l.place < length l.node.members.items → get_or l.node.heads.docs.items l.place 0 < l.fn.node.current + 1;
+  combined : l.combiner ≡ fold any_step (any_cleared l.fn.node.shape.combiner) (scores_at l.fn.node.current (take l.place (group_lists g.S.DocSet l.node)));
   shape : l.node.shape ≡ l.fn.node.shape;
   current : l.node.current ≡ l.fn.node.current;
   depth : size-GroupNode _ l.node ≤ size-GroupNode _ l.fn.node;
 }
+
+abbrev pub decreases-group_node::score_group-loop-place : goal.decreases-group_node::score_group-loop-place
+decreases-group_node::score_group-loop-place g l = length l.node.members.items - l.place
 
 abbrev pub invariant-intersection_node::score_intersection-loop-i : goal.invariant-intersection_node::score_intersection-loop-i
 invariant-intersection_node::score_intersection-loop-i g l = record {

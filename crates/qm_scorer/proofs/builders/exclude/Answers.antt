@@ -55,7 +55,7 @@ returns-then-len-lt2-clause-lists g c =
 
 pub exclude_one-requires-2-clause-other : goal.exclude_one-requires-2-clause-other
 exclude_one-requires-2-clause-other g c =
-    closed-Disjunction g.S.DocSet c.in_ok-new.field-0 (subst (IsGroupNode g.S.DocSet) (sym c.in_ok-new.ensures.ok) c.any_of-node.ensures.valid)
+    closed-Disjunction g.S.DocSet c.in_ok-new.field-0 (subst (IsGroupNode g.S.DocSet) (sym c.in_ok-new.ensures.ok) c.in_ok-node.ensures.0)
 
 pub returns-clause-lists : goal.returns-clause-lists
 returns-clause-lists g c =
@@ -63,7 +63,7 @@ returns-clause-lists g c =
     let entries = tree_entries D in
     let xs = c.args.excluded.items in
     let ascends = tree-ascends D g.met.S.DocSet.ascending c.args.scorer c.requires.placed.valid in
-    let united = entries-Disjunction D c.in_ok-new.field-0 ∙ ap (group_entries D) c.in_ok-new.ensures.ok ∙ c.any_of-node.ensures.entries in
+    let united = entries-Disjunction D c.in_ok-new.field-0 ∙ ap (group_entries D) c.in_ok-new.ensures.ok ∙ c.in_ok-node.ensures.1 in
     let left = without-below _ (some_has_document (map entries xs)) 0 _ (entries c.args.scorer) ascends
     (λ d below. ap (λ es. has_document es d) united ∙ has_document-union (λ _. 1) d (map entries xs) below) in
     IfOk-weaker c.exclude_one-2.result _ _ (λ s lists. record {
