@@ -7,7 +7,8 @@
 tries the wrong bodies of must-fail/ and runs the programs. As soon as it says of a crate that it is proved or
 kept, tests/wrong_bodies.py tries the others of that crate beside it, at the lowest priority, so that proofs
 wait for nothing; then tests/refused_calls.py looks whether each public call has its rows under refused memory,
-tests/cases.py plays the cases, and tests/program_runs.py runs the program. The last line counts what passed; the exit status is 1 where anything did not. Called by .ci/run.
+tests/cases.py plays the cases, and tests/program_runs.py and tests/birch_runs.py run the programs `qm_search`
+and `birch`. The last line counts what passed; the exit status is 1 where anything did not. Called by .ci/run.
 """
 
 import os
@@ -26,9 +27,15 @@ COUNTED = {
     "calls under refusals": r"refused calls: (\d+) as wanted",
     "rows": r"cases: (\d+) rows, \d+ wrong",
     "program runs": r"program runs: (\d+) as wanted",
+    "birch runs": r"birch runs: (\d+) as wanted",
 }
 # what is run behind the proofs
-PLAYED = {"calls under refusals": "refused_calls.py", "rows": "cases.py", "program runs": "program_runs.py"}
+PLAYED = {
+    "calls under refusals": "refused_calls.py",
+    "rows": "cases.py",
+    "program runs": "program_runs.py",
+    "birch runs": "birch_runs.py",
+}
 # what `rt ci` says of a crate that it has proved, or that an earlier run on this machine had
 PROVED = re.compile(r"rt: (\w+) (?:proved|is kept: .*)")
 PRINTING = threading.Lock()

@@ -1,5 +1,5 @@
 #!/usr/bin/env python3
-"""All cases and all runs of the program, on builds of which nothing is proved: for whoever changed a body
+"""All cases and all runs of the programs, on builds of which nothing is proved: for whoever changed a body
 and wants to know within minutes. The gate is `python3 tests/gate.py`.
 
     python3 tests/quick.py [--seed S] [--rows N]
@@ -16,7 +16,7 @@ sys.dont_write_bytecode = True
 from cases import PROGRAMS, ROOT
 
 # the programs, those first that take the longest to build
-BUILT = ["cases_queries", "qm_search", "cases_postings", "cases_cursors"]
+BUILT = ["birch", "cases_queries", "qm_search", "cases_postings", "cases_cursors"]
 
 
 def build(room, name):
@@ -34,6 +34,7 @@ def main(words):
             [f"{ROOT}/tests/refused_calls.py"],
             [f"{ROOT}/tests/cases.py", "--built", room, *words],
             [f"{ROOT}/tests/program_runs.py", f"{room}/qm_search"],
+            [f"{ROOT}/tests/birch_runs.py", f"{room}/birch"],
         ]
         failed = [subprocess.run([sys.executable, *it], check=False).returncode for it in runs]
     print("nothing of this was proved")
