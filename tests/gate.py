@@ -7,9 +7,10 @@
 tries the wrong bodies of must-fail/ and runs the programs. As soon as it says of a crate that it is proved or
 kept, tests/wrong_bodies.py tries the others of that crate beside it, at the lowest priority, so that proofs
 wait for nothing; then tests/refused_calls.py looks whether each public call has its rows under refused memory,
-tests/cases.py plays the cases, and tests/program_runs.py runs the program; at last what docs/ has of specs/ and of
-crates.txt is compared with these, and the commands that the documents show are run. The last line counts what
-passed; the exit status is 1 where anything did not. Called by .ci/run.
+tests/cases.py plays the cases, and tests/program_runs.py and tests/birch_runs.py run the programs `qm_search`
+and `birch`; at last what docs/ has of specs/ and of crates.txt is compared with these, and the commands that the
+documents show are run. The last line counts what passed; the exit status is 1 where anything did not. Called by
+.ci/run.
 """
 
 import os
@@ -28,6 +29,7 @@ COUNTED = {
     "calls under refusals": r"refused calls: (\d+) as wanted",
     "rows": r"cases: (\d+) rows, \d+ wrong",
     "program runs": r"program runs: (\d+) as wanted",
+    "birch runs": r"birch runs: (\d+) as wanted",
     "words": r"definitions: (\d+) as specs/ says",
     "crates drawn": r"layers: (\d+) crates as crates.txt says",
     "documented commands": r"documented commands: (\d+) as wanted",
@@ -37,6 +39,7 @@ PLAYED = {
     "calls under refusals": ["refused_calls.py"],
     "rows": ["cases.py"],
     "program runs": ["program_runs.py"],
+    "birch runs": ["birch_runs.py"],
     "words": ["definitions.py", "--check"],
     "crates drawn": ["layers.py", "--check"],
     "documented commands": ["documented_commands.py"],

@@ -13,7 +13,6 @@ Called by .ci/run after `rt ci`.
 
 import argparse
 import os
-import subprocess
 import sys
 import tempfile
 
@@ -32,7 +31,7 @@ from program_runs import (
     single_lines,
     whole_scripts,
 )
-from program_runs.program import NeverEnded, Program
+from program_runs.program import NeverEnded, Program, build_library
 from program_runs.report import Report
 
 HERE = os.path.dirname(os.path.abspath(__file__))
@@ -74,15 +73,6 @@ def main():
             wanted = "that it reads its script and ends"
             report.expect_same("each run", wanted, "one that did not; no more are made")
     return report.close(program.runs)
-
-
-def build_library(room):
-    """Builds what is preloaded."""
-    library = os.path.join(room, "faulty_io.so")
-    source = os.path.join(HERE, "faulty_io.c")
-    flags = "-O2 -Wall -Wextra -Werror -shared -fPIC".split()
-    subprocess.run(["cc", *flags, "-o", library, source], check=True)
-    return library
 
 
 if __name__ == "__main__":

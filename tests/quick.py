@@ -1,5 +1,5 @@
 #!/usr/bin/env python3
-"""All cases, all runs of the program and all that the documents show, on builds of which nothing is proved: for
+"""All cases, all runs of the programs and all that the documents show, on builds of which nothing is proved: for
 whoever changed a body and wants to know within minutes. The gate is `python3 tests/gate.py`.
 
     python3 tests/quick.py [--seed S] [--rows N]
@@ -16,7 +16,7 @@ sys.dont_write_bytecode = True
 from cases import PROGRAMS, ROOT
 
 # the programs, those first that take the longest to build
-BUILT = ["cases_queries", "qm_search", "cases_postings", "cases_cursors"]
+BUILT = ["birch", "cases_queries", "qm_search", "cases_postings", "cases_cursors"]
 
 
 def build(room, name):
@@ -34,6 +34,7 @@ def main(words):
             [f"{ROOT}/tests/refused_calls.py"],
             [f"{ROOT}/tests/cases.py", "--built", room, *words],
             [f"{ROOT}/tests/program_runs.py", f"{room}/qm_search"],
+            [f"{ROOT}/tests/birch_runs.py", f"{room}/birch"],
             [f"{ROOT}/tests/definitions.py", "--check"],
             [f"{ROOT}/tests/layers.py", "--check"],
             [f"{ROOT}/tests/documented_commands.py"],

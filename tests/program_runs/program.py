@@ -9,6 +9,18 @@ from typing import NamedTuple
 LIMIT = 100
 
 
+# what is preloaded
+LIBRARY = os.path.join(os.path.dirname(os.path.abspath(__file__)), "..", "faulty_io.c")
+
+
+def build_library(room):
+    """Builds what is preloaded."""
+    library = os.path.join(room, "faulty_io.so")
+    flags = "-O2 -Wall -Wextra -Werror -shared -fPIC".split()
+    subprocess.run(["cc", *flags, "-o", library, LIBRARY], check=True)
+    return library
+
+
 class NeverEnded(Exception):
     """A run took too long, and was ended."""
 

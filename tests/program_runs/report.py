@@ -10,8 +10,8 @@ SHOWN = 200
 class Report:
     """Counts the differences."""
 
-    def __init__(self):
-        self.failed = 0
+    def __init__(self, name="program runs"):
+        self.name, self.failed = name, 0
 
     def expect(self, name, text, status, outcome):
         """The run of this name wrote just this text, and ended with this status."""
@@ -21,16 +21,16 @@ class Report:
         """What a run of this name is known by is just as wanted."""
         if wanted != got:
             self.failed += 1
-            print(f"program runs: {name}")
+            print(f"{self.name}: {name}")
             print(f"  wanted {_shown(wanted, got)}")
             print(f"  got    {_shown(got, wanted)}")
 
     def close(self, runs):
         """Prints how many runs went as wanted, or what failed of them, and gives the exit status."""
         if self.failed:
-            print(f"program runs: {self.failed} failed")
+            print(f"{self.name}: {self.failed} failed")
             return 1
-        print(f"program runs: {runs} as wanted")
+        print(f"{self.name}: {runs} as wanted")
         return 0
 
 

@@ -1,0 +1,210 @@
+//! The answer to one query.
+
+use crate::explain::{write_explanation, write_weights};
+use crate::index::Index;
+use crate::options::Options;
+use crate::searched::build;
+use crate::shown::{Shown, line_of, shown_part, text_of, write_json, write_plain};
+use crate::stats::{Stopwatch, tell_found};
+use crate::stop::Stop;
+use anyhow::anyhow;
+use birch_text::{Clause, Marker, QueryFault, read_query};
+use qm_postings::DocAddress;
+use qm_query::{AnyQuery, Query, TopDocs};
+use std::io;
+use std::io::Write;
+
+/// Answers a query: writes what it finds, and answers how many results there are. None where it isn't
+/// understood, which is told on standard error.
+pub fn answer<W: Write>(
+    rt: &HostRuntime,
+    options: &Options<'_>,
+    index: &mut Index,
+    text: &str,
+    is_coloured: bool,
+    out: &mut W,
+) -> Result<Option<usize>, Stop> {
+    let clauses = match read_query(rt.alloc(), text) {
+        Ok(clauses) => clauses,
+        Err(fault) => {
+            explain_fault(rt, text, fault);
+            return Ok(None);
+        }
+    };
+    let found = answer_clauses(rt, options, index, &clauses, is_coloured, out)?;
+    Ok(Some(found))
+}
+
+// Shows where a query is not understood.
+fn explain_fault(rt: &HostRuntime, text: &str, fault: QueryFault) {
+    let _ = eprintln!(rt; "birch: {fault}");
+    if let QueryFault::NotUnderstood { place, .. } = fault {
+        let letters = text.get(..place).unwrap_or("").chars().count();
+        let _ = eprintln!(rt; "  {text}");
+        let _ = eprint!(rt; "  ");
+        for _ in 0..letters {
+            let _ = eprint!(rt; " ");
+        }
+        let _ = eprintln!(rt; "^");
+    }
+}
+
+// Answers the query of these clauses.
+fn answer_clauses<W: Write>(
+    rt: &HostRuntime,
+    options: &Options<'_>,
+    index: &mut Index,
+    clauses: &[Clause],
+    is_coloured: bool,
+    out: &mut W,
+) -> Result<usize, Stop> {
+    let watch = Stopwatch::start(rt)?;
+    let query = build(rt.alloc(), index, clauses)?;
+    let asked = Asked {
+        rt,
+        options,
+        index,
+        clauses,
+        query: &query,
+        is_coloured,
+    };
+    if options.is_count {
+        asked.count(out)
+    } else {
+        asked.search(watch, out)
+    }
+}
+
+// A query of an index, and how it is answered.
+#[derive(Clone, Copy)]
+struct Asked<'a, 'o> {
+    rt: &'a HostRuntime,
+    options: &'a Options<'o>,
+    index: &'a Index,
+    clauses: &'a [Clause],
+    query: &'a AnyQuery,
+    is_coloured: bool,
+}
+
+impl<'a, 'o> Asked<'a, 'o> {
+    // Writes how many documents match.
+    fn count<W: Write>(&self, out: &mut W) -> Result<usize, Stop> {
+        let count = self.query.count(self.rt.alloc(), &self.index.searcher)?;
+        writeln!(out, "{count}")?;
+        Ok(count)
+    }
+
+    // Writes the best documents.
+    fn search<W: Write>(&self, watch: Stopwatch, out: &mut W) -> Result<usize, Stop> {
+        let alloc = self.rt.alloc();
+        let limit = self.options.limit.max(self.options.explained.unwrap_or(0));
+        let found = TopDocs::with_limit(limit).search(alloc, self.query, &self.index.searcher)?;
+        if self.options.has_stats {
+            self.tell(found.len(), watch)?;
+        }
+        match self.options.explained {
+            Some(number) => self.explain(&found, number, out)?,
+            None => self.list(&found, out)?,
+        }
+        Ok(found.len())
+    }
+
+    // Tells how many documents match, and how long it took to find the best.
+    fn tell(&self, listed: usize, watch: Stopwatch) -> Result<(), Stop> {
+        let took = watch.elapsed(self.rt)?;
+        let matching = self.query.count(self.rt.alloc(), &self.index.searcher)?;
+        tell_found(self.rt, listed, matching, took)?;
+        Ok(())
+    }
+
+    // Writes all results.
+    fn list<W: Write>(&self, found: &[(i64, DocAddress)], out: &mut W) -> Result<(), Stop> {
+        let marker = Marker::new(self.rt.alloc(), self.clauses)?;
+        for (number, (score, address)) in found.iter().enumerate() {
+            self.write(&marker, number.saturating_add(1), *score, *address, out)?;
+        }
+        Ok(())
+    }
+
+    // Writes one result.
+    fn write<W: Write>(
+        &self,
+        marker: &Marker<'_>,
+        number: usize,
+        score: i64,
+        address: DocAddress,
+        out: &mut W,
+    ) -> Result<(), Stop> {
+        let Some(shown) = self.shown(marker, score, address)? else {
+            return Ok(());
+        };
+        if self.options.is_json {
+            write_json(self.rt.alloc(), out, &shown)?;
+        } else {
+            write_plain(out, number, &shown, self.is_coloured)?;
+        }
+        Ok(())
+    }
+
+    // A result with its text; a file that can't be read any more is noted.
+    fn shown(
+        &self,
+        marker: &Marker<'_>,
+        score: i64,
+        address: DocAddress,
+    ) -> Result<Option<Shown<'a>>, Stop> {
+        let Some(filed) = self.index.place(address) else {
+            return Ok(None);
+        };
+        let Some(file) = self.index.files.get(filed.file as usize) else {
+            return Ok(None);
+        };
+        let form = self.options.form;
+        let path = file.path.as_str();
+        let text = match text_of(self.rt, form, self.index, filed) {
+            Ok(text) => text,
+            Err(error) if error.kind() == io::ErrorKind::OutOfMemory => {
+                return Err(Stop::from(error));
+            }
+            Err(error) => {
+                let _ = eprintln!(self.rt; "birch: {path}: {error}");
+                String::new(self.rt.alloc())
+            }
+        };
+        let marks = marker.marks(self.rt.alloc(), text.as_str())?;
+        let snippet = shown_part(text.as_str(), &marks);
+        let line = line_of(form, filed, text.as_str(), &marks, snippet);
+        Ok(Some(Shown {
+            path,
+            line,
+            score,
+            text,
+            marks,
+            snippet,
+        }))
+    }
+
+    // Writes one result, and why it scores what it does.
+    fn explain<W: Write>(
+        &self,
+        found: &[(i64, DocAddress)],
+        number: usize,
+        out: &mut W,
+    ) -> Result<(), Stop> {
+        let count = found.len();
+        let Some((score, address)) = found.get(number.saturating_sub(1)) else {
+            if count > 0 {
+                let what = anyhow!("there are {count} results, and none has the number {number}");
+                return Err(Stop::Failed(what));
+            }
+            return Ok(());
+        };
+        let marker = Marker::new(self.rt.alloc(), self.clauses)?;
+        self.write(&marker, number, *score, *address, out)?;
+        let alloc = self.rt.alloc();
+        let explanation = self.query.explain(alloc, &self.index.searcher, *address)?;
+        write_weights(alloc, out, self.index, self.clauses)?;
+        write_explanation(alloc, out, &explanation)?;
+        Ok(())
+    }
+}

@@ -1,0 +1,302 @@
+//! The making of the index.
+
+use crate::files::{Found, Source, find_files, note, read_text};
+use crate::index::{Fields, Filed, Index, Tally, schema};
+use crate::options::Options;
+use crate::weights::length_id;
+use crate::word_terms::WordTerms;
+use anyhow::Result;
+use birch_text::{Dictionary, Form, Passages, Place, add_passages, column_in, name_words};
+use qm_postings::{PlainDoc, SegmentBuilder, SegmentReader};
+use qm_schema::{QueryError, Schema};
+use std::alloc::Global;
+
+/// How many words a segment takes in at most and, where as many are to come, at least.
+const MOST_WORDS: usize = 32 << 20;
+
+const LEAST_WORDS: usize = 1 << 18;
+
+/// How many postings stand in a block that a search passes over as one.
+const BLOCK_LEN: u32 = 128;
+
+// A document whose words are cut.
+#[derive(Clone, Copy)]
+struct Cut {
+    filed: Filed,
+    // the first of its words, among the words of all
+    first: usize,
+    // how many words it has
+    count: u32,
+}
+
+/// Takes in documents, and makes a segment of those that have come whenever they are many.
+#[derive(Drop)]
+pub struct Indexer {
+    alloc: Global,
+    schema: Schema,
+    fields: Fields,
+    files: Vec<Source>,
+    dictionary: Dictionary,
+    // the words of the documents that aren't in a segment yet, one behind the other, by their numbers
+    words: Vec<u32>,
+    cuts: Vec<Cut>,
+    // how many words make a segment
+    segment_words: usize,
+    segments: Vec<SegmentReader>,
+    places: Vec<Vec<Filed>>,
+    tally: Tally,
+    // how many rows of a file were left out, and the line of the first
+    left_out: u32,
+    first_left_out: u32,
+}
+
+impl Passages for Indexer {
+    fn add(&mut self, text: &str, place: Place) -> Result<()> {
+        let first = self.words.len();
+        let count = self.dictionary.push_words(text, &mut self.words)?;
+        if count == 0 {
+            return Ok(());
+        }
+        let filed = self.filed(place);
+        self.cuts.push(Cut {
+            filed,
+            first,
+            count,
+        })?;
+        self.tally.documents = self.tally.documents.saturating_add(1);
+        self.tally.words = self.tally.words.saturating_add(u64::from(count));
+        if self.words.len() >= self.segment_words {
+            self.end_segment()?;
+        }
+        Ok(())
+    }
+
+    fn leave_out(&mut self, line: u32) {
+        if self.left_out == 0 {
+            self.first_left_out = line;
+        }
+        self.left_out = self.left_out.saturating_add(1);
+    }
+}
+
+impl Indexer {
+    /// With no document yet.
+    pub fn new(alloc: Global) -> Result<Indexer, QueryError> {
+        let (schema, fields) = schema(alloc)?;
+        Ok(Indexer {
+            alloc,
+            schema,
+            fields,
+            files: Vec::new(alloc),
+            dictionary: Dictionary::new(alloc),
+            words: Vec::new(alloc),
+            cuts: Vec::new(alloc),
+            segment_words: MOST_WORDS,
+            segments: Vec::new(alloc),
+            places: Vec::new(alloc),
+            tally: Tally {
+                documents: 0,
+                words: 0,
+                bytes: 0,
+            },
+            left_out: 0,
+            first_left_out: 0,
+        })
+    }
+
+    /// Hears how many bytes of files are still to come. A segment takes in half of what is left, so that
+    /// the making of the last ones, beside all that stands, takes little room.
+    pub fn expect_bytes(&mut self, left: u64) {
+        if self.words.is_empty() {
+            // a word has some six bytes with what stands behind it
+            let half = usize::try_from(left / 12).unwrap_or(MOST_WORDS);
+            self.segment_words = half.clamp(LEAST_WORDS, MOST_WORDS);
+        }
+    }
+
+    // Where a document of the last file stands.
+    fn filed(&self, place: Place) -> Filed {
+        let file = self.files.len().saturating_sub(1);
+        Filed {
+            file: u32::try_from(file).unwrap_or(u32::MAX),
+            line: place.line,
+            start: u32::try_from(place.start).unwrap_or(u32::MAX),
+            len: u32::try_from(place.len).unwrap_or(u32::MAX),
+        }
+    }
+
+    /// Takes in the text of a file. What couldn't be taken is noted.
+    pub fn add_file(
+        &mut self,
+        rt: &HostRuntime,
+        form: Form<'_>,
+        path: String,
+        text: String,
+        is_kept: bool,
+    ) -> Result<()> {
+        let alloc = self.alloc;
+        let column = match form {
+            Form::Csv(name) => match column_in(alloc, text.as_str(), name)? {
+                Some(column) => column,
+                None => {
+                    note(
+                        rt,
+                        path.as_str(),
+                        "left out, its first row has no such column",
+                    );
+                    return Ok(());
+                }
+            },
+            _ => 0,
+        };
+        self.tally.bytes = self.tally.bytes.saturating_add(text.len() as u64);
+        let name_words = name_words(alloc, own_name(path.as_str()))?;
+        self.files.push(Source {
+            path,
+            name_words,
+            kept: None,
+            column,
+        })?;
+        self.left_out = 0;
+        add_passages(alloc, form, text.as_str(), self)?;
+        self.note_left_out(rt);
+        if is_kept {
+            self.keep(text);
+        }
+        Ok(())
+    }
+
+    // Keeps the text of the last file.
+    fn keep(&mut self, text: String) {
+        if let Some(file) = self.files.last_mut() {
+            file.kept = Some(text);
+        }
+    }
+
+    // Tells which rows of the last file are no documents.
+    fn note_left_out(&self, rt: &HostRuntime) {
+        if self.left_out == 0 {
+            return;
+        }
+        if let Some(file) = self.files.last() {
+            let path = file.path.as_str();
+            let line = self.first_left_out;
+            let rows = self.left_out;
+            let _ = eprintln!(rt; "birch: {path}:{line}: rows left out from here on: {rows}");
+        }
+    }
+
+    // Makes a segment of the documents that have come, the shortest first, so that a search passes over
+    // most of them.
+    fn end_segment(&mut self) -> Result<(), QueryError> {
+        if self.cuts.is_empty() {
+            return Ok(());
+        }
+        self.cuts.sort_by_key(|cut| cut.count)?;
+        let words = WordTerms::new(self.alloc, self.fields.text, self.dictionary.take_words())?;
+        let (segment, places) = self.build_segment(words)?;
+        self.segments.push(segment)?;
+        self.places.push(places)?;
+        self.cuts.clear();
+        self.words.clear();
+        Ok(())
+    }
+
+    // The segment of the documents, and where each stands.
+    fn build_segment(&self, words: WordTerms) -> Result<(SegmentReader, Vec<Filed>), QueryError> {
+        let mut builder = SegmentBuilder::new(self.alloc, &self.schema, BLOCK_LEN)?;
+        let mut places = Vec::with_capacity(self.alloc, self.cuts.len())?;
+        let mut words = words;
+        for cut in &self.cuts {
+            builder.add_document(self.document(&mut words, cut)?)?;
+            places.push(cut.filed)?;
+        }
+        Ok((builder.build(self.alloc)?, places))
+    }
+
+    // A document with its words and those of its file's name.
+    fn document(&self, words: &mut WordTerms, cut: &Cut) -> Result<PlainDoc, QueryError> {
+        let mut document = PlainDoc::new(self.alloc);
+        let end = cut.first.saturating_add(cut.count as usize);
+        words.add_to(self.words.get(cut.first..end).unwrap_or(&[]), &mut document)?;
+        document.set_length(self.fields.text, length_id(cut.count))?;
+        if let Some(file) = self.files.get(cut.filed.file as usize) {
+            document.add_text(self.fields.name, file.name_words.as_str())?;
+        }
+        Ok(document)
+    }
+
+    /// The index of all documents.
+    pub fn finish(self) -> Result<Index, QueryError> {
+        let mut indexer = self;
+        indexer.end_segment()?;
+        let Indexer {
+            alloc,
+            schema: _,
+            fields: _,
+            files,
+            dictionary: _,
+            words: _,
+            cuts: _,
+            segment_words: _,
+            segments,
+            places,
+            tally,
+            left_out: _,
+            first_left_out: _,
+        } = indexer;
+        Index::new(alloc, segments, places, files, tally)
+    }
+}
+
+// A file's own name.
+fn own_name(path: &str) -> &str {
+    match path.rsplit_once('/') {
+        Some((_, name)) => name,
+        None => path,
+    }
+}
+
+/// Reads all files of the paths.
+pub fn read_all(rt: &HostRuntime, options: &Options<'_>) -> Result<Index> {
+    let files = find_files(rt, options)?;
+    let mut indexer = Indexer::new(rt.alloc())?;
+    let mut left: u64 = files
+        .iter()
+        .fold(0, |sum, file| file.size.saturating_add(sum));
+    let mut told: u64 = 0;
+    for file in files {
+        indexer.expect_bytes(left);
+        left = left.saturating_sub(file.size);
+        read_file(rt, options, &mut indexer, file)?;
+        if options.has_progress {
+            told = tell(rt, &indexer, told, left);
+        }
+    }
+    Ok(indexer.finish()?)
+}
+
+// Takes in one file.
+fn read_file(
+    rt: &HostRuntime,
+    options: &Options<'_>,
+    indexer: &mut Indexer,
+    file: Found,
+) -> Result<()> {
+    match read_text(rt, file.path.as_str(), options.max_size)? {
+        Some(text) => indexer.add_file(rt, options.form, file.path, text, file.is_stream),
+        None => Ok(()),
+    }
+}
+
+// Tells how far the reading is, at each further ten megabytes.
+fn tell(rt: &HostRuntime, indexer: &Indexer, told: u64, left: u64) -> u64 {
+    let megabytes = indexer.tally.bytes / 1_000_000;
+    if megabytes < told.saturating_add(10) {
+        return told;
+    }
+    let documents = indexer.tally.documents;
+    let to_come = left / 1_000_000;
+    let _ = eprintln!(rt; "birch: {megabytes} MB read, {documents} documents, {to_come} MB left");
+    megabytes
+}

@@ -1,0 +1,194 @@
+//! A result, as it is printed.
+
+use crate::files::read_piece;
+use crate::index::{Filed, Index};
+use birch_text::{Form, Mark, Snippet, snippet_of, text_at};
+use serde_json::{Value, json};
+use std::alloc::{AllocError, Global};
+use std::io;
+use std::io::Write;
+
+/// How many bytes of a text are shown.
+const SHOWN_BYTES: usize = 240;
+
+/// A document that was found, with its text and the words in it that were asked for.
+#[derive(Drop)]
+pub struct Shown<'a> {
+    /// The path of its file.
+    pub path: &'a str,
+    /// The number of the line where the first word of these stands.
+    pub line: u64,
+    /// What it scores.
+    pub score: i64,
+    /// Its text.
+    pub text: String,
+    /// The words that were asked for.
+    pub marks: Vec<Mark>,
+    /// What of it is shown.
+    pub snippet: Snippet,
+}
+
+/// The text of a document, read again.
+pub fn text_of(
+    rt: &HostRuntime,
+    form: Form<'_>,
+    index: &Index,
+    filed: Filed,
+) -> io::Result<String> {
+    let alloc = rt.alloc();
+    let Some(file) = index.files.get(filed.file as usize) else {
+        return Ok(String::new(alloc));
+    };
+    let (start, len) = (filed.start as usize, filed.len as usize);
+    let text = match &file.kept {
+        Some(text) => {
+            let piece = text.as_str().get(start..start.saturating_add(len));
+            text_at(alloc, form, file.column, piece.unwrap_or(""))?
+        }
+        None => {
+            let piece = read_piece(
+                rt,
+                file.path.as_str(),
+                u64::from(filed.start),
+                u64::from(filed.len),
+            )?;
+            text_at(alloc, form, file.column, piece.as_str())?
+        }
+    };
+    Ok(text)
+}
+
+/// The line where the first mark that is shown stands; of a row its own.
+pub fn line_of(form: Form<'_>, filed: Filed, text: &str, marks: &[Mark], snippet: Snippet) -> u64 {
+    let line = u64::from(filed.line);
+    if let (Form::Paragraphs, Some(mark)) = (form, marks.get(snippet.first_mark)) {
+        let before = text.get(..mark.start).unwrap_or("");
+        let ends = before
+            .as_bytes()
+            .iter()
+            .filter(|byte| **byte == b'\n')
+            .count();
+        return line.saturating_add(ends as u64);
+    }
+    line
+}
+
+/// What is shown of a text.
+pub fn shown_part(text: &str, marks: &[Mark]) -> Snippet {
+    snippet_of(text, marks, SHOWN_BYTES)
+}
+
+/// Writes a result for people: its number, path, line and score, and below them what is shown of it.
+pub fn write_plain<W: Write>(
+    out: &mut W,
+    number: usize,
+    shown: &Shown<'_>,
+    is_coloured: bool,
+) -> io::Result<()> {
+    let Shown {
+        path,
+        line,
+        score,
+        ..
+    } = shown;
+    if is_coloured {
+        writeln!(
+            out,
+            "{number}. \x1b[35m{path}\x1b[m:\x1b[32m{line}\x1b[m  {score}"
+        )?;
+    } else {
+        writeln!(out, "{number}. {path}:{line}  {score}")?;
+    }
+    write_snippet(out, shown, is_coloured)
+}
+
+// Writes what is shown of a text, in one line, with the found words marked.
+fn write_snippet<W: Write>(out: &mut W, shown: &Shown<'_>, is_coloured: bool) -> io::Result<()> {
+    let (begin, end) = if is_coloured {
+        ("\x1b[1;31m", "\x1b[m")
+    } else {
+        ("[", "]")
+    };
+    let text = shown.text.as_str();
+    let Snippet {
+        start,
+        end: stop,
+        ..
+    } = shown.snippet;
+    let mut at = start;
+    out.write_all(if start == 0 { b"    " } else { b"    .. " })?;
+    for mark in &shown.marks {
+        if mark.start < at || mark.end > stop {
+            continue;
+        }
+        write_flow(out, text.get(at..mark.start).unwrap_or(""))?;
+        out.write_all(begin.as_bytes())?;
+        write_flow(out, text.get(mark.start..mark.end).unwrap_or(""))?;
+        out.write_all(end.as_bytes())?;
+        at = mark.end;
+    }
+    write_flow(out, text.get(at..stop).unwrap_or(""))?;
+    out.write_all(if stop < text.len() { b" ..\n" } else { b"\n" })
+}
+
+// Writes a text in one line: spaces and ends of lines that stand together as one space, and what would
+// steer a terminal as a question mark.
+fn write_flow<W: Write>(out: &mut W, text: &str) -> io::Result<()> {
+    let mut in_space = false;
+    for letter in text.chars() {
+        if letter.is_whitespace() {
+            if !in_space {
+                out.write_all(b" ")?;
+            }
+        } else if letter.is_control() {
+            out.write_all(b"?")?;
+        } else {
+            write!(out, "{letter}")?;
+        }
+        in_space = letter.is_whitespace();
+    }
+    Ok(())
+}
+
+/// Writes a result as a line of JSON: path, line, score, the whole text, and the found words, each as the
+/// letters of the text from where and up to where it stands.
+pub fn write_json<W: Write>(alloc: Global, out: &mut W, shown: &Shown<'_>) -> io::Result<()> {
+    let text = json_line(alloc, shown)?;
+    writeln!(out, "{text}")
+}
+
+fn json_line(alloc: Global, shown: &Shown<'_>) -> Result<String, AllocError> {
+    let marks = json_marks(alloc, shown.text.as_str(), &shown.marks)?;
+    let Shown {
+        path,
+        line,
+        score,
+        text,
+        ..
+    } = shown;
+    let (path, line, score, text) = (*path, *line, *score, text.as_str());
+    json!(in alloc; {"path": path, "line": line, "score": score, "text": text, "found": marks})?.to_string(
+        alloc,
+    )
+}
+
+// Each mark as two numbers of letters.
+fn json_marks(alloc: Global, text: &str, marks: &[Mark]) -> Result<Value, AllocError> {
+    let mut pairs = Vec::with_capacity(alloc, marks.len())?;
+    let mut letters: u64 = 0;
+    let mut at = 0;
+    for mark in marks {
+        letters = letters.saturating_add(letters_of(text, at, mark.start));
+        let length = letters_of(text, mark.start, mark.end);
+        let end = letters.saturating_add(length);
+        pairs.push(json!(in alloc; [letters, end])?)?;
+        letters = end;
+        at = mark.end;
+    }
+    Ok(Value::Array(pairs))
+}
+
+// How many letters stand between two bytes.
+fn letters_of(text: &str, start: usize, end: usize) -> u64 {
+    text.get(start..end).unwrap_or("").chars().count() as u64
+}

@@ -1,0 +1,49 @@
+//! Why a run ends early.
+
+use anyhow::{Error, anyhow};
+use qm_schema::QueryError;
+use std::alloc::{AllocError, AllocFailed};
+use std::io;
+
+/// Why a run ends early.
+#[derive(Debug, Drop)]
+pub enum Stop {
+    /// Nobody reads what is written.
+    Closed,
+    /// Something went wrong.
+    Failed(Error),
+}
+
+impl From<io::Error> for Stop {
+    fn from(error: io::Error) -> Stop {
+        if error.kind() == io::ErrorKind::BrokenPipe {
+            Stop::Closed
+        } else {
+            Stop::Failed(Error::from(error))
+        }
+    }
+}
+
+impl From<Error> for Stop {
+    fn from(error: Error) -> Stop {
+        Stop::Failed(error)
+    }
+}
+
+impl From<QueryError> for Stop {
+    fn from(error: QueryError) -> Stop {
+        Stop::Failed(anyhow!("{error}"))
+    }
+}
+
+impl From<AllocError> for Stop {
+    fn from(_error: AllocError) -> Stop {
+        Stop::Failed(anyhow!("out of memory"))
+    }
+}
+
+impl<T: Drop> From<AllocFailed<T>> for Stop {
+    fn from(_error: AllocFailed<T>) -> Stop {
+        Stop::Failed(anyhow!("out of memory"))
+    }
+}

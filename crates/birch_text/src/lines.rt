@@ -1,0 +1,90 @@
+//! Documents that are lines or paragraphs.
+
+use crate::passage::{Passages, Place};
+use anyhow::Result;
+use memchr::memchr;
+
+/// Hands over each line that isn't empty, without its end.
+///
+/// Refused as a call of [`Passages::add`] is.
+pub fn add_lines<P: Passages>(text: &str, passages: &mut P) -> Result<()> {
+    let mut start: usize = 0;
+    let mut line: u32 = 1;
+    for _ in 0..u64::MAX {
+        let whole = line_at(text, start);
+        if whole.is_empty() {
+            break;
+        }
+        let words = whole.trim_end();
+        if !words.is_empty() {
+            let len = words.len();
+            passages.add(words, Place { line, start, len })?;
+        }
+        start = start.saturating_add(whole.len());
+        line = line.saturating_add(1);
+    }
+    Ok(())
+}
+
+/// The line that begins at a byte, with its end; empty behind the last one.
+pub(crate) fn line_at(text: &str, start: usize) -> &str {
+    let rest = text.get(start..).unwrap_or("");
+    match memchr(b'\n', rest.as_bytes()) {
+        Some(end) => rest.get(..end.saturating_add(1)).unwrap_or(rest),
+        None => rest,
+    }
+}
+
+// The lines of a paragraph so far.
+#[derive(Clone, Copy)]
+struct Open {
+    line: u32,
+    start: usize,
+    end: usize,
+}
+
+/// Hands over each paragraph: lines that stand together, up to an empty one or to the end.
+///
+/// Refused as a call of [`Passages::add`] is.
+pub fn add_paragraphs<P: Passages>(text: &str, passages: &mut P) -> Result<()> {
+    let mut open: Option<Open> = None;
+    let mut start: usize = 0;
+    let mut line: u32 = 1;
+    for _ in 0..u64::MAX {
+        let whole = line_at(text, start);
+        if whole.is_empty() {
+            break;
+        }
+        let words = whole.trim_end();
+        if words.is_empty() {
+            close(text, open, passages)?;
+            open = None;
+        } else {
+            let end = start.saturating_add(words.len());
+            open = Some(with_line(open, line, start, end));
+        }
+        start = start.saturating_add(whole.len());
+        line = line.saturating_add(1);
+    }
+    close(text, open, passages)
+}
+
+// The paragraph with one more line.
+fn with_line(open: Option<Open>, line: u32, start: usize, end: usize) -> Open {
+    match open {
+        Some(open) => Open { end, ..open },
+        None => Open { line, start, end },
+    }
+}
+
+// Hands over a paragraph, where there is one.
+fn close<P: Passages>(text: &str, open: Option<Open>, passages: &mut P) -> Result<()> {
+    let Some(Open { line, start, end }) = open else {
+        return Ok(());
+    };
+    let Some(words) = text.get(start..end) else {
+        return Ok(());
+    };
+    let len = words.len();
+    passages.add(words, Place { line, start, len })
+}

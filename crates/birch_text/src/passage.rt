@@ -1,0 +1,73 @@
+//! Documents as they stand in a file.
+
+use crate::lines::{add_lines, add_paragraphs};
+use crate::tables::{add_csv, add_json, csv_text, json_text};
+use anyhow::Result;
+use std::alloc::{AllocError, Global};
+
+/// What of a file is a document.
+#[derive(Clone, Copy, Debug)]
+pub enum Form<'a> {
+    /// Lines that stand together, up to an empty one.
+    Paragraphs,
+    /// Each line that isn't empty.
+    Lines,
+    /// The column of this name, in each row of a table.
+    Csv(&'a str),
+    /// The text under this key, in each line.
+    Json(&'a str),
+}
+
+/// Where a document stands in its file.
+#[derive(Clone, Copy, Debug, PartialEq, Eq)]
+pub struct Place {
+    /// The number of its first line, from 1 up.
+    pub line: u32,
+    /// Its first byte.
+    pub start: usize,
+    /// How many bytes it has.
+    pub len: usize,
+}
+
+/// What takes the documents of a file, one after another.
+pub trait Passages {
+    /// Takes a document: its text, and where it stands.
+    fn add(&mut self, text: &str, place: Place) -> Result<()>;
+
+    /// Hears of a row that is none, as of a line that is no JSON.
+    fn leave_out(&mut self, line: u32);
+}
+
+/// Hands over all documents of a file's text.
+///
+/// Refused as a call of [`Passages::add`] is, for want of memory, and where a table has no such column.
+pub fn add_passages<P: Passages>(
+    alloc: Global,
+    form: Form<'_>,
+    text: &str,
+    passages: &mut P,
+) -> Result<()> {
+    match form {
+        Form::Paragraphs => add_paragraphs(text, passages),
+        Form::Lines => add_lines(text, passages),
+        Form::Csv(column) => add_csv(alloc, column, text, passages),
+        Form::Json(key) => add_json(alloc, key, text, passages),
+    }
+}
+
+/// The text of a document, out of the piece of the file where it stands. Of a table `column` says which
+/// field of the row it is.
+///
+/// Refused for want of memory alone. Where the file was changed meanwhile it may be empty.
+pub fn text_at(
+    alloc: Global,
+    form: Form<'_>,
+    column: usize,
+    piece: &str,
+) -> Result<String, AllocError> {
+    match form {
+        Form::Paragraphs | Form::Lines => String::from_str(alloc, piece),
+        Form::Csv(_) => csv_text(alloc, column, piece),
+        Form::Json(key) => json_text(alloc, key, piece),
+    }
+}

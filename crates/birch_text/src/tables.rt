@@ -1,0 +1,132 @@
+//! Documents that are rows: of a table with a head, or lines of JSON.
+
+use crate::lines::line_at;
+use crate::passage::{Passages, Place};
+use anyhow::{Result, anyhow, bail};
+use csv::{ReaderBuilder, StringRecord};
+use serde_json::Value;
+use std::alloc::{AllocError, Global};
+
+/// Hands over the column of that name of each row. A row that has no such column, or that can't be read,
+/// is left out.
+///
+/// Refused where the head of the table has no such column, for want of memory, and as a call of
+/// [`Passages::add`] is.
+pub(crate) fn add_csv<P: Passages>(
+    alloc: Global,
+    column: &str,
+    text: &str,
+    passages: &mut P,
+) -> Result<()> {
+    let mut reader = ReaderBuilder::new()
+        .flexible(true)
+        .has_headers(false)
+        .from_reader(alloc, text.as_bytes());
+    let mut row = StringRecord::new(alloc);
+    let Some(column) = column_in(alloc, text, column)? else {
+        bail!("no column is called {column}");
+    };
+    for turn in 0..u64::MAX {
+        let from = reader.position();
+        let found = reader.read_record(&mut row);
+        let start = usize::try_from(from.byte())?;
+        let end = usize::try_from(reader.position().byte())?;
+        let line = u32::try_from(from.line()).unwrap_or(u32::MAX);
+        let len = end.saturating_sub(start);
+        match found {
+            Ok(false) => return Ok(()),
+            Ok(true) if turn == 0 => {}
+            Ok(true) => match row.get(column) {
+                Some(field) => passages.add(field, Place { line, start, len })?,
+                None => passages.leave_out(line),
+            },
+            Err(_) => passages.leave_out(line),
+        }
+    }
+    Ok(())
+}
+
+/// Which column of a table's head has that name.
+pub fn column_in(alloc: Global, text: &str, name: &str) -> Result<Option<usize>> {
+    let mut reader = ReaderBuilder::new()
+        .flexible(true)
+        .has_headers(false)
+        .from_reader(alloc, text.as_bytes());
+    let mut row = StringRecord::new(alloc);
+    match reader.read_record(&mut row) {
+        Ok(_) => Ok(row.iter().position(|field| field == name)),
+        Err(_) => Err(anyhow!("its first row can't be read")),
+    }
+}
+
+// A column of a row.
+pub(crate) fn csv_text(alloc: Global, column: usize, piece: &str) -> Result<String, AllocError> {
+    let mut reader = ReaderBuilder::new()
+        .flexible(true)
+        .has_headers(false)
+        .from_reader(alloc, piece.as_bytes());
+    let mut row = StringRecord::new(alloc);
+    let found = reader.read_record(&mut row).unwrap_or(false);
+    let field = if found { row.get(column) } else { None };
+    String::from_str(alloc, field.unwrap_or(""))
+}
+
+/// Hands over the text under that key of each line. A line that is no JSON, or has no text there, is left
+/// out.
+///
+/// Refused for want of memory, and as a call of [`Passages::add`] is.
+pub(crate) fn add_json<P: Passages>(
+    alloc: Global,
+    key: &str,
+    text: &str,
+    passages: &mut P,
+) -> Result<()> {
+    let mut start: usize = 0;
+    let mut line: u32 = 1;
+    for _ in 0..u64::MAX {
+        let whole = line_at(text, start);
+        if whole.is_empty() {
+            break;
+        }
+        let words = whole.trim();
+        if !words.is_empty() {
+            let len = whole.len();
+            add_json_line(alloc, key, whole, Place { line, start, len }, passages)?;
+        }
+        start = start.saturating_add(whole.len());
+        line = line.saturating_add(1);
+    }
+    Ok(())
+}
+
+// Hands over the text under the key of one line.
+fn add_json_line<P: Passages>(
+    alloc: Global,
+    key: &str,
+    line: &str,
+    place: Place,
+    passages: &mut P,
+) -> Result<()> {
+    let Ok(value) = Value::from_str(alloc, line) else {
+        passages.leave_out(place.line);
+        return Ok(());
+    };
+    match value.get(key).and_then(Value::as_str) {
+        Some(text) => passages.add(text, place),
+        None => {
+            passages.leave_out(place.line);
+            Ok(())
+        }
+    }
+}
+
+// The text under the key of a line.
+pub(crate) fn json_text(alloc: Global, key: &str, piece: &str) -> Result<String, AllocError> {
+    match Value::from_str(alloc, piece) {
+        Ok(value) => {
+            let text = value.get(key).and_then(Value::as_str);
+            String::from_str(alloc, text.unwrap_or(""))
+        }
+        Err(_) => Ok(String::new(alloc)),
+    }
+}

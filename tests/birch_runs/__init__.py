@@ -1,0 +1,1 @@
+"""The runs of the program `birch`, by what they show."""
