@@ -151,7 +151,6 @@ def excluded(random):
 
 def odd_exclusions(manners):
     """Which documents each two leaves exclude that are odd in these manners, asked for in each order."""
-    yield "given"
     for lists in itertools.product(cursors.SMALL, repeat=2):
         yield f"exclusion {cursors.joined(cursors.leaf(*it) for it in zip(lists, manners, (1, 5)))}"
         for targets in calls.ORDERS:
