@@ -323,8 +323,11 @@ def scored(tree, boost, segment):
 def bound(tree, boost):
     """More than this no document scores."""
     match tree:
-        case Term(_, int(weight)) | Phrase(_, _, int(weight)) | Prefix((_, *_), _, _, int(weight)):
+        # one full term scores the boost of its weight
+        case Prefix((_,), _, _, int(weight)):
             return max(1, boost, boost * weight)
+        case Term(_, int(weight)) | Phrase(_, _, int(weight)) | Prefix((_, _, *_), _, _, int(weight)):
+            return max(1, boost * weight)
         case Boolean(clauses):
             return max(1, sum(bound(inside, boost) for sign, inside in clauses if sign != "-"))
         case Boost(by, inside):
