@@ -296,7 +296,8 @@ BEST = [
         "searches for the best that are refused",
         b"doc a\ntop 3 phrase 0 1 a\ntop 3 prefix 1 0\ntop 3 max 1001 0\nweight a 9223372036854775807\n"
         b"top 0 bool 0 2 + term a + term a\ntop 1 bool 0 2 + term a + term a\ntop 1 term a\n",
-        b"line 2: refused 1\nline 3: refused 2\nline 4: refused 8\n\nline 7: refused 9\n0:4611686018427387903\n",
+        b"line 2: refused 1\nline 3: refused 2\nline 4: refused 8\nline 6: refused 9\nline 7: refused 9\n"
+        b"0:4611686018427387903\n",
         1,
     ),
 ]
