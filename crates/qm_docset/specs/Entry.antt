@@ -19,7 +19,8 @@ pub record Limits : Type 0 where
 abbrev pub greatest_score : ℕ
 greatest_score = 9223372036854775807
 
--- the limits of a cursor that knows nothing but documents
+-- the limits of a cursor that knows nothing but documents, which are those of a cursor that names none: no score
+-- above 0, and no positions
 abbrev pub no_limits : Limits
 no_limits = record { top = 0; room = 0 }
 
@@ -27,6 +28,7 @@ no_limits = record { top = 0; room = 0 }
 abbrev pub plain : ℕ → Entry
 plain d = record { document = d; score = 0; frequency = 0; positions = [] }
 
+-- the documents of some entries
 abbrev pub documents : List Entry → List ℕ
 documents es = map (λ e. e.document) es
 
@@ -35,14 +37,17 @@ abbrev pub head_document : List Entry → ℕ
 head_document [] = TERMINATED
 head_document (e ∷ es) = e.document
 
+-- its score, and 0 at the end
 abbrev pub head_score : List Entry → ℕ
 head_score [] = 0
 head_score (e ∷ es) = e.score
 
+-- its frequency, and 0 at the end
 abbrev pub head_frequency : List Entry → ℕ
 head_frequency [] = 0
 head_frequency (e ∷ es) = e.frequency
 
+-- its positions, and none at the end
 abbrev pub head_positions : List Entry → List ℕ
 head_positions [] = []
 head_positions (e ∷ es) = e.positions

@@ -32,7 +32,7 @@ gathered least combined ds ess = map (λ d. scored d (combined (scores_at d ess)
 unfoldable pub gather : ℕ → (List ℕ → ℕ) → List (List Entry) → List Entry
 gather least combined ess = gathered least combined (documents_below TERMINATED) ess
 
--- the documents that all of the lists have
+-- the intersection: the documents that all of the lists have, with their scores combined
 abbrev pub common_entries : (List ℕ → ℕ) → List (List Entry) → List Entry
 common_entries combined ess = gather (length ess) combined ess
 

@@ -12,12 +12,14 @@ use Rattle.qm_index.specs.OpenDocuments.{segment_of}
 use Rattle.qm_index.specs.Parts.{AreParts, segments_of}
 use Rattle.qm_index.specs.declared.index.Index.{Index}
 
+-- what an index holds: the segments that were ended, in order, and the one that takes documents
 pub record Indexed : Type 0 where
   -- those that were ended, in order
   pub ended : List Segment
   -- the one that takes documents
   pub current : Segment
 
+-- that of an `Index`
 abbrev pub indexed : Index → Indexed
 indexed i = record {
   ended = segments_of (take i.ended i.searcher.segments);
@@ -48,7 +50,7 @@ with_segment_ended s = record { ended = all_segments s; current = empty_segment 
 abbrev pub with_open_deleted : Indexed → ℕ → Indexed
 with_open_deleted s place = record { ended = s.ended; current = with_deleted s.current place }
 
--- whether there is a document to delete, and what is left
+-- whether there is a document of a number, and what is left: that it is deleted, or all as before
 abbrev pub Deletes : ℕ → Indexed → Bool → Indexed → Type 0
 Deletes number s true t = (number < count_of (all_segments s)) × (all_segments t ≡ deleted_among (all_segments s) number)
 Deletes number s false t = (count_of (all_segments s) ≤ number) × (t ≡ s)

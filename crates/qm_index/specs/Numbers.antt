@@ -9,6 +9,7 @@ use Rattle.qm_postings.specs.declared.address.DocAddress.{DocAddress}
 abbrev pub count_of : List Segment → ℕ
 count_of segments = sum_by (λ s. length s.documents) segments
 
+-- how many those of readers have
 abbrev pub document_count : List Reader → ℕ
 document_count readers = sum_by (λ r. length r.segment.documents) readers
 

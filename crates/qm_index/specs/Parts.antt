@@ -22,9 +22,12 @@ ArePartsFrom first whole [] = first ≡ length whole.documents
 ArePartsFrom first whole (p ∷ ps) =
     (p ≡ part_of whole first (length p.documents)) × ArePartsFrom (first + length p.documents) whole ps
 
+-- segments which one after another have the documents of one, each being the `part_of` it that begins behind the one
+-- before
 abbrev pub AreParts : Segment → List Segment → Type 0
 AreParts whole parts = ArePartsFrom 0 whole parts
 
+-- the segments that readers read
 abbrev pub segments_of : List Reader → List Segment
 segments_of readers = map (λ r. r.segment) readers
 

@@ -12,6 +12,7 @@ module _ {P : Type 0} (D : Ghosts P) where
   abbrev pub bitset_union_left : BitSetPostingUnion P → List Entry
   bitset_union_left s = united_over (remaining_members s.bitset) (lists D s.members.items)
 
+  -- its limits
   abbrev pub bitset_union_limits : BitSetPostingUnion P → Limits
   bitset_union_limits s = postings_limits (bounds D s.members.items)
 

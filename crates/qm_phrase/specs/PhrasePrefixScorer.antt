@@ -28,7 +28,7 @@ module _ {P : Type 0} (D : Ghosts P) where
   abbrev pub CountsAs : PrefixLists → PhrasePrefixScorer P → Type 0
   CountsAs t s = (d : ℕ) → 0 < phrase_prefix_count s d → phrase_prefix_count s d ≡ prefix_count t d
 
-  -- the same of what another counts
+  -- that the second counts what the first does, in each document that it has left
   pub record PrefixAlike (s t : PhrasePrefixScorer P) : Type 0 where
     pub counts : CountsAs (prefix_lists s) t
 

@@ -12,6 +12,7 @@ module _ {P : Type 0} (D : Ghosts P) where
   abbrev pub simple_union_left : SimpleUnion P → List Entry
   simple_union_left s = united_entries (lists D s.members.items)
 
+  -- its limits
   abbrev pub simple_union_limits : SimpleUnion P → Limits
   simple_union_limits s = postings_limits (bounds D s.members.items)
 

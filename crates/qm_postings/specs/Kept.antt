@@ -30,6 +30,7 @@ pub record Posted : Type 0 where
   pub frequency : ℕ
   pub positions : List ℕ
 
+-- what it says of its term
 abbrev pub held : Posted → TermKey × Occurrences
 held p = (p.term, record { frequency = p.frequency; positions = p.positions })
 
@@ -40,6 +41,7 @@ document_from ps columns d = record {
   lengths = map (λ column. slice_index_or column d 0) columns;
 }
 
+-- the documents that they stand for
 abbrev pub documents_from : List Posted → List (List ℕ) → ℕ → List Document
 documents_from ps columns count = map (λ d. document_from ps columns d) (range_with_len 0 count)
 

@@ -10,6 +10,7 @@ use Rattle.qm_postings.specs.declared.segment_postings.SegmentPostings.{SegmentP
 abbrev pub postings_left : SegmentPostings → List Entry
 postings_left s = drop s.cursor (stored s.reading s.arrays)
 
+-- its limits
 abbrev pub postings_limits : SegmentPostings → Limits
 postings_limits s = array_limits s.arrays
 
@@ -21,7 +22,7 @@ reads s = s.reading
 abbrev pub postings_blocks : SegmentPostings → List Block
 postings_blocks s = map (block_read s.reading) s.arrays.blocks.now
 
--- a cursor reads them as another does, in the same blocks
+-- that two of them read frequencies alike, and are over the same postings, in the same blocks as they are read
 pub record ReadsAs (s t : SegmentPostings) : Type 0 where
   pub reading : reads t ≡ reads s
   pub all : stored t.reading t.arrays ≡ stored s.reading s.arrays

@@ -7,6 +7,7 @@ use Rattle.qm_query.specs.declared.enable_scoring.EnableScoring.{EnableScoring}
 use Rattle.qm_query.specs.declared.enable_scoring.EnableScoring.TheVariants.{Enabled, Disabled}
 
 module _ {P : Type 0} where
+  -- of what a weight is built under: whether scores are wanted
   abbrev pub is_enabled : EnableScoring P → Bool
   is_enabled (Enabled searcher provider) = true
   is_enabled (Disabled schema searcher) = false

@@ -10,7 +10,8 @@ use Rattle.qm_postings.specs.declared.address.DocAddress.{DocAddress}
 use Rattle.qm_query.specs.Ranking.{ranking}
 use Rattle.qm_query.specs.declared.top_docs.kept_document.KeptDocument.{KeptDocument}
 
--- by score downwards, then by address upwards
+-- the order of documents that are kept: the worst is the greatest, which scores least, and of those with one score
+-- the last by address
 abbrev pub worst_last : KeptDocument → KeptDocument → Ordering
 worst_last = then_cmp (flip_args (on (λ d. d.score) int_cmp)) (on (λ d. d.address) address_cmp)
 

@@ -17,6 +17,7 @@ abbrev pub first_field : {X : Type 0} → (X → TermKey) → List X → ℕ
 first_field term [] = 0
 first_field term (x ∷ xs) = (term x).field
 
+-- whether all have it
 abbrev pub are_of_one_field : {X : Type 0} → (X → TermKey) → List X → Bool
 are_of_one_field term xs = list_all (λ x. (term x).field == first_field term xs) xs
 
@@ -46,6 +47,7 @@ row_refusal terms =
 abbrev pub with_two : {X : Type 0} → List X → Option QueryError → Option QueryError
 with_two terms otherwise = if nat_lt (length terms) 2 then Some TooFewTerms else otherwise
 
+-- the same of no term, where a phrase prefix wants one
 abbrev pub with_one : {X : Type 0} → List X → Option QueryError → Option QueryError
 with_one terms otherwise = if nat_lt (length terms) 1 then Some EmptyPrefix else otherwise
 

@@ -25,6 +25,7 @@ use Rattle.qm_query.specs.Parts.{PhraseParts, PrefixParts, TermParts}
 --     boolean      the least number of Should clauses, and the clauses
 --     disjunction_max      the tie breaker in thousandths, and the disjuncts
 mutual
+  -- what a query asks for, as a tree
   pub data Query : Type 0 where
     all : Query
     none : Query
@@ -41,6 +42,7 @@ mutual
     no_subquery : Subqueries
     subquery : Occur → Query → Subqueries → Subqueries
 
+  -- the disjuncts of a maximum query
   pub data Disjuncts : Type 0 where
     no_disjunct : Disjuncts
     disjunct : Query → Disjuncts → Disjuncts
@@ -97,15 +99,19 @@ clauses_of q = subqueries_of q.subqueries.items
 abbrev pub minimum_of : BooleanQuery → ℕ
 minimum_of q = q.minimum_number_should_match
 
+-- the same of a Boolean query
 abbrev pub boolean_of : BooleanQuery → Query
 boolean_of q = boolean (minimum_of q) (clauses_of q)
 
+-- of a boost
 abbrev pub boost_of : BoostQuery → Query
 boost_of q = boost q.boost (query_of q.underlying.value)
 
+-- of a constant
 abbrev pub constant_of : ConstScoreQuery → Query
 constant_of q = constant q.score (query_of q.underlying.value)
 
+-- of a maximum query
 abbrev pub disjunction_max_of : DisjunctionMaxQuery → Query
 disjunction_max_of q = disjunction_max q.combiner.tie_breaker (disjuncts_of q.disjuncts.items)
 

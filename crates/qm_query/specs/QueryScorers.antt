@@ -20,7 +20,7 @@ IsQueryScorer D S under query b segment s = IsScorerOf D (query_tree S under que
 abbrev pub ScoresIfEnabled : {P : Type 0} → EnableScoring P → Tree → Type 0
 ScoresIfEnabled under tree = IsTrue (is_enabled under) → IsTrue (is_scoring tree)
 
--- .. in that of a query
+-- with scoring on, it is on in every node of the query's tree, so that its scorer lists scores
 abbrev pub IsScoringIfEnabled : {P : Type 0} → Ghosts P → EnableScoring P → Query → Type 0
 IsScoringIfEnabled S under query = ScoresIfEnabled under (query_tree S under query)
 

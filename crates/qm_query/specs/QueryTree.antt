@@ -58,11 +58,12 @@ module _ {P : Type 0} (S : Ghosts P) (under : EnableScoring P) where
     query_tree (constant score inside) = if_scoring (is_enabled under) (tree.constant score) (query_tree inside)
     query_tree (disjunction_max tie_breaker disjuncts) = tree.boolean (is_enabled under) 1 (tree.disjunction_max tie_breaker) (disjunct_trees disjuncts)
 
+    -- the trees of a Boolean's clauses
     pub clause_trees : Subqueries → Clauses
     clause_trees no_subquery = tree.no_clause
     clause_trees (subquery occur query clauses) = tree.clause occur (query_tree query) (clause_trees clauses)
 
-    -- every disjunct is a Should clause
+    -- those of a query that takes the best of several: Should clauses of which one has to match, under its combiner
     pub disjunct_trees : Disjuncts → Clauses
     disjunct_trees no_disjunct = tree.no_clause
     disjunct_trees (disjunct query disjuncts) = tree.clause Should (query_tree query) (disjunct_trees disjuncts)

@@ -6,7 +6,8 @@ use Rattle.std.specs.Coded.{Coded, code_by, coded×, coded_list, coded_option, c
 use Rattle.qm_schema.specs.contracts.schema.option.IndexRecordOption as option
 use Rattle.qm_schema.specs.declared.schema.option.IndexRecordOption.{IndexRecordOption}
 
--- its name, what its postings keep, with None where it has none, and whether it keeps a length for each document
+-- what is known of a field: the bytes of its name, what its postings keep (none where it isn't indexed), whether it
+-- keeps a length for each document. A schema is the list of these, and a field's number is its place
 pub record FieldFacts : Type 0 where
   pub name : List ℕ
   pub indexed : Option IndexRecordOption
@@ -18,6 +19,7 @@ facts_code =
     code_by (List ℕ × (Option IndexRecordOption × Bool)) (coded× (coded_list coded_ℕ) (coded× (coded_option (option.the_row).coded) coded_bool))
     (λ f. (f.name, (f.indexed, f.lengths))) (λ p. record { name = p.0; indexed = p.1.0; lengths = p.1.1 }) (λ _. refl)
 
+-- whether a field has a name, byte for byte
 abbrev pub is_named : List ℕ → FieldFacts → Bool
 is_named name facts = pointwise nat_eq facts.name name
 

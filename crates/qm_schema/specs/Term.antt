@@ -21,6 +21,7 @@ pub record TermKey : Type 0 where
   pub field : ℕ
   pub bytes : List ℕ
 
+-- how a model that is made of terms is stored
 abbrev pub term_code : Coded TermKey
 term_code =
     code_by (ℕ × List ℕ) (coded× coded_ℕ (coded_list coded_ℕ)) (λ t. (t.field, t.bytes)) (λ p. record { field = p.0; bytes = p.1 }) (λ _. refl)

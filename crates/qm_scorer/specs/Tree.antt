@@ -124,6 +124,7 @@ module _ {S : Type 0} (D : Ghosts S) where
   abbrev pub kept_entries : AnyScorer S → AnyScorer S → List Entry
   kept_entries inner out = without (has_document (tree_entries out)) (tree_entries inner)
 
+  -- that it stands on none of these
   abbrev pub IsOnKept : AnyScorer S → AnyScorer S → Type 0
   IsOnKept inner out = IsKept (has_document (tree_entries out)) (tree_entries inner)
 
@@ -144,6 +145,7 @@ module _ {S : Type 0} (D : Ghosts S) where
   tree_top (Disjunction' p room row heads shape current) = shape.top
   tree_top (Intersection' p leader room row num_docs top) = top
 
+  -- its limits
   abbrev pub tree_limits : AnyScorer S → Limits
   tree_limits x = scores_to (tree_top x)
 

@@ -18,5 +18,6 @@ abbrev pub listed_from : Bool → Tree → ℕ → List Segment → List (ℕ ×
 listed_from scored tree first [] = []
 listed_from scored tree first (s ∷ ss) = listed scored tree first s ++ listed_from scored tree (first + length s.documents) ss
 
+-- what it lists in them from 0 on
 abbrev pub all_listed : Bool → Tree → List Segment → List (ℕ × Option ℤ)
 all_listed scored tree segments = listed_from scored tree 0 segments

@@ -58,7 +58,7 @@ abbrev pub disjunction_max_asked : ℕ → Disjuncts → Result Query QueryError
 disjunction_max_asked tie_breaker disjuncts = if nat_lt 1000 tie_breaker then Err TieBreaker else Ok (query.disjunction_max tie_breaker disjuncts)
 
 abbrev mutual
-  -- the query that is asked
+  -- the query of qm_query that a line spells, or the first refusal of a constructor, inner queries first
   pub asked : spelled.Query → Result Query QueryError
   asked all = Ok query.all
   asked none = Ok query.none

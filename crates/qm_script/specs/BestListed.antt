@@ -23,7 +23,8 @@ scored_item i = (i.0, Some i.1)
 abbrev pub best_listed : ℕ → Tree → List Segment → List (ℕ × Option ℤ)
 best_listed count tree segments = map scored_item (best count (alive_listed_from tree 0 segments))
 
--- the number of each segment's first document, where that of the first one is given
+-- the numbers of the segments' first documents, that of an address by these, and a document that was found as it is
+-- listed
 abbrev pub firsts_from : ℕ → List Segment → List ℕ
 firsts_from first [] = []
 firsts_from first (s ∷ ss) = first ∷ firsts_from (first + length s.documents) ss

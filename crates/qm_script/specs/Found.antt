@@ -14,7 +14,7 @@ use Rattle.qm_script.specs.Parts.{document_count}
 use Rattle.qm_script.specs.Pruned.{all_pruned, parts_pruned}
 use Rattle.qm_script.specs.Under.{tree_of}
 
--- each document that matches, with its score where scores are wanted
+-- what a query finds in them by what it is asked under: each match, with its score where scores are wanted
 abbrev pub found_matches : EnableScoring Searched → Query → List Segment → List (ℕ × Option ℤ)
 found_matches enable query segments = all_listed (is_enabled enable) (tree_of enable query) segments
 

@@ -1,7 +1,8 @@
 -- The numbers that the program goes by, written out: its constants have to agree with them.
 use Rattle.std.specs.Prelude.{ℕ}
 
--- how deep a query may be: `all` is 1 deep, `boost K all` is 2
+-- the numbers that the program goes by, written out, so that its constants have to agree with them: 500, 1000,
+-- 4294967295, 2147483647, 128 and 0
 abbrev pub most_depth : ℕ
 most_depth = 500
 

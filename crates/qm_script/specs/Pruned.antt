@@ -22,10 +22,12 @@ abbrev pub pruned_from : ℤ → Tree → ℕ → List Segment → List (ℕ × 
 pruned_from threshold tree first [] = []
 pruned_from threshold tree first (s ∷ ss) = rising threshold (listed true tree first s) ++ pruned_from threshold tree (first + length s.documents) ss
 
+-- over all segments of a script
 abbrev pub all_pruned : ℤ → Tree → List Segment → List (ℕ × Option ℤ)
 all_pruned threshold tree segments = pruned_from threshold tree 0 segments
 
--- the threshold behind what was listed from a threshold on: the score of the last of it
+-- the threshold that a run leaves behind what it lists: the score of the last, or the one that it began at where it
+-- lists nothing
 abbrev pub threshold_after : ℤ → List (ℕ × Option ℤ) → ℤ
 threshold_after threshold [] = threshold
 threshold_after threshold ((n, None) ∷ items) = threshold_after threshold items

@@ -95,6 +95,7 @@ many_at one (suc count) words = do
 -- ---- queries
 
 mutual
+  -- a query as a line spells it, every form of the language
   pub data Query : Type 0 where
     all : Query
     none : Query
@@ -245,6 +246,7 @@ query_at (suc depth) words = form_at (query_at depth) words
 
 -- ---- lines
 
+-- what a line asks for
 pub data Request : Type 0 where
   -- the line has no word
   nothing : Request

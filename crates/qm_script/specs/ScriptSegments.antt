@@ -10,6 +10,7 @@ use Rattle.qm_script.specs.declared.corpus.Corpus.{Corpus}
 abbrev pub Script : Type 0
 Script = Indexed
 
+-- those that a corpus keeps
 abbrev pub script : Corpus → Script
 script c = indexed c.index
 

@@ -8,11 +8,13 @@ use Rattle.qm_script.specs.ScriptSegments.{Script, script}
 use Rattle.qm_script.specs.Start.{start_script}
 use Rattle.qm_script.specs.declared.corpus.Corpus.{Corpus}
 
+-- what a line finds and leaves: the documents, and the weights of words
 pub record State : Type 0 where
   pub documents : Script
   -- the words that were given a weight, as terms
   pub weights : FinMap term_cmp ℕ
 
+-- that of a corpus
 abbrev pub state : Corpus → State
 state c = record { documents = script c; weights = (statistics c.index).weights }
 

@@ -7,6 +7,7 @@ use Rattle.qm_term.specs.Members.{Hit, Block, Member, hit_document, hit_score, h
 use Rattle.qm_term.specs.Runs.{Turn}
 use Rattle.qm_term.specs.HitRuns.{Plain, calls_of, count_above}
 
+-- the first document of a list
 abbrev pub head : Member → ℕ
 head m = hit_document m.entries
 
@@ -28,6 +29,7 @@ abbrev pub IsHead : ℕ → List Member → Type 0
 IsHead d [] = ⊥
 IsHead d (m ∷ ms) = (head m ≡ d) ⊎ IsHead d ms
 
+-- the greatest score of a list whose head is at or before a document, and else 0
 abbrev pub top_by : ℕ → Member → ℕ
 top_by d m = cond (nat_le (head m) d) m.top 0
 
@@ -50,6 +52,7 @@ NoPivot th ms = (q : ℕ) → q < TERMINATED → IsHead q ms → pos (reach q ms
 abbrev pub pivot_bound : ℕ → Member → ℕ
 pivot_bound p m = cond (nat_le (head m) p) (bound_at p m.blocks) 0
 
+-- the sum of these over several lists
 abbrev pub pivot_bounds : ℕ → List Member → ℕ
 pivot_bounds p ms = total (pivot_bound p) ms
 
@@ -85,6 +88,7 @@ unfoldable pub next_head : ℕ → List Member → ℕ
 next_head low [] = TERMINATED
 next_head low (m ∷ ms) = min (cond (nat_le low (head m)) (head m) TERMINATED) (next_head low ms)
 
+-- the sum of all greatest scores
 abbrev pub total_top : List Member → ℕ
 total_top ms = total (λ m. m.top) ms
 
@@ -92,6 +96,7 @@ total_top ms = total (λ m. m.top) ms
 abbrev pub to : ℕ → Member → Member
 to p m = cond (nat_lt (head m) p) (cut p m) m
 
+-- a list that is at or before p, cut past p
 abbrev pub past : ℕ → Member → Member
 past p m = cond (nat_le (head m) p) (next m) m
 
@@ -152,6 +157,7 @@ AlignsSome p ms ns = (xs : List Member) × AreCut p ms xs × (postings xs < post
 -- what a turn at the pivot p does to the lists, the threshold and the callback, and whether it ticks
 module _ {F : Type 0} (call : F → ℕ → ℤ → ℤ → F → Type 0) (combined : List ℕ → ℕ)
     (th : ℤ) (f : F) (ms : List Member) (th' : ℤ) (g : F) (ns : List Member) (ticked : Bool) (p : ℕ) where
+  -- neither the threshold nor the callback changed, and nothing was scored
   abbrev pub Quiet : Type 0
   Quiet = (th' ≡ th) × (g ≡ f) × (ticked ≡ false)
 
@@ -178,6 +184,7 @@ module _ {F : Type 0} (call : F → ℕ → ℤ → ℤ → F → Type 0) (combi
     pub turn : Turn call th f p (pos (combined (scores_of p ms))) th' g
     pub scores : Scores th p ms ns
 
+  -- a turn at the pivot: a skip, a step to the pivot, or a tick
   abbrev pub IsTurn : Type 0
   IsTurn = Skips ⊎ (Aligns ⊎ Ticks)
 
@@ -215,9 +222,11 @@ module _ {F : Type 0} (call : F → ℕ → ℤ → ℤ → F → Type 0) (combi
 abbrev pub block_at : ℕ → List Block → Block
 block_at d bs = record { last = end_at d bs; bound = bound_at d bs }
 
+-- no block: it ends at the end, and bounds by 0
 abbrev pub no_block : Block
 no_block = record { last = TERMINATED; bound = 0 }
 
+-- the block that a list looks at with a target; none past the end
 abbrev pub looked_at : ℕ → Member → Block
 looked_at t m = cond (nat_lt (head m) TERMINATED) (block_at (max t (head m)) m.blocks) no_block
 
@@ -228,17 +237,20 @@ IsQuietTo th end m = (d : ℕ) → head m ≤ d → d ≤ end → pos (bound_at 
 -- a turn of the run over one list: its block is passed, or its first document is scored
 module _ {F : Type 0} (call : F → ℕ → ℤ → ℤ → F → Type 0) (combined : List ℕ → ℕ)
     (th : ℤ) (f : F) (m : Member) (th' : ℤ) (g : F) (n : Member) (ticked : Bool) where
+  -- a turn over one list that passes what is not above the threshold
   pub record PassesBlock : Type 0 where
     pub quiet : (th' ≡ th) × (g ≡ f) × (ticked ≡ false)
     pub target : ℕ
     pub list : n ≡ cut target m
     pub passes : Passes th target (m ∷ []) (n ∷ [])
 
+  -- a turn over one list that scores its first document
   pub record ScoresFirst : Type 0 where
     pub tick : ticked ≡ true
     pub list : n ≡ next m
     pub turn : Turn call th f (head m) (pos (combined (scores_of (head m) (m ∷ [])))) th' g
     pub scores : Scores th (head m) (m ∷ []) (n ∷ [])
 
+  -- a turn over one list: one of these two
   abbrev pub IsSingle : Type 0
   IsSingle = PassesBlock ⊎ ScoresFirst

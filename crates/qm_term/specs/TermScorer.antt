@@ -33,6 +33,7 @@ AreCovered ids es = All (λ e. e.document < length ids) es
 abbrev pub scored_left : TermScorer → List Entry
 scored_left s = scored_postings (weighing s.similarity_weight) (norm_ids s.fieldnorm_reader) (postings_left s.postings)
 
+-- its limits
 abbrev pub scored_limits : TermScorer → Limits
 scored_limits s = limited (bm25_bound (weighing s.similarity_weight)) (postings_limits s.postings)
 
