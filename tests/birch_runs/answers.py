@@ -136,8 +136,22 @@ def check_shown(command, report, folder):
     report.expect_same("the weight in why", True, f"{weight(6, 3)}: weight\n" in explained.text)
     outside = command.run("fox", "--explain", "4", folder=folder)
     report.expect_same("why of none", ("", 2), outside[:2])
+    check_scored(command, report, folder)
     lines = command.run("dog", "--lines", "--json", "foxes.md", folder=folder)
     report.expect_same("lines", {("foxes.md", 4), ("foxes.md", 6)}, {it[:2] for it in results(lines.text)})
+
+
+def check_scored(command, report, folder):
+    """The documents that hold the fox are one block, whose bound is what the second of them scores."""
+    for words, wanted in (
+        (["fox"], "scored 3 of these, passed over 0"),
+        (["-k", "1", "fox"], "scored 2 of these, passed over 1"),
+        (["-k", "1", "+fox +dog"], "passed over none of these by its block"),
+    ):
+        told = command.run("--stats", *words, folder=folder).told
+        report.expect_same(f"the statistics of {words}", f"birch: {wanted}", told.splitlines()[-1])
+    silent = command.run("-k", "1", "fox", folder=folder)
+    report.expect_same("no statistics", "", silent.told)
 
 
 def check_faults(command, report, folder):

@@ -3,9 +3,10 @@
 use crate::explain::{write_explanation, write_weights};
 use crate::index::Index;
 use crate::options::Options;
+use crate::scored::count_scored;
 use crate::searched::build;
 use crate::shown::{Shown, line_of, shown_part, text_of, write_json, write_plain};
-use crate::stats::{Stopwatch, tell_found};
+use crate::stats::{Stopwatch, tell_found, tell_scored};
 use crate::stop::Stop;
 use anyhow::anyhow;
 use birch_text::{Clause, Marker, QueryFault, read_query};
@@ -100,7 +101,7 @@ impl<'a, 'o> Asked<'a, 'o> {
         let limit = self.options.limit.max(self.options.explained.unwrap_or(0));
         let found = TopDocs::with_limit(limit).search(alloc, self.query, &self.index.searcher)?;
         if self.options.has_stats {
-            self.tell(found.len(), watch)?;
+            self.tell(limit, found.len(), watch)?;
         }
         match self.options.explained {
             Some(number) => self.explain(&found, number, out)?,
@@ -109,11 +110,14 @@ impl<'a, 'o> Asked<'a, 'o> {
         Ok(found.len())
     }
 
-    // Tells how many documents match, and how long it took to find the best.
-    fn tell(&self, listed: usize, watch: Stopwatch) -> Result<(), Stop> {
+    // Tells how many documents match, how long it took to find the best, and how many were scored.
+    fn tell(&self, limit: usize, listed: usize, watch: Stopwatch) -> Result<(), Stop> {
         let took = watch.elapsed(self.rt)?;
-        let matching = self.query.count(self.rt.alloc(), &self.index.searcher)?;
+        let alloc = self.rt.alloc();
+        let matching = self.query.count(alloc, &self.index.searcher)?;
         tell_found(self.rt, listed, matching, took)?;
+        let scored = count_scored(alloc, self.index, self.clauses, limit)?;
+        tell_scored(self.rt, matching, scored)?;
         Ok(())
     }
 

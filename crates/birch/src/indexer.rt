@@ -4,17 +4,17 @@ use crate::files::{Found, Source, find_files, note, read_text};
 use crate::index::{Fields, Filed, Index, Tally, schema};
 use crate::options::Options;
 use crate::weights::length_id;
-use crate::word_terms::WordTerms;
 use anyhow::Result;
-use birch_text::{Dictionary, Form, Passages, Place, add_passages, column_in, name_words};
+use birch_text::{Form, Passages, Place, add_passages, add_words, column_in, name_words};
 use qm_postings::{PlainDoc, SegmentBuilder, SegmentReader};
 use qm_schema::{QueryError, Schema};
 use std::alloc::Global;
+use std::mem;
 
-/// How many words a segment takes in at most and, where as many are to come, at least.
-const MOST_WORDS: usize = 32 << 20;
+/// How many bytes of words a segment takes in at most and, where as many are to come, at least.
+const MOST_BYTES: usize = 128 << 20;
 
-const LEAST_WORDS: usize = 1 << 18;
+const LEAST_BYTES: usize = 3 << 19;
 
 /// How many postings stand in a block that a search passes over as one.
 const BLOCK_LEN: u32 = 128;
@@ -23,8 +23,10 @@ const BLOCK_LEN: u32 = 128;
 #[derive(Clone, Copy)]
 struct Cut {
     filed: Filed,
-    // the first of its words, among the words of all
+    // the first byte of its words, among the words of all
     first: usize,
+    // how many bytes these have
+    len: usize,
     // how many words it has
     count: u32,
 }
@@ -36,12 +38,15 @@ pub struct Indexer {
     schema: Schema,
     fields: Fields,
     files: Vec<Source>,
-    dictionary: Dictionary,
-    // the words of the documents that aren't in a segment yet, one behind the other, by their numbers
-    words: Vec<u32>,
+    // the words of the documents that aren't in a segment yet, folded, each with a space behind it
+    words: String,
+    // room for a text while it is cut
+    room: String,
     cuts: Vec<Cut>,
-    // how many words make a segment
-    segment_words: usize,
+    // how many bytes of files are still to come
+    left: u64,
+    // how many bytes of words make a segment
+    segment_bytes: usize,
     segments: Vec<SegmentReader>,
     places: Vec<Vec<Filed>>,
     tally: Tally,
@@ -53,19 +58,21 @@ pub struct Indexer {
 impl Passages for Indexer {
     fn add(&mut self, text: &str, place: Place) -> Result<()> {
         let first = self.words.len();
-        let count = self.dictionary.push_words(text, &mut self.words)?;
+        let count = add_words(&mut self.words, &mut self.room, text)?;
         if count == 0 {
             return Ok(());
         }
         let filed = self.filed(place);
+        let len = self.words.len().saturating_sub(first);
         self.cuts.push(Cut {
             filed,
             first,
+            len,
             count,
         })?;
         self.tally.documents = self.tally.documents.saturating_add(1);
         self.tally.words = self.tally.words.saturating_add(u64::from(count));
-        if self.words.len() >= self.segment_words {
+        if self.words.len() >= self.segment_bytes {
             self.end_segment()?;
         }
         Ok(())
@@ -88,10 +95,11 @@ impl Indexer {
             schema,
             fields,
             files: Vec::new(alloc),
-            dictionary: Dictionary::new(alloc),
-            words: Vec::new(alloc),
+            words: String::new(alloc),
+            room: String::new(alloc),
             cuts: Vec::new(alloc),
-            segment_words: MOST_WORDS,
+            left: 0,
+            segment_bytes: MOST_BYTES,
             segments: Vec::new(alloc),
             places: Vec::new(alloc),
             tally: Tally {
@@ -104,14 +112,19 @@ impl Indexer {
         })
     }
 
-    /// Hears how many bytes of files are still to come. A segment takes in half of what is left, so that
-    /// the making of the last ones, beside all that stands, takes little room.
+    /// Hears how many bytes of files are still to come.
     pub fn expect_bytes(&mut self, left: u64) {
+        self.left = left;
         if self.words.is_empty() {
-            // a word has some six bytes with what stands behind it
-            let half = usize::try_from(left / 12).unwrap_or(MOST_WORDS);
-            self.segment_words = half.clamp(LEAST_WORDS, MOST_WORDS);
+            self.begin_segment();
         }
+    }
+
+    // A segment takes in half of what is left, so that the making of the last ones, beside all that
+    // stands, takes little room.
+    fn begin_segment(&mut self) {
+        let half = usize::try_from(self.left / 2).unwrap_or(MOST_BYTES);
+        self.segment_bytes = half.clamp(LEAST_BYTES, MOST_BYTES);
     }
 
     // Where a document of the last file stands.
@@ -193,32 +206,34 @@ impl Indexer {
             return Ok(());
         }
         self.cuts.sort_by_key(|cut| cut.count)?;
-        let words = WordTerms::new(self.alloc, self.fields.text, self.dictionary.take_words())?;
+        let words = mem::replace(&mut self.words, String::new(self.alloc));
         let (segment, places) = self.build_segment(words)?;
         self.segments.push(segment)?;
         self.places.push(places)?;
         self.cuts.clear();
-        self.words.clear();
+        self.begin_segment();
         Ok(())
     }
 
-    // The segment of the documents, and where each stands.
-    fn build_segment(&self, words: WordTerms) -> Result<(SegmentReader, Vec<Filed>), QueryError> {
+    // The segment of the documents with these words, and where each stands.
+    fn build_segment(&self, words: String) -> Result<(SegmentReader, Vec<Filed>), QueryError> {
         let mut builder = SegmentBuilder::new(self.alloc, &self.schema, BLOCK_LEN)?;
         let mut places = Vec::with_capacity(self.alloc, self.cuts.len())?;
-        let mut words = words;
         for cut in &self.cuts {
-            builder.add_document(self.document(&mut words, cut)?)?;
+            builder.add_document(self.document(words.as_str(), cut)?)?;
             places.push(cut.filed)?;
         }
+        // the building takes most room of all
+        drop(words);
         Ok((builder.build(self.alloc)?, places))
     }
 
     // A document with its words and those of its file's name.
-    fn document(&self, words: &mut WordTerms, cut: &Cut) -> Result<PlainDoc, QueryError> {
+    fn document(&self, words: &str, cut: &Cut) -> Result<PlainDoc, QueryError> {
         let mut document = PlainDoc::new(self.alloc);
-        let end = cut.first.saturating_add(cut.count as usize);
-        words.add_to(self.words.get(cut.first..end).unwrap_or(&[]), &mut document)?;
+        let end = cut.first.saturating_add(cut.len);
+        let own = words.get(cut.first..end).unwrap_or("");
+        document.add_text(self.fields.text, own)?;
         document.set_length(self.fields.text, length_id(cut.count))?;
         if let Some(file) = self.files.get(cut.filed.file as usize) {
             document.add_text(self.fields.name, file.name_words.as_str())?;
@@ -235,10 +250,11 @@ impl Indexer {
             schema: _,
             fields: _,
             files,
-            dictionary: _,
             words: _,
+            room: _,
             cuts: _,
-            segment_words: _,
+            left: _,
+            segment_bytes: _,
             segments,
             places,
             tally,

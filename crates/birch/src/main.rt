@@ -9,12 +9,12 @@ mod index;
 mod indexer;
 mod options;
 mod run;
+mod scored;
 mod searched;
 mod shown;
 mod stats;
 mod stop;
 mod weights;
-mod word_terms;
 
 use run::FAILED;
 use std::process::ExitCode;

@@ -3,7 +3,6 @@
 #![tactic(auto)]
 
 mod clause;
-mod dictionary;
 mod glob;
 mod lines;
 mod marks;
@@ -14,7 +13,6 @@ mod tables;
 mod words;
 
 pub use clause::{Clause, Sign};
-pub use dictionary::Dictionary;
 pub use glob::is_glob_match;
 pub use lines::{add_lines, add_paragraphs};
 pub use marks::{Mark, Marker};
@@ -22,4 +20,4 @@ pub use passage::{Form, Passages, Place, add_passages, text_at};
 pub use query::{QueryFault, read_query};
 pub use snippet::{Snippet, snippet_of};
 pub use tables::column_in;
-pub use words::name_words;
+pub use words::{add_words, name_words};

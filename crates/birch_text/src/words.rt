@@ -15,6 +15,40 @@ pub fn fold(folded: &mut String, word: &str) -> Result<(), AllocError> {
     Ok(())
 }
 
+/// Adds the words of a text to others, cut by Unicode's rules and folded, each with a space behind it, and
+/// answers how many there are. A word has no space in it, so they can be told apart. What stands in `room`
+/// is lost.
+///
+/// Refused for want of memory alone; then some may have been added.
+pub fn add_words(words: &mut String, room: &mut String, text: &str) -> Result<u32, AllocError> {
+    if !text.is_ascii() {
+        return add_folded(words, text);
+    }
+    room.clear();
+    room.push_str(text)?;
+    room.make_ascii_lowercase();
+    let mut count: u32 = 0;
+    for word in room.as_str().unicode_words() {
+        words.push_str(word)?;
+        words.push(' ')?;
+        count = count.saturating_add(1);
+    }
+    Ok(count)
+}
+
+// Adds the words of a text of any letters.
+fn add_folded(words: &mut String, text: &str) -> Result<u32, AllocError> {
+    let mut count: u32 = 0;
+    for word in text.unicode_words() {
+        for letter in word.chars().default_case_fold() {
+            words.push(letter)?;
+        }
+        words.push(' ')?;
+        count = count.saturating_add(1);
+    }
+    Ok(count)
+}
+
 /// Adds the words of a text, cut by Unicode's rules and folded.
 ///
 /// Refused for want of memory alone; then some may have been added.
