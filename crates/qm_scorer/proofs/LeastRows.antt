@@ -1,5 +1,5 @@
 -- The least of each span of a row, as the row changes.
-use Rattle.std.proofs.Common.{◌≡◌, ℕ, zero, suc, ◌+◌, ◌*◌, ◌<◌, ◌≤◌, ◌/◌, ◌%◌, Bool, false, List, [], ◌∷◌, ◌++◌, drop, get_or, length, min, set, take, arith, refl, sym, ap, ◌∙◌, subst, inl, inr, length-drop}
+use Rattle.std.proofs.Common.{◌≡◌, ℕ, zero, suc, ◌+◌, ◌*◌, ◌<◌, ◌≤◌, ◌/◌, ◌%◌, Bool, false, List, [], ◌∷◌, ◌++◌, drop, get_or, length, min, set, take, arith, refl, sym, ap, ◌∙◌, subst, length-drop}
 use Rattle.std.specs.List.{count_by}
 use Rattle.std.proofs.lemmas.List.{drop-drop, drop-set-add, drop-set-lt, get_or-drop, get_or-take, length-set, length-take, take-append-drop, take-set-le}
 use Rattle.std.proofs.lemmas.List.Sums.{count_by_more_no}

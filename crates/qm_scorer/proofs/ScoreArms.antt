@@ -13,6 +13,7 @@ use Rattle.qm_scorer.specs.Bare.{IsBounded, bare}
 use Rattle.qm_scorer.specs.BareFacts.{head_score-bare}
 use Rattle.qm_scorer.specs.Group.{IsGroupNode, group_entries, group_lists}
 use Rattle.qm_scorer.specs.Intersection.{AreTogether, AreTrees, common_list}
+use Rattle.qm_scorer.specs.Moves.{Scored}
 use Rattle.qm_scorer.specs.MoveFacts.{IsBounded-same}
 use Rattle.qm_scorer.specs.Tree.{IsOnKept, IsTree, IsTreePlaced, gathered_list, joined_entries, kept_entries, tree_entries, tree_head, tree_top}
 use Rattle.qm_scorer.specs.declared.any_scorer.AnyScorer.{AnyScorer, size-AnyScorer}
@@ -37,22 +38,9 @@ score_fits z n is fits =
     omega (arith, below)
 
 module _ {S : Type 0} (D : Ghosts S) where
-  -- what a tree ensures that was asked for its score
-  abbrev pub Scored : AnyScorer S → AnyScorer S → ℕ → Type 0
-  Scored tree after n = record {
-    score : n ≡ head_score (tree_entries D tree);
-    fits : n ≤ greatest_score;
-    entries : tree_entries D after ≡ tree_entries D tree;
-    top : tree_top D after ≡ tree_top D tree;
-    valid : IsTree D after;
-    placed : IsTreePlaced D after;
-    head : tree_head D after ≡ tree_head D tree;
-    depth : size-AnyScorer S after ≤ size-AnyScorer S tree;
-  }
-
   -- the same of the trees that these two are
-  pub scored-as : {tree after : AnyScorer S} {n : ℕ} (old new : AnyScorer S) → tree ≡ old → after ≡ new → Scored old new n → Scored tree after n
-  scored-as {tree} {after} {n} old new is left h = subst (λ t. Scored t after n) (sym is) (subst (λ a. Scored old a n) (sym left) h)
+  pub scored-as : {tree after : AnyScorer S} {n : ℕ} (old new : AnyScorer S) → tree ≡ old → after ≡ new → Scored D old new n → Scored D tree after n
+  scored-as {tree} {after} {n} old new is left h = subst (λ t. Scored D t after n) (sym is) (subst (λ a. Scored D old a n) (sym left) h)
 
   -- ---- leaves, of which a tree knows the documents and the scores alone
 
@@ -60,7 +48,7 @@ module _ {S : Type 0} (D : Ghosts S) where
       tree_head D (made s) ≡ head_document (listed s)) (deep : (new old : L) → size-AnyScorer S (made new) ≤ size-AnyScorer S (made old)) where
     pub scored-leaf : {tree after : AnyScorer S} {lent : L} {n : ℕ} (leaf new : L) → lent ≡ leaf → tree ≡ made leaf →
         tree_head D tree < TERMINATED → n ≡ head_score (listed lent) → head_score (listed lent) ≤ greatest_score → listed new ≡ listed lent →
-        tree_top D (made new) ≡ tree_top D (made lent) → IsTree D (made new) → IsTreePlaced D (made new) → after ≡ made new → Scored tree after n
+        tree_top D (made new) ≡ tree_top D (made lent) → IsTree D (made new) → IsTreePlaced D (made new) → after ≡ made new → Scored D tree after n
     scored-leaf {tree} {after} {lent} {n} leaf new same is here score fits kept top valid placed left =
         let below : head_document (listed leaf) < TERMINATED = subst (λ d. d < TERMINATED) (ap (tree_head D) is ∙ heads leaf) here in
         let list : listed new ≡ listed leaf = kept ∙ ap listed same in
@@ -89,7 +77,7 @@ module _ {S : Type 0} (D : Ghosts S) where
   pub scored-Boost : {lent : BoostNode S} {n : ℕ} (node : Box (BoostNode S) _) (after : BoostNode S) → lent ≡ node.value → IsTree D (Boost node) →
       n ≡ head_score (rescored (λ e. e.score * lent.boost) (tree_entries D lent.inner)) → n ≤ greatest_score → tree_entries D after.inner
       ≡ tree_entries D lent.inner → IsTree D after.inner → IsTreePlaced D after.inner → tree_head D after.inner ≡ tree_head D lent.inner → after.boost
-      ≡ lent.boost → after.top ≡ lent.top → size-BoostNode S after ≤ size-BoostNode S lent → Scored (Boost node) (Boost (record node { value = after })) n
+      ≡ lent.boost → after.top ≡ lent.top → size-BoostNode S after ≤ size-BoostNode S lent → Scored D (Boost node) (Boost (record node { value = after })) n
   scored-Boost node after same valid score fits entries inner placed head boost top depth =
       let boosts : after.boost ≡ node.value.boost = boost ∙ ap (λ (m : BoostNode S). m.boost) same in
       let tops : after.top ≡ node.value.top = top ∙ ap (λ (m : BoostNode S). m.top) same in
@@ -122,7 +110,7 @@ module _ {S : Type 0} (D : Ghosts S) where
   pub scored-Const : {lent : ConstNode S} {n : ℕ} (node : Box (ConstNode S) _) (after : ConstNode S) → lent ≡ node.value → IsTree D (Const node) →
       n ≡ head_score (rescored (λ _. lent.score) (tree_entries D lent.inner)) → n ≤ greatest_score → tree_entries D after.inner ≡ tree_entries D lent.inner →
       IsTree D after.inner → IsTreePlaced D after.inner → tree_head D after.inner ≡ tree_head D lent.inner → after.score ≡ lent.score →
-      size-ConstNode S after ≤ size-ConstNode S lent → Scored (Const node) (Const (record node { value = after })) n
+      size-ConstNode S after ≤ size-ConstNode S lent → Scored D (Const node) (Const (record node { value = after })) n
   scored-Const node after same valid score fits entries inner placed head one depth =
       let scores : after.score ≡ node.value.score = one ∙ ap (λ (m : ConstNode S). m.score) same in
       let list : tree_entries D after.inner ≡ tree_entries D node.value.inner = entries ∙ ap (λ (m : ConstNode S). tree_entries D m.inner) same in
@@ -155,7 +143,7 @@ module _ {S : Type 0} (D : Ghosts S) where
       IsTree D (RequiredOptional node) → n ≡ head_score (joined_entries D lent.required lent.optional) → n ≤ greatest_score →
       joined_entries D after.required after.optional ≡ joined_entries D lent.required lent.optional → IsTree D after.required → IsTreePlaced D after.required →
       IsTree D after.optional → IsTreePlaced D after.optional → tree_head D after.required ≡ tree_head D lent.required → after.top ≡ lent.top →
-      size-OptionalNode S after ≤ size-OptionalNode S lent → Scored (RequiredOptional node) (RequiredOptional (record node { value = after })) n
+      size-OptionalNode S after ≤ size-OptionalNode S lent → Scored D (RequiredOptional node) (RequiredOptional (record node { value = after })) n
   scored-RequiredOptional node after same valid score fits entries required placed optional stands head top depth =
       let tops : after.top ≡ node.value.top = top ∙ ap (λ (m : OptionalNode S). m.top) same in
       let whole : tree_entries D (RequiredOptional (record node { value = after })) ≡ tree_entries D (RequiredOptional node) = entries
@@ -189,7 +177,8 @@ module _ {S : Type 0} (D : Ghosts S) where
   pub scored-Exclude : {lent : ExcludeNode S} {n : ℕ} (node : Box (ExcludeNode S) _) (after : ExcludeNode S) → lent ≡ node.value → IsTree D (Exclude node) →
       IsTreePlaced D (Exclude node) → n ≡ head_score (kept_entries D lent.inner lent.out) → n ≤ greatest_score → tree_entries D after.inner
       ≡ tree_entries D lent.inner → IsTree D after.inner → IsTreePlaced D after.inner → tree_head D after.inner ≡ tree_head D lent.inner → after.out
-      ≡ lent.out → after.top ≡ lent.top → size-ExcludeNode S after ≤ size-ExcludeNode S lent → Scored (Exclude node) (Exclude (record node { value = after })) n
+      ≡ lent.out → after.top ≡ lent.top → size-ExcludeNode S after ≤ size-ExcludeNode S lent
+      → Scored D (Exclude node) (Exclude (record node { value = after })) n
   scored-Exclude node after same valid stands score fits entries inner placed head out top depth =
       let outs : after.out ≡ node.value.out = out ∙ ap (λ (m : ExcludeNode S). m.out) same in
       let tops : after.top ≡ node.value.top = top ∙ ap (λ (m : ExcludeNode S). m.top) same in
@@ -217,10 +206,10 @@ module _ {S : Type 0} (D : Ghosts S) where
   -- ---- nodes over rows of trees
 
   pub scored-Union : {lent : UnionNode S} {n : ℕ} (node : Box (UnionNode S) _) (after : UnionNode S) → lent ≡ node.value → IsTree D (Union node)
-      → n ≡ head_score (union_list D lent) → n ≤ greatest_score → after ≡ lent → Scored (Union node) (Union (record node { value = after })) n
+      → n ≡ head_score (union_list D lent) → n ≤ greatest_score → after ≡ lent → Scored D (Union node) (Union (record node { value = after })) n
   scored-Union {lent} {n} node after same valid score fits kept =
       let is : after ≡ node.value = kept ∙ same in
-      let made : Scored (Union node) (Union node) n = record {
+      let made : Scored D (Union node) (Union node) n = record {
         score = score ∙ ap (λ m. head_score (union_list D m)) same ∙ sym (ap head_score (entries-Union D node));
         fits = fits;
         entries = refl;
@@ -230,11 +219,12 @@ module _ {S : Type 0} (D : Ghosts S) where
         head = refl;
         depth = omega arith;
       } in
-      subst (λ (m : UnionNode S). Scored (Union node) (Union (record node { value = m })) n) (sym is) made
+      subst (λ (m : UnionNode S). Scored D (Union node) (Union (record node { value = m })) n) (sym is) made
 
   pub scored-Disjunction : {lent : GroupNode S} {n : ℕ} (node : Box (GroupNode S) _) (after : GroupNode S) → lent ≡ node.value →
       n ≡ head_score (group_entries D lent) → n ≤ greatest_score → group_lists D after ≡ group_lists D lent → IsGroupNode D after → after.shape ≡ lent.shape →
-      after.current ≡ lent.current → size-GroupNode S after ≤ size-GroupNode S lent → Scored (Disjunction node) (Disjunction (record node { value = after })) n
+      after.current ≡ lent.current → size-GroupNode S after ≤ size-GroupNode S lent
+      → Scored D (Disjunction node) (Disjunction (record node { value = after })) n
   scored-Disjunction {lent} node after same score fits lists valid shape current depth =
       let before : tree_entries D (Disjunction node) ≡ group_entries D lent = entries-Disjunction D node ∙ ap (group_entries D) (sym same) in
       let new = record node { value = after } in
@@ -252,7 +242,7 @@ module _ {S : Type 0} (D : Ghosts S) where
   pub scored-Intersection : {tree : AnyScorer S} {lent : IntersectionNode S} {n : ℕ} (node : Box (IntersectionNode S) _) (after : IntersectionNode S) →
       tree ≡ Intersection node → lent ≡ node.value → IsTree D tree → n ≡ head_score (common_list D lent) → n ≤ greatest_score → common_list D after
       ≡ common_list D lent → AreTrees D after → AreTogether D after → tree_head D after.leader ≡ tree_head D lent.leader → after.top ≡ lent.top →
-      size-IntersectionNode S after ≤ size-IntersectionNode S lent → Scored (Intersection node) (Intersection (record node { value = after })) n
+      size-IntersectionNode S after ≤ size-IntersectionNode S lent → Scored D (Intersection node) (Intersection (record node { value = after })) n
   scored-Intersection node after is same valid score fits entries trees placed head top depth = record {
     score = score ∙ ap head_score (lent-entries D node is same) ∙ ap (λ t. head_score (tree_entries D t)) is;
     fits = fits;

@@ -3,6 +3,7 @@
 ghost use Rattle.std.specs.Prelude.{◌≡◌, ◌≤◌, ◌<◌, pos};
 ghost use Rattle.qm_docset.specs.Cursor.{IsSeekAnswer, OnFound};
 ghost use Rattle.qm_docset.specs.Entry.{from, greatest_score, head_document, head_score};
+ghost use Rattle.qm_scorer.specs.Moves.{Answered, Scored, Sought};
 ghost use Rattle.qm_scorer.specs.Tree.{IsTree, IsTreePlaced, tree_entries, tree_head, tree_limits, tree_top};
 ghost use Rattle.qm_scorer.specs.TreeFacts.{tree-ascends};
 ghost use Rattle.qm_scorer.specs.declared.any_scorer.AnyScorer.{size-AnyScorer};
@@ -105,12 +106,7 @@ pub(crate) fn doc_tree<'a, S: Scorer>(scorer: &AnyScorer<'a, S>) -> DocId
 pub(crate) fn seek_tree<'a, S: Scorer>(scorer: &mut AnyScorer<'a, S>, target: DocId) -> DocId
     requires valid { IsTree S.DocSet scorer.old }
     requires target { target ≤ TERMINATED }
-    ensures head { result ≡ head_document (tree_entries S.DocSet scorer.new) }
-    ensures entries { tree_entries S.DocSet scorer.new ≡ from target (tree_entries S.DocSet scorer.old) }
-    ensures top { tree_top S.DocSet scorer.new ≡ tree_top S.DocSet scorer.old }
-    ensures valid { IsTree S.DocSet scorer.new }
-    ensures placed { IsTreePlaced S.DocSet scorer.new }
-    ensures depth { size-AnyScorer _ scorer.new ≤ size-AnyScorer _ scorer.old }
+    ensures { Sought S.DocSet target scorer.old scorer.new result }
 {
     match scorer {
         AnyScorer::Term(leaf) => leaf.seek(target),
@@ -125,12 +121,7 @@ pub(crate) fn seek_tree<'a, S: Scorer>(scorer: &mut AnyScorer<'a, S>, target: Do
 fn seek_other<'a, S: Scorer>(scorer: &mut AnyScorer<'a, S>, target: DocId) -> DocId
     requires valid { IsTree S.DocSet scorer.old }
     requires target { target ≤ TERMINATED }
-    ensures head { result ≡ head_document (tree_entries S.DocSet scorer.new) }
-    ensures entries { tree_entries S.DocSet scorer.new ≡ from target (tree_entries S.DocSet scorer.old) }
-    ensures top { tree_top S.DocSet scorer.new ≡ tree_top S.DocSet scorer.old }
-    ensures valid { IsTree S.DocSet scorer.new }
-    ensures placed { IsTreePlaced S.DocSet scorer.new }
-    ensures depth { size-AnyScorer _ scorer.new ≤ size-AnyScorer _ scorer.old }
+    ensures { Sought S.DocSet target scorer.old scorer.new result }
 {
     match scorer {
         AnyScorer::Empty(leaf) => leaf.seek(target),
@@ -157,13 +148,8 @@ pub(crate) fn reach_tree<'a, S: Scorer>(scorer: &mut AnyScorer<'a, S>, target: D
     requires valid { IsTree S.DocSet scorer.old }
     requires placed { IsTreePlaced S.DocSet scorer.old }
     requires target { target ≤ TERMINATED }
-    ensures head { result ≡ head_document (tree_entries S.DocSet scorer.new) }
+    ensures sought { Sought S.DocSet target scorer.old scorer.new result }
     ensures stands { tree_head S.DocSet scorer.new ≡ result }
-    ensures entries { tree_entries S.DocSet scorer.new ≡ from target (tree_entries S.DocSet scorer.old) }
-    ensures top { tree_top S.DocSet scorer.new ≡ tree_top S.DocSet scorer.old }
-    ensures valid { IsTree S.DocSet scorer.new }
-    ensures placed { IsTreePlaced S.DocSet scorer.new }
-    ensures depth { size-AnyScorer _ scorer.new ≤ size-AnyScorer _ scorer.old }
 {
     let doc = doc_tree(scorer);
     if doc < target {
@@ -184,12 +170,7 @@ pub(crate) fn danger_tree<'a, S: Scorer>(
 ) -> SeekDangerResult
     requires valid { IsTree S.DocSet scorer.old }
     requires target { target ≤ TERMINATED }
-    ensures answer { IsSeekAnswer target (tree_entries S.DocSet scorer.new) result }
-    ensures entries { tree_entries S.DocSet scorer.new ≡ from target (tree_entries S.DocSet scorer.old) }
-    ensures top { tree_top S.DocSet scorer.new ≡ tree_top S.DocSet scorer.old }
-    ensures valid { IsTree S.DocSet scorer.new }
-    ensures placed { OnFound result (IsTreePlaced S.DocSet scorer.new) }
-    ensures depth { size-AnyScorer _ scorer.new ≤ size-AnyScorer _ scorer.old }
+    ensures { Answered S.DocSet target scorer.old scorer.new result }
 {
     match scorer {
         AnyScorer::Term(leaf) => leaf.seek_danger(target),
@@ -204,12 +185,7 @@ pub(crate) fn danger_tree<'a, S: Scorer>(
 fn danger_other<'a, S: Scorer>(scorer: &mut AnyScorer<'a, S>, target: DocId) -> SeekDangerResult
     requires valid { IsTree S.DocSet scorer.old }
     requires target { target ≤ TERMINATED }
-    ensures answer { IsSeekAnswer target (tree_entries S.DocSet scorer.new) result }
-    ensures entries { tree_entries S.DocSet scorer.new ≡ from target (tree_entries S.DocSet scorer.old) }
-    ensures top { tree_top S.DocSet scorer.new ≡ tree_top S.DocSet scorer.old }
-    ensures valid { IsTree S.DocSet scorer.new }
-    ensures placed { OnFound result (IsTreePlaced S.DocSet scorer.new) }
-    ensures depth { size-AnyScorer _ scorer.new ≤ size-AnyScorer _ scorer.old }
+    ensures { Answered S.DocSet target scorer.old scorer.new result }
 {
     match scorer {
         AnyScorer::Empty(leaf) => leaf.seek_danger(target),
@@ -237,14 +213,7 @@ pub(crate) fn score_tree<'a, S: Scorer>(scorer: &mut AnyScorer<'a, S>) -> u64
     requires valid { IsTree S.DocSet scorer.old }
     requires placed { IsTreePlaced S.DocSet scorer.old }
     requires here { tree_head S.DocSet scorer.old < TERMINATED }
-    ensures score { result ≡ head_score (tree_entries S.DocSet scorer.old) }
-    ensures fits { result ≤ greatest_score }
-    ensures entries { tree_entries S.DocSet scorer.new ≡ tree_entries S.DocSet scorer.old }
-    ensures top { tree_top S.DocSet scorer.new ≡ tree_top S.DocSet scorer.old }
-    ensures valid { IsTree S.DocSet scorer.new }
-    ensures placed { IsTreePlaced S.DocSet scorer.new }
-    ensures head { tree_head S.DocSet scorer.new ≡ tree_head S.DocSet scorer.old }
-    ensures depth { size-AnyScorer _ scorer.new ≤ size-AnyScorer _ scorer.old }
+    ensures { Scored S.DocSet scorer.old scorer.new result }
 {
     match scorer {
         AnyScorer::Term(leaf) => leaf.score() as u64,
@@ -260,14 +229,7 @@ fn score_other<'a, S: Scorer>(scorer: &mut AnyScorer<'a, S>) -> u64
     requires valid { IsTree S.DocSet scorer.old }
     requires placed { IsTreePlaced S.DocSet scorer.old }
     requires here { tree_head S.DocSet scorer.old < TERMINATED }
-    ensures score { result ≡ head_score (tree_entries S.DocSet scorer.old) }
-    ensures fits { result ≤ greatest_score }
-    ensures entries { tree_entries S.DocSet scorer.new ≡ tree_entries S.DocSet scorer.old }
-    ensures top { tree_top S.DocSet scorer.new ≡ tree_top S.DocSet scorer.old }
-    ensures valid { IsTree S.DocSet scorer.new }
-    ensures placed { IsTreePlaced S.DocSet scorer.new }
-    ensures head { tree_head S.DocSet scorer.new ≡ tree_head S.DocSet scorer.old }
-    ensures depth { size-AnyScorer _ scorer.new ≤ size-AnyScorer _ scorer.old }
+    ensures { Scored S.DocSet scorer.old scorer.new result }
 {
     match scorer {
         AnyScorer::Empty(leaf) => leaf.score() as u64,

@@ -8,8 +8,9 @@ ghost use Rattle.qm_combine.specs.Combiner.{HasRoomFor, IsCleared};
 ghost use Rattle.qm_combine.specs.Union.{least_head, total_top};
 ghost use Rattle.qm_combine.specs.Window.{IsUntil, window_combiner, window_end, window_has, window_start, window_state};
 ghost use Rattle.qm_scorer.specs.AnyCombiner.{any_cleared, any_combined, any_step};
+ghost use Rattle.qm_scorer.specs.Moves.{Swept};
 ghost use Rattle.qm_scorer.specs.Tree.{HasParts, IsTree, IsTreePlaced, tree_entries, tree_top};
-ghost use Rattle.qm_scorer.specs.United.{AreMembersStanding, IsAdded, IsTakenIn, IsUnionNode, union_limits, union_list, union_lists};
+ghost use Rattle.qm_scorer.specs.United.{AreMembersStanding, IsAdded, IsUnionNode, union_limits, union_list, union_lists};
 ghost use Rattle.qm_scorer.specs.declared.any_scorer.AnyScorer.{size-AnyScorer};
 ghost use Rattle.qm_scorer.specs.declared.union_node.UnionNode.{size-UnionNode};
 
@@ -57,13 +58,7 @@ fn take_tree<'a, S: Scorer>(
     requires bound { bound ≤ window_end window.old }
     requires first { window_start window.old ≤ head_document (tree_entries S.DocSet member.old) }
     requires room { (d : ℕ) → HasRoomFor any_step any_cleared (tree_top S.DocSet member.old) (window_state window.old d) }
-    ensures head { result ≡ head_document (tree_entries S.DocSet member.new) }
-    ensures entries { tree_entries S.DocSet member.new ≡ from bound (tree_entries S.DocSet member.old) }
-    ensures top { tree_top S.DocSet member.new ≡ tree_top S.DocSet member.old }
-    ensures valid { IsTree S.DocSet member.new }
-    ensures placed { IsTreePlaced S.DocSet member.new }
-    ensures depth { size-AnyScorer _ member.new ≤ size-AnyScorer _ member.old }
-    ensures taken { IsTakenIn window.old window.new bound (tree_entries S.DocSet member.old) }
+    ensures { Swept S.DocSet window.old window.new bound member.old member.new result }
 {
     match member {
         AnyScorer::Term(leaf) => window.take_in(leaf, bound),
@@ -85,13 +80,7 @@ fn take_other<'a, S: Scorer>(
     requires bound { bound ≤ window_end window.old }
     requires first { window_start window.old ≤ head_document (tree_entries S.DocSet member.old) }
     requires room { (d : ℕ) → HasRoomFor any_step any_cleared (tree_top S.DocSet member.old) (window_state window.old d) }
-    ensures head { result ≡ head_document (tree_entries S.DocSet member.new) }
-    ensures entries { tree_entries S.DocSet member.new ≡ from bound (tree_entries S.DocSet member.old) }
-    ensures top { tree_top S.DocSet member.new ≡ tree_top S.DocSet member.old }
-    ensures valid { IsTree S.DocSet member.new }
-    ensures placed { IsTreePlaced S.DocSet member.new }
-    ensures depth { size-AnyScorer _ member.new ≤ size-AnyScorer _ member.old }
-    ensures taken { IsTakenIn window.old window.new bound (tree_entries S.DocSet member.old) }
+    ensures { Swept S.DocSet window.old window.new bound member.old member.new result }
 {
     match member {
         AnyScorer::All(leaf) => window.take_in(leaf, bound),
@@ -116,13 +105,7 @@ fn take_by_steps<'a, S: Scorer>(
     requires bound { bound ≤ window_end window.old }
     requires first { window_start window.old ≤ head_document (tree_entries S.DocSet member.old) }
     requires room { (d : ℕ) → HasRoomFor any_step any_cleared (tree_top S.DocSet member.old) (window_state window.old d) }
-    ensures head { result ≡ head_document (tree_entries S.DocSet member.new) }
-    ensures entries { tree_entries S.DocSet member.new ≡ from bound (tree_entries S.DocSet member.old) }
-    ensures top { tree_top S.DocSet member.new ≡ tree_top S.DocSet member.old }
-    ensures valid { IsTree S.DocSet member.new }
-    ensures placed { IsTreePlaced S.DocSet member.new }
-    ensures depth { size-AnyScorer _ member.new ≤ size-AnyScorer _ member.old }
-    ensures taken { IsTakenIn window.old window.new bound (tree_entries S.DocSet member.old) }
+    ensures { Swept S.DocSet window.old window.new bound member.old member.new result }
 {
     let mut doc = doc_tree(member);
     // what the tree had below the document is added

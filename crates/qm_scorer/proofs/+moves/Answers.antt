@@ -4,7 +4,7 @@ use Rattle.std.proofs.Common.{subst, ◌∙◌, inl, inr, ℕ, List, max, min, n
 use denote.Param.Weighed.{at_most, most}
 use Rattle.std.proofs.lemmas.Bool.{cases_lt}
 use Rattle.std.proofs.lemmas.Grind.{take-set_at}
-use Rattle.std.proofs.lemmas.List.{get_or-set_same, length-map, length-set, take_all, with_items_is, get_or_read_under}
+use Rattle.std.proofs.lemmas.List.{get_or-set_same, length-map, length-set, take_all, with_items_is}
 use Rattle.std.proofs.lemmas.List.Elements.{All-push, All-set, All-get_or}
 use Rattle.qm_docset.specs.Cursor.{IsSeekAnswer}
 use Rattle.qm_docset.specs.Entry.{Limits, from, head_document, head_score, Entry, greatest_score}
@@ -28,12 +28,13 @@ use Rattle.qm_combine.specs.WithoutFacts.{head_score-without}
 use Rattle.qm_combine.proofs.EachMember.{map-map-set_same, take-map-set_more, map-set_same, All-same_lists, get_or-map-map, score_cast}
 use Rattle.qm_combine.proofs.Leading.{IsSeekAnswer-shared, common_entries-caught_up, common_entries-cut, common_entries-passed, common_entries-sought}
 use Rattle.qm_combine.proofs.Leading.{head_document-together, leader_bound-common_entries, head_score-together}
-use Rattle.qm_combine.proofs.Uniting.{least_head-push, least_head-most, least_head-le, scores_at-more, scores_at-more_ahead}
+use Rattle.qm_combine.proofs.Uniting.{least_head-push, least_head-most, scores_at-more}
 use Rattle.qm_phrase.specs.PhrasePrefixScorer.{phrase_prefix_left}
 use Rattle.qm_phrase.specs.PhraseScorer.{phrase_left}
 use Rattle.qm_term.specs.TermScorer.{scored_left}
 use Rattle.qm_scorer.specs.Group.{IsGroupNode, group_entries, group_lists}
-use Rattle.qm_scorer.specs.Tree.{AreHeads, HasRoom, IsTree, IsTreePlaced, postings_cursors, set_cursors, tree_entries, tree_limits, HasParts, kept_score, tree_head}
+use Rattle.qm_scorer.specs.Tree.{AreHeads, HasRoom, IsTree, IsTreePlaced, postings_cursors, set_cursors, tree_entries, tree_limits}
+use Rattle.qm_scorer.specs.Tree.{HasParts, kept_score, tree_head}
 use Rattle.qm_scorer.specs.Tree.{tree_top, united}
 use Rattle.qm_scorer.specs.TreeFacts.{tree-ascends}
 use Rattle.qm_scorer.specs.LeastDocs.{least_of}
@@ -41,6 +42,7 @@ use Rattle.qm_scorer.proofs.GroupHeads.{AreHeads-put, all-reached, head-least, h
 use Rattle.qm_scorer.proofs.Groups.{HasRoom-moved, group-ended, group-enough, group-moved, group-passed, group-reached, group-there, least_head-from}
 use Rattle.qm_scorer.proofs.Depth.{most-set, same-All, same-BitSet, same-Empty, same-Own, same-Phrase, same-PhrasePrefix, same-Term, size-kept, size-led}
 use Rattle.qm_scorer.proofs.Depth.{size-members, size-others, size-united}
+use Rattle.qm_scorer.proofs.HandedOn.{leaf-scored, leaf-sent}
 use Rattle.qm_scorer.proofs.Heads.{tree-head, boost-fits, tree-here}
 use Rattle.qm_scorer.proofs.Moving.{asked, both_found, on_found, placed_where, same, still_found}
 use Rattle.qm_scorer.proofs.MoveArms.{added, answered-as, answered-leaf, head-rescored, moved-Boost, moved-Const, moved-Disjunction, moved-Exclude}
@@ -98,16 +100,16 @@ exclude_node::pass_excluded-returns-then-not-contains_document g t c =
     let left = has_document (tree_entries g.S.DocSet c.contains_document.new.scorer) in
     record {
       head = c.loop-doc.invariant.here;
-      entries = asked c.loop-doc.doc _ _ _ _ ascends c.loop-doc.invariant.here asks.left ∙ c.loop-doc.invariant.left;
+      entries = asked c.loop-doc.doc _ _ _ _ ascends c.loop-doc.invariant.here asks.moved.entries ∙ c.loop-doc.invariant.left;
       inner = c.loop-doc.invariant.inner;
       placed = c.loop-doc.invariant.placed;
-      out = asks.valid;
-      kept = λ here. ap left (sym c.loop-doc.invariant.here) ∙ same c.loop-doc.doc _ _ asks.left ∙ sym asks.member ∙ c.if-not-contains_document.true;
+      out = asks.moved.valid;
+      kept = λ here. ap left (sym c.loop-doc.invariant.here) ∙ same c.loop-doc.doc _ _ asks.moved.entries ∙ sym asks.member ∙ c.if-not-contains_document.true;
       top = c.loop-doc.invariant.top;
       depth = omega (
         arith,
         c.loop-doc.invariant.depth,
-        size-kept c.loop-doc.node (record c.loop-doc.node { out = c.contains_document.new.scorer }) (omega arith) asks.depth,
+        size-kept c.loop-doc.node (record c.loop-doc.node { out = c.contains_document.new.scorer }) (omega arith) asks.moved.depth,
       );
     }
 
@@ -140,17 +142,17 @@ exclude_node::pass_excluded-loop-doc-preserved g t c =
     let ascends = tree-ascends g.S.DocSet g.met.S.DocSet.ascending c.loop-doc.node.inner c.loop-doc.invariant.inner in
     let here : head_document es < TERMINATED = omega (arith, c.loop-doc.invariant.here) in
     let out : left (head_document es) ≡ true = ap left (sym c.loop-doc.invariant.here)
-    ∙ same c.loop-doc.doc _ _ c.contains_document.ensures.left ∙ sym c.contains_document.ensures.member ∙ c.if-not-contains_document.false in
+    ∙ same c.loop-doc.doc _ _ c.contains_document.ensures.moved.entries ∙ sym c.contains_document.ensures.member ∙ c.if-not-contains_document.false in
     let next : tree_entries g.S.DocSet c.seek_tree-doc.new.scorer ≡ drop 1 es = c.seek_tree-doc.ensures.entries
     ∙ ap (λ d. from (d + 1) es) c.loop-doc.invariant.here ∙ from-next 0 _ es ascends in
     let passed = ap (without left) next ∙ without-stepped left es here out
-    ∙ asked c.loop-doc.doc _ es _ _ ascends c.loop-doc.invariant.here c.contains_document.ensures.left ∙ c.loop-doc.invariant.left in
+    ∙ asked c.loop-doc.doc _ es _ _ ascends c.loop-doc.invariant.here c.contains_document.ensures.moved.entries ∙ c.loop-doc.invariant.left in
     record {
       here = c.seek_tree-doc.ensures.head;
       left = passed;
       inner = c.seek_tree-doc.ensures.valid;
       placed = c.seek_tree-doc.ensures.placed;
-      out = c.contains_document.ensures.valid;
+      out = c.contains_document.ensures.moved.valid;
       top = c.loop-doc.invariant.top;
       depth = search (rules, q.the_lemmas);
     }
@@ -175,25 +177,23 @@ exclude_node::seek_exclude-returns g t c =
 
 pub exclude_node::contains_document-returns-in-Found : goal.exclude_node::contains_document-returns-in-Found
 exclude_node::contains_document-returns-in-Found g t c =
+    let e = c.danger_tree.ensures in
     let left = tree_entries g.S.DocSet c.danger_tree.new.scorer in
     record {
       member = sym (has_document-head c.args.doc left c.in-Found.ensures.answer.here c.requires.doc) ∙ same c.args.doc _ left c.danger_tree.ensures.entries;
-      left = c.danger_tree.ensures.entries;
-      valid = c.danger_tree.ensures.valid;
-      depth = c.danger_tree.ensures.depth;
+      moved = record { entries = e.entries; top = e.top; valid = e.valid; depth = e.depth };
     }
 
 pub exclude_node::contains_document-returns-in-SeekLowerBound : goal.exclude_node::contains_document-returns-in-SeekLowerBound
 exclude_node::contains_document-returns-in-SeekLowerBound g t c =
+    let e = c.danger_tree.ensures in
     let left = tree_entries g.S.DocSet c.danger_tree.new.scorer in
     let ascends = tree-ascends g.S.DocSet g.met.S.DocSet.ascending c.danger_tree.new.scorer c.danger_tree.ensures.valid in
     let before : c.args.doc < head_document left =
     omega (arith, c.in-SeekLowerBound.ensures.answer.before_all, c.in-SeekLowerBound.ensures.answer.past c.requires.doc) in
     record {
       member = sym (has_document-before 0 c.args.doc _ left ascends before) ∙ same c.args.doc _ left c.danger_tree.ensures.entries;
-      left = c.danger_tree.ensures.entries;
-      valid = c.danger_tree.ensures.valid;
-      depth = c.danger_tree.ensures.depth;
+      moved = record { entries = e.entries; top = e.top; valid = e.valid; depth = e.depth };
     }
 
 pub exclude_node::danger_exclude-returns-then-contains_document : goal.exclude_node::danger_exclude-returns-then-contains_document
@@ -204,17 +204,18 @@ exclude_node::danger_exclude-returns-then-contains_document g t c =
     let ascends = tree-ascends g.S.DocSet g.met.S.DocSet.ascending c.danger_tree.new.scorer c.danger_tree.ensures.valid in
     let found = c.in-Found.ensures.answer in
     let here : head_document es < TERMINATED = omega (arith, found.below_end, found.here) in
-    let out : left (head_document es) ≡ true = ap left found.here ∙ same c.args.target _ _ asks.left ∙ sym asks.member ∙ c.if-contains_document.true in
+    let out : left (head_document es) ≡ true = ap left found.here ∙ same c.args.target _ _ asks.moved.entries ∙ sym asks.member ∙ c.if-contains_document.true in
     let past = head_document-past left 0 _ es ascends here out in
     record {
       answer = record { before_all = omega (arith, found.here); past = λ below. omega arith; at_end = λ ended. absurd (omega (arith, found.below_end)) };
-      entries = asked c.args.target _ _ _ _ ascends (sym found.here) asks.left ∙ ap (without _) c.danger_tree.ensures.entries ∙ from-without _ c.args.target _;
+      entries = asked c.args.target _ _ _ _ ascends (sym found.here) asks.moved.entries
+          ∙ ap (without _) c.danger_tree.ensures.entries ∙ from-without _ c.args.target _;
       inner = c.danger_tree.ensures.valid;
       placed = tt;
-      out = asks.valid;
+      out = asks.moved.valid;
       kept = tt;
       top = refl;
-      depth = size-kept c.args.node.now _ c.danger_tree.ensures.depth asks.depth;
+      depth = size-kept c.args.node.now _ c.danger_tree.ensures.depth asks.moved.depth;
     }
 
 pub exclude_node::danger_exclude-returns-else-contains_document : goal.exclude_node::danger_exclude-returns-else-contains_document
@@ -224,16 +225,17 @@ exclude_node::danger_exclude-returns-else-contains_document g t c =
     let left = has_document (tree_entries g.S.DocSet c.contains_document.new.scorer) in
     let ascends = tree-ascends g.S.DocSet g.met.S.DocSet.ascending c.danger_tree.new.scorer c.danger_tree.ensures.valid in
     let found = c.in-Found.ensures.answer in
-    let kept : IsKept left es = λ here. ap left found.here ∙ same c.args.target _ _ asks.left ∙ sym asks.member ∙ c.if-contains_document.false in
+    let kept : IsKept left es = λ here. ap left found.here ∙ same c.args.target _ _ asks.moved.entries ∙ sym asks.member ∙ c.if-contains_document.false in
     record {
       answer = record { below_end = found.below_end; here = head_document-without left 0 _ es ascends kept ∙ found.here };
-      entries = asked c.args.target _ _ _ _ ascends (sym found.here) asks.left ∙ ap (without _) c.danger_tree.ensures.entries ∙ from-without _ c.args.target _;
+      entries = asked c.args.target _ _ _ _ ascends (sym found.here) asks.moved.entries
+          ∙ ap (without _) c.danger_tree.ensures.entries ∙ from-without _ c.args.target _;
       inner = c.danger_tree.ensures.valid;
       placed = c.in-Found.ensures.placed;
-      out = asks.valid;
+      out = asks.moved.valid;
       kept = kept;
       top = refl;
-      depth = size-kept c.args.node.now _ c.danger_tree.ensures.depth asks.depth;
+      depth = size-kept c.args.node.now _ c.danger_tree.ensures.depth asks.moved.depth;
     }
 
 pub exclude_node::danger_exclude-returns-in-SeekLowerBound : goal.exclude_node::danger_exclude-returns-in-SeekLowerBound
@@ -258,15 +260,7 @@ exclude_node::danger_exclude-returns-in-SeekLowerBound g t c =
 pub any_scorer::reach_tree-returns-then-doc-target : goal.any_scorer::reach_tree-returns-then-doc-target
 any_scorer::reach_tree-returns-then-doc-target g t c =
     let sought = c.seek_tree.ensures in
-    record {
-      head = sought.head;
-      stands = tree-head g.S.DocSet g.met.S.DocSet.ascending _ sought.valid sought.placed ∙ sym sought.head;
-      entries = sought.entries;
-      top = sought.top;
-      valid = sought.valid;
-      placed = sought.placed;
-      depth = sought.depth;
-    }
+    record { sought = sought; stands = tree-head g.S.DocSet g.met.S.DocSet.ascending _ sought.valid sought.placed ∙ sym sought.head }
 
 pub any_scorer::reach_tree-returns-else-doc-target : goal.any_scorer::reach_tree-returns-else-doc-target
 any_scorer::reach_tree-returns-else-doc-target g t c =
@@ -274,13 +268,15 @@ any_scorer::reach_tree-returns-else-doc-target g t c =
     let head = tree-head g.S.DocSet g.met.S.DocSet.ascending scorer c.requires.valid c.requires.placed in
     let there : c.args.target ≤ head_document (tree_entries g.S.DocSet scorer) = omega (arith, c.doc_tree-doc.ensures, head, c.if-doc-target.false) in
     record {
-      head = c.doc_tree-doc.ensures ∙ head;
+      sought = record {
+        head = c.doc_tree-doc.ensures ∙ head;
+        entries = sym (from-reached c.args.target 0 _ _ there (tree-ascends g.S.DocSet g.met.S.DocSet.ascending scorer c.requires.valid));
+        top = refl;
+        valid = c.requires.valid;
+        placed = c.requires.placed;
+        depth = omega arith;
+      };
       stands = sym c.doc_tree-doc.ensures;
-      entries = sym (from-reached c.args.target 0 _ _ there (tree-ascends g.S.DocSet g.met.S.DocSet.ascending scorer c.requires.valid));
-      top = refl;
-      valid = c.requires.valid;
-      placed = c.requires.placed;
-      depth = omega arith;
     }
 
 -- ---- groups
@@ -665,28 +661,41 @@ union_node::take_document-returns-else-keeps_no_states-clause-added g t c =
       combiner = e.combiner;
     }
 
-pub union_node::take_by_steps-returns-else-doc-lt-TERMINATED-clause-entries : goal.union_node::take_by_steps-returns-else-doc-lt-TERMINATED-clause-entries
-union_node::take_by_steps-returns-else-doc-lt-TERMINATED-clause-entries g t c =
+pub union_node::take_by_steps-returns-else-doc-lt-TERMINATED : goal.union_node::take_by_steps-returns-else-doc-lt-TERMINATED
+union_node::take_by_steps-returns-else-doc-lt-TERMINATED g t c =
     let D = g.S.DocSet in
     let m = c.args.member.now in
+    let es = tree_entries D m in
     let ascends = tree-ascends D g.met.S.DocSet.ascending m c.requires.valid in
-    c.loop-doc.invariant.left ∙ from-all_passed _ (tree_entries D m) ascends c.loop-doc.doc c.args.bound (omega (arith, c.if-doc-lt-TERMINATED.false))
+    let inv = c.loop-doc.invariant in
+    record {
+      head = inv.here;
+      entries = inv.left ∙ from-all_passed _ es ascends c.loop-doc.doc c.args.bound (omega (arith, c.if-doc-lt-TERMINATED.false));
+      top = inv.top;
+      valid = inv.valid;
+      placed = inv.placed;
+      depth = inv.depth;
+      taken = taken_to-all _ es ascends c.args.window.now _ c.loop-doc.doc c.args.bound (omega (arith, c.if-doc-lt-TERMINATED.false))
+          (inv.here ∙ ap head_document inv.left) inv.taken;
+    }
 
-pub union_node::take_by_steps-returns-else-doc-lt-TERMINATED-clause-taken : goal.union_node::take_by_steps-returns-else-doc-lt-TERMINATED-clause-taken
-union_node::take_by_steps-returns-else-doc-lt-TERMINATED-clause-taken g t c =
+pub union_node::take_by_steps-returns-after-loop-doc : goal.union_node::take_by_steps-returns-after-loop-doc
+union_node::take_by_steps-returns-after-loop-doc g t c =
     let D = g.S.DocSet in
     let m = c.args.member.now in
+    let es = tree_entries D m in
     let ascends = tree-ascends D g.met.S.DocSet.ascending m c.requires.valid in
-    taken_to-all _ (tree_entries D m) ascends c.args.window.now _ c.loop-doc.doc c.args.bound (omega (arith, c.if-doc-lt-TERMINATED.false))
-    (c.loop-doc.invariant.here ∙ ap head_document c.loop-doc.invariant.left) c.loop-doc.invariant.taken
-
-pub union_node::take_by_steps-returns-after-loop-doc-clause-taken : goal.union_node::take_by_steps-returns-after-loop-doc-clause-taken
-union_node::take_by_steps-returns-after-loop-doc-clause-taken g t c =
-    let D = g.S.DocSet in
-    let m = c.args.member.now in
-    let ascends = tree-ascends D g.met.S.DocSet.ascending m c.requires.valid in
-    taken_to-all _ (tree_entries D m) ascends c.args.window.now _ c.loop-doc.doc c.args.bound (omega (arith, c.loop-doc-test.false))
-    (c.loop-doc.invariant.here ∙ ap head_document c.loop-doc.invariant.left) c.loop-doc.invariant.taken
+    let inv = c.loop-doc.invariant in
+    record {
+      head = inv.here;
+      entries = inv.left ∙ ap (λ n. from n es) (omega (arith, c.loop-doc-test.false));
+      top = inv.top;
+      valid = inv.valid;
+      placed = inv.placed;
+      depth = inv.depth;
+      taken = taken_to-all _ es ascends c.args.window.now _ c.loop-doc.doc c.args.bound (omega (arith, c.loop-doc-test.false))
+          (inv.here ∙ ap head_document inv.left) inv.taken;
+    }
 
 -- ---- a union
 
@@ -860,23 +869,23 @@ union_node::reach_each-loop-i-preserved g t c =
     let item = c.index_mut.result.now in
     let read : tree_entries g.S.DocSet item ≡ tree_entries g.S.DocSet (get_or xs i item) = ap (tree_entries g.S.DocSet) (c.index_mut.ensures.value) in
     let cut : from d (tree_entries g.S.DocSet x) ≡ from d (tree_entries g.S.DocSet (get_or xs i c.index_mut.result.now)) =
-    ap (from d) (c.reach_tree.ensures.entries ∙ ap (from d) read) ∙ from-from d d _ (omega arith) in
+    ap (from d) (c.reach_tree.ensures.sought.entries ∙ ap (from d) read) ∙ from-from d d _ (omega arith) in
     let Stands : AnyScorer g.row.S.Denot → Type 0 = λ m. d ≤ head_document (tree_entries g.S.DocSet m) in
     let grown : take (i + 1) (set xs i x) ≡ take i xs ++ x ∷ [] = take-set_at xs i (i + 1) x (omega arith) here in
-    let past : Stands x = rw c.reach_tree.ensures.entries (head_document-from d _ c.requires.target) in
+    let past : Stands x = rw c.reach_tree.ensures.sought.entries (head_document-from d _ c.requires.target) in
     let more = take-map-set_more (tree_entries g.S.DocSet) xs i x here in
     let pushed = least_head-push (take i (map (tree_entries g.S.DocSet) xs)) (tree_entries g.S.DocSet x) in
     let smaller = subst (λ (y : AnyScorer g.row.S.Denot). size-AnyScorer g.row.S.Denot x ≤ size-AnyScorer g.row.S.Denot y)
-    c.index_mut.ensures.value c.reach_tree.ensures.depth in
+    c.index_mut.ensures.value c.reach_tree.ensures.sought.depth in
     record {
       unvisited = search (rules, uq.the_lemmas);
-      valid = All-set (IsTree g.S.DocSet) xs i x c.reach_tree.ensures.valid c.loop-i.invariant.valid;
-      placed = All-set (IsTreePlaced g.S.DocSet) xs i x c.reach_tree.ensures.placed c.loop-i.invariant.placed;
+      valid = All-set (IsTree g.S.DocSet) xs i x c.reach_tree.ensures.sought.valid c.loop-i.invariant.valid;
+      placed = All-set (IsTreePlaced g.S.DocSet) xs i x c.reach_tree.ensures.sought.placed c.loop-i.invariant.placed;
       lists = map-map-set_same (from d) (tree_entries g.S.DocSet) xs i x c.index_mut.result.now here cut ∙ c.loop-i.invariant.lists;
       limits = map-set_same (tree_limits g.S.DocSet) xs i x c.index_mut.result.now here
-          (ap scores_to (c.reach_tree.ensures.top ∙ ap (tree_top g.S.DocSet) c.index_mut.ensures.value)) ∙ c.loop-i.invariant.limits;
+          (ap scores_to (c.reach_tree.ensures.sought.top ∙ ap (tree_top g.S.DocSet) c.index_mut.ensures.value)) ∙ c.loop-i.invariant.limits;
       reached = rw grown (All-push Stands (take i xs) x c.loop-i.invariant.reached past);
-      least = omega (arith, ap least_head more, pushed, c.loop-i.invariant.least, c.reach_tree.ensures.head, c.min-least.ensures);
+      least = omega (arith, ap least_head more, pushed, c.loop-i.invariant.least, c.reach_tree.ensures.sought.head, c.min-least.ensures);
       window = c.loop-i.invariant.window;
       top = c.loop-i.invariant.top;
       depth = size-united c.loop-i.node _ _ (most-set (size-AnyScorer g.row.S.Denot) xs i x c.index_mut.result.now here smaller) c.loop-i.invariant.depth;
@@ -1575,17 +1584,34 @@ optional_node::score_at-returns-then-reach_tree-doc-clause-score g t c =
     let es = tree_entries g.S.DocSet c.args.scorer.now in
     let d = c.args.doc in
     let ascends = tree-ascends g.S.DocSet g.met.S.DocSet.ascending c.args.scorer.now c.requires.valid in
-    let here : head_document (from d es) ≡ d = ap head_document (sym c.reach_tree.ensures.entries) ∙ sym c.reach_tree.ensures.head ∙ c.if-reach_tree-doc.true in
+    let here : head_document (from d es) ≡ d = ap head_document (sym c.reach_tree.ensures.sought.entries)
+    ∙ sym c.reach_tree.ensures.sought.head ∙ c.if-reach_tree-doc.true in
     let one = ap sum (scores_at-reached d _ es c.requires.here here ascends) in
-    omega (arith, c.score_tree.ensures.score, ap head_score c.reach_tree.ensures.entries, one, sum_by-cons (λ n. n) (head_score (from d es)) [])
+    omega (arith, c.score_tree.ensures.score, ap head_score c.reach_tree.ensures.sought.entries, one, sum_by-cons (λ n. n) (head_score (from d es)) [])
 
 pub optional_node::score_at-returns-else-reach_tree-doc-clause-score : goal.optional_node::score_at-returns-else-reach_tree-doc-clause-score
 optional_node::score_at-returns-else-reach_tree-doc-clause-score g t c =
     let es = tree_entries g.S.DocSet c.args.scorer.now in
     let d = c.args.doc in
     let ascends = tree-ascends g.S.DocSet g.met.S.DocSet.ascending c.args.scorer.now c.requires.valid in
-    let there = ap head_document (sym c.reach_tree.ensures.entries) ∙ sym c.reach_tree.ensures.head in
+    let there = ap head_document (sym c.reach_tree.ensures.sought.entries) ∙ sym c.reach_tree.ensures.sought.head in
     sym (ap sum (scores_at-passed d _ es c.requires.here (λ here. c.if-reach_tree-doc.false (sym there ∙ here)) ascends))
+
+pub optional_node::score_at-returns-then-reach_tree-doc-clause-moved : goal.optional_node::score_at-returns-then-reach_tree-doc-clause-moved
+optional_node::score_at-returns-then-reach_tree-doc-clause-moved g t c =
+    let went = c.reach_tree.ensures.sought in
+    let asked = c.score_tree.ensures in
+    record {
+      entries = asked.entries ∙ went.entries;
+      top = asked.top ∙ went.top;
+      valid = asked.valid;
+      depth = omega (arith, asked.depth, went.depth);
+    }
+
+pub optional_node::score_at-returns-else-reach_tree-doc-clause-moved : goal.optional_node::score_at-returns-else-reach_tree-doc-clause-moved
+optional_node::score_at-returns-else-reach_tree-doc-clause-moved g t c =
+    let went = c.reach_tree.ensures.sought in
+    record { entries = went.entries; top = went.top; valid = went.valid; depth = went.depth }
 
 together : (d : ℕ) (required optional : List Entry) → d ≡ head_document required → head_document required < TERMINATED →
     head_score required + sum (scores_at d (optional ∷ [])) ≡ head_score (with_optional sum required optional)
@@ -1620,7 +1646,8 @@ optional_node::score_optional-returns-clause-entries g t c =
     let os = tree_entries g.S.DocSet c.args.node.now.optional in
     let ascends = tree-ascends g.S.DocSet g.met.S.DocSet.ascending c.args.node.now.required c.requires.required in
     let is = c.doc_tree-doc.ensures ∙ tree-head g.S.DocSet g.met.S.DocSet.ascending _ c.requires.required c.requires.placed in
-    (λ i. with_optional sum (c.score_tree.ensures.entries i) (c.score_at.ensures.left i)) ∙ with_optional-reached sum c.doc_tree-doc.result _ rs os is ascends
+    (λ i. with_optional sum (c.score_tree.ensures.entries i) (c.score_at.ensures.moved.entries i))
+    ∙ with_optional-reached sum c.doc_tree-doc.result _ rs os is ascends
 
 pub exclude_node::score_exclude-returns-clause-score : goal.exclude_node::score_exclude-returns-clause-score
 exclude_node::score_exclude-returns-clause-score g t c =
@@ -2113,3 +2140,100 @@ union_node::take_document-score_tree-score-requires g t c κs within =
       search (rules, aq.the_lemmas),
       (search rules, (r.valid, (r.placed, omega (arith, here, r.here, r.some)))),
     )
+
+-- ---- the leaves of the enum, asked
+
+pub any_scorer::seek_tree-seek-requires : goal.any_scorer::seek_tree-seek-requires
+any_scorer::seek_tree-seek-requires g t c =
+    leaf-sent g.S.DocSet Term c.in-Term.leaf-is c.in-Term.is c.requires.valid c.requires.target
+
+pub any_scorer::danger_tree-seek_danger-requires : goal.any_scorer::danger_tree-seek_danger-requires
+any_scorer::danger_tree-seek_danger-requires g t c =
+    leaf-sent g.S.DocSet Term c.in-Term.leaf-is c.in-Term.is c.requires.valid c.requires.target
+
+pub any_scorer::score_tree-score-requires : goal.any_scorer::score_tree-score-requires
+any_scorer::score_tree-score-requires g t c =
+    leaf-scored g.S.DocSet Term (λ s. scored_left s.value) (λ _. refl) c.in-Term.leaf-is c.in-Term.is c.requires.valid c.requires.placed c.requires.here
+
+pub any_scorer::seek_other-seek-requires : goal.any_scorer::seek_other-seek-requires
+any_scorer::seek_other-seek-requires g t c =
+    leaf-sent g.S.DocSet Empty c.in-Empty.leaf-is c.in-Empty.is c.requires.valid c.requires.target
+
+pub any_scorer::danger_other-seek_danger-requires : goal.any_scorer::danger_other-seek_danger-requires
+any_scorer::danger_other-seek_danger-requires g t c =
+    leaf-sent g.S.DocSet Empty c.in-Empty.leaf-is c.in-Empty.is c.requires.valid c.requires.target
+
+pub any_scorer::seek_other-seek-requires-in-All : goal.any_scorer::seek_other-seek-requires-in-All
+any_scorer::seek_other-seek-requires-in-All g t c =
+    leaf-sent g.S.DocSet Every c.in-All.leaf-is c.in-All.is c.requires.valid c.requires.target
+
+pub any_scorer::danger_other-seek_danger-requires-in-All : goal.any_scorer::danger_other-seek_danger-requires-in-All
+any_scorer::danger_other-seek_danger-requires-in-All g t c =
+    leaf-sent g.S.DocSet Every c.in-All.leaf-is c.in-All.is c.requires.valid c.requires.target
+
+pub any_scorer::score_other-score-requires-in-All : goal.any_scorer::score_other-score-requires-in-All
+any_scorer::score_other-score-requires-in-All g t c =
+    leaf-scored g.S.DocSet Every all_left (λ _. refl) c.in-All.leaf-is c.in-All.is c.requires.valid c.requires.placed c.requires.here
+
+pub any_scorer::seek_other-seek-requires-in-Own : goal.any_scorer::seek_other-seek-requires-in-Own
+any_scorer::seek_other-seek-requires-in-Own g t c =
+    leaf-sent g.S.DocSet Own c.in-Own.leaf-is c.in-Own.is c.requires.valid c.requires.target
+
+pub any_scorer::danger_other-seek_danger-requires-in-Own : goal.any_scorer::danger_other-seek_danger-requires-in-Own
+any_scorer::danger_other-seek_danger-requires-in-Own g t c =
+    leaf-sent g.S.DocSet Own c.in-Own.leaf-is c.in-Own.is c.requires.valid c.requires.target
+
+pub any_scorer::score_other-score-requires-in-Own : goal.any_scorer::score_other-score-requires-in-Own
+any_scorer::score_other-score-requires-in-Own g t c =
+    leaf-scored g.S.DocSet Own g.S.DocSet.entries (λ _. refl) c.in-Own.leaf-is c.in-Own.is c.requires.valid c.requires.placed c.requires.here
+
+pub any_scorer::seek_other-seek-requires-in-Term : goal.any_scorer::seek_other-seek-requires-in-Term
+any_scorer::seek_other-seek-requires-in-Term g t c =
+    leaf-sent g.S.DocSet Term c.in-Term.leaf-is c.in-Term.is c.requires.valid c.requires.target
+
+pub any_scorer::danger_other-seek_danger-requires-in-Term : goal.any_scorer::danger_other-seek_danger-requires-in-Term
+any_scorer::danger_other-seek_danger-requires-in-Term g t c =
+    leaf-sent g.S.DocSet Term c.in-Term.leaf-is c.in-Term.is c.requires.valid c.requires.target
+
+pub any_scorer::score_other-score-requires-in-Term : goal.any_scorer::score_other-score-requires-in-Term
+any_scorer::score_other-score-requires-in-Term g t c =
+    leaf-scored g.S.DocSet Term (λ s. scored_left s.value) (λ _. refl) c.in-Term.leaf-is c.in-Term.is c.requires.valid c.requires.placed c.requires.here
+
+pub any_scorer::seek_other-seek-requires-in-BitSet : goal.any_scorer::seek_other-seek-requires-in-BitSet
+any_scorer::seek_other-seek-requires-in-BitSet g t c =
+    leaf-sent g.S.DocSet BitSet c.in-BitSet.leaf-is c.in-BitSet.is c.requires.valid c.requires.target
+
+pub any_scorer::danger_other-seek_danger-requires-in-BitSet : goal.any_scorer::danger_other-seek_danger-requires-in-BitSet
+any_scorer::danger_other-seek_danger-requires-in-BitSet g t c =
+    leaf-sent g.S.DocSet BitSet c.in-BitSet.leaf-is c.in-BitSet.is c.requires.valid c.requires.target
+
+pub any_scorer::score_other-score-requires-in-BitSet : goal.any_scorer::score_other-score-requires-in-BitSet
+any_scorer::score_other-score-requires-in-BitSet g t c =
+    leaf-scored g.S.DocSet BitSet (λ s. constant_left set_cursors s.value) (λ _. refl)
+    c.in-BitSet.leaf-is c.in-BitSet.is c.requires.valid c.requires.placed c.requires.here
+
+pub any_scorer::seek_other-seek-requires-in-Phrase : goal.any_scorer::seek_other-seek-requires-in-Phrase
+any_scorer::seek_other-seek-requires-in-Phrase g t c =
+    leaf-sent g.S.DocSet Phrase c.in-Phrase.leaf-is c.in-Phrase.is c.requires.valid c.requires.target
+
+pub any_scorer::danger_other-seek_danger-requires-in-Phrase : goal.any_scorer::danger_other-seek_danger-requires-in-Phrase
+any_scorer::danger_other-seek_danger-requires-in-Phrase g t c =
+    leaf-sent g.S.DocSet Phrase c.in-Phrase.leaf-is c.in-Phrase.is c.requires.valid c.requires.target
+
+pub any_scorer::score_other-score-requires-in-Phrase : goal.any_scorer::score_other-score-requires-in-Phrase
+any_scorer::score_other-score-requires-in-Phrase g t c =
+    leaf-scored g.S.DocSet Phrase (λ s. phrase_left postings_cursors s.value) (λ _. refl)
+    c.in-Phrase.leaf-is c.in-Phrase.is c.requires.valid c.requires.placed c.requires.here
+
+pub any_scorer::seek_other-seek-requires-in-PhrasePrefix : goal.any_scorer::seek_other-seek-requires-in-PhrasePrefix
+any_scorer::seek_other-seek-requires-in-PhrasePrefix g t c =
+    leaf-sent g.S.DocSet PhrasePrefix c.in-PhrasePrefix.leaf-is c.in-PhrasePrefix.is c.requires.valid c.requires.target
+
+pub any_scorer::danger_other-seek_danger-requires-in-PhrasePrefix : goal.any_scorer::danger_other-seek_danger-requires-in-PhrasePrefix
+any_scorer::danger_other-seek_danger-requires-in-PhrasePrefix g t c =
+    leaf-sent g.S.DocSet PhrasePrefix c.in-PhrasePrefix.leaf-is c.in-PhrasePrefix.is c.requires.valid c.requires.target
+
+pub any_scorer::score_other-score-requires-in-PhrasePrefix : goal.any_scorer::score_other-score-requires-in-PhrasePrefix
+any_scorer::score_other-score-requires-in-PhrasePrefix g t c =
+    leaf-scored g.S.DocSet PhrasePrefix (λ s. phrase_prefix_left postings_cursors s.value) (λ _. refl)
+    c.in-PhrasePrefix.leaf-is c.in-PhrasePrefix.is c.requires.valid c.requires.placed c.requires.here

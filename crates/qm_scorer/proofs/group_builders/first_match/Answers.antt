@@ -1,5 +1,5 @@
 -- The members stand, and their documents are kept.
-use Rattle.std.proofs.Common.{◌≡◌, ◌≤◌, map, arith, sym, ap, subst, ◌∙◌}
+use Rattle.std.proofs.Common.{◌≤◌, map, sym, subst, ◌∙◌}
 use Rattle.qm_docset.specs.EntryFacts.{from-zero}
 use Rattle.qm_scorer.specs.Bare.{IsBounded}
 use Rattle.qm_scorer.specs.BareFacts.{IsBounded-sought}

@@ -1,5 +1,5 @@
 -- Each member stands on its first document.
-use Rattle.std.proofs.Common.{◌≡◌, ◌<◌, ◌≤◌, ◌+◌, [], ◌∷◌, ◌++◌, List, ℕ, get_or, length, map, take, arith, sym, ap, subst, ◌∙◌}
+use Rattle.std.proofs.Common.{◌≡◌, ◌<◌, ◌≤◌, [], ◌∷◌, ◌++◌, List, ℕ, get_or, length, map, take, arith, sym, ap, subst, ◌∙◌}
 use Rattle.std.specs.Prelude.{IfOk, Result}
 use Rattle.std.proofs.Common.{Ok, Err}
 use Rattle.std.proofs.lemmas.List.{length-map, take_all, take_more}

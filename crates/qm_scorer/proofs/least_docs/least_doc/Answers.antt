@@ -1,4 +1,4 @@
-use Rattle.std.proofs.Common.{◌≡◌, get_or, take, arith, sym, ap, ◌∙◌}
+use Rattle.std.proofs.Common.{get_or, take, arith, ap}
 use Rattle.std.proofs.lemmas.List.{take_more}
 use Rattle.qm_scorer.specs.LeastDocs.{least_of}
 use Rattle.qm_scorer.proofs.LeastRows.{least_of-more, least_of-most}

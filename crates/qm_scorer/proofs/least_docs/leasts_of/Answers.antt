@@ -1,4 +1,4 @@
-use Rattle.std.proofs.Common.{◌≡◌, ◌*◌, ◌+◌, [], ◌∷◌, ◌++◌, List, ℕ, drop, length, arith, sym, ap, ◌∙◌, subst, append_assoc, length-drop}
+use Rattle.std.proofs.Common.{◌≡◌, ◌*◌, ◌+◌, [], ◌∷◌, ◌++◌, drop, arith, sym, ap, ◌∙◌, subst, append_assoc, length-drop}
 use Rattle.std.proofs.lemmas.List.{append-nil, drop-drop, drop_all}
 use Rattle.qm_scorer.specs.LeastDocs.{AreLeasts}
 use Rattle.qm_scorer.proofs.least_docs.leasts_of.Goals as goal

@@ -1,4 +1,4 @@
-use Rattle.std.proofs.Common.{◌-◌, ◌*◌, ◌≤◌, ◌+◌, ◌<◌, List, ℕ, ◌++◌, drop, length}
+use Rattle.std.proofs.Common.{◌-◌, ◌*◌, ◌+◌, ◌<◌, List, ℕ, ◌++◌, drop, length}
 use Rattle.qm_scorer.specs.LeastDocs.{AreLeasts}
 use Rattle.qm_scorer.proofs.least_docs.leasts_of.Given as goal
 

@@ -1,4 +1,4 @@
-use Rattle.std.proofs.Common.{◌≡◌, ◌*◌, ◌+◌, ◌/◌, ◌<◌, ◌≤◌, get_or, arith, subst, inl, inr}
+use Rattle.std.proofs.Common.{◌+◌, ◌/◌, ◌≤◌, get_or, arith, subst, inl, inr}
 use Rattle.std.proofs.lemmas.Bool.{cases_lt}
 use Rattle.qm_scorer.proofs.LeastRows.{AreLeasts-few, AreLeasts-many, AreLeasts-passed}
 use Rattle.qm_scorer.proofs.least_docs.LeastDocs.next_below.Goals as goal

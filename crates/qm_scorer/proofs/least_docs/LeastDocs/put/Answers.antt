@@ -1,6 +1,6 @@
 use Rattle.std.proofs.Common.{◌≡◌, ◌*◌, ◌/◌, drop, set, take, arith, sym, ap, subst, ◌∙◌}
 use Rattle.qm_scorer.specs.LeastDocs.{AreLeasts, least_of}
-use Rattle.qm_scorer.proofs.LeastRows.{AreLeasts-few, AreLeasts-many, AreLeasts-put}
+use Rattle.qm_scorer.proofs.LeastRows.{AreLeasts-many, AreLeasts-put}
 use Rattle.qm_scorer.proofs.least_docs.LeastDocs.put.Goals as goal
 
 pub index_mut-requires-2 : goal.index_mut-requires-2
