@@ -337,6 +337,18 @@ def bound(tree, boost):
     return max(1, boost)
 
 
+def weighs_too_much(tree):
+    """Whether the words of some phrase, or of the full ones before a prefix, weigh more together than may be."""
+    match tree:
+        case Phrase(_, _, int(weight)) | Prefix(_, _, _, int(weight)):
+            return weight > GREATEST
+        case Boolean(clauses):
+            return any(weighs_too_much(inside) for _, inside in clauses)
+        case Boost(_, inside) | Constant(_, inside):
+            return weighs_too_much(inside)
+    return False
+
+
 def fits(tree, boost):
     """Whether at every node the bound, and the boosts multiplied down to it, are scores."""
     if bound(tree, boost) > GREATEST or boost > GREATEST:

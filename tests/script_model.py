@@ -28,6 +28,7 @@ from model import (
     pruned,
     scored,
     tree_of,
+    weighs_too_much,
 )
 
 BODY = Field("body")
@@ -192,18 +193,6 @@ def built(spelled):
     return DisjunctionMax(number, inside)
 
 
-def weighs_too_much(tree):
-    """Whether the words of some phrase weigh more together than may be."""
-    match tree:
-        case Phrase(_, _, int(weight)):
-            return weight > GREATEST
-        case Boolean(clauses):
-            return any(weighs_too_much(inside) for _, inside in clauses)
-        case Boost(_, inside) | Constant(_, inside):
-            return weighs_too_much(inside)
-    return False
-
-
 # ---- scripts
 
 
@@ -270,13 +259,15 @@ class Script:
         return self.found(form, number, built(spelled))
 
     def found(self, form, number, query):
-        """The text of what is found. Where what the query may score passes the greatest score it may be refused."""
+        """The text of what is found. Refused where what the query may score passes the greatest score, but where
+        none is wanted."""
         searcher = self.searcher()
         tree = tree_of(query, searcher, form not in ("docs", "count"))
         if weighs_too_much(tree):
             raise Refused(9)
-        text = self.listed(form, number, tree, searcher.segments)
-        return [text] if form in ("docs", "count") or fits(tree, 1) else [text, "refused 9"]
+        if form in ("scores", "prune", "top") and (form, number) != ("top", 0) and not fits(tree, 1):
+            raise Refused(9)
+        return [self.listed(form, number, tree, searcher.segments)]
 
     def listed(self, form, number, tree, segments):
         firsts = self.first_numbers()

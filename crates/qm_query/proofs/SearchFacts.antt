@@ -1,6 +1,6 @@
 -- What a query comes down to over a searcher depends on the searcher alone, and not on where the references
 -- to it lie; and no weight is refused with what an explanation alone is.
-use Rattle.std.proofs.Common.{◌≡◌, ℕ, ℤ, Bool, true, false, ◌==◌, if◌then◌else◌, List, [], ◌∷◌, Option, is_some, slice_get, Some, None, Result, Ok, Err, IfOk}
+use Rattle.std.proofs.Common.{◌≡◌, ◌<◌, arith, ℕ, zero, suc, ℤ, Bool, true, false, ◌==◌, if◌then◌else◌, List, [], ◌∷◌, Option, is_some, slice_get, Some, None, Result, Ok, Err, IfOk}
 use Rattle.std.proofs.Common.{IfErr, IsTrue, length, map, refl, sym, subst, ap, ◌∙◌, inl, inr}
 use Rattle.qm_postings.specs.Reading.{Reader}
 use Rattle.qm_postings.specs.Statistics.{Searched}
@@ -16,7 +16,7 @@ use Rattle.qm_schema.specs.declared.occur.Occur.TheVariants.{Should}
 use Rattle.qm_weight.specs.Explanations.{IsExplained, IsExplainRefusal}
 use Rattle.qm_weight.specs.Scorers.{IsRefusalOf}
 use Rattle.qm_weight.specs.Tree as tree
-use Rattle.qm_weight.specs.Tree.{Placed, Tree, clauses_scoring, is_scoring}
+use Rattle.qm_weight.specs.Tree.{LeavesFit, Placed, Tree, clauses_scoring, is_scoring}
 use Rattle.qm_weight.specs.Weights.{placed_at, prefix_alone}
 use Rattle.qm_query.specs.EnableScoring.{is_enabled, provider_of, schema_of}
 use Rattle.qm_query.specs.Fields.{is_served, keeps_positions, phrase_field_refusal, prefix_field_refusal, refusal_without_index, refusal_without_positions}
@@ -29,7 +29,7 @@ use Rattle.qm_query.specs.QueryTree.{clause_trees, disjunct_trees, if_scoring, l
 use Rattle.qm_query.specs.ScoringTrees.{scoring_if_enabled}
 use Rattle.qm_query.specs.Searches.{IsCountOf, IsCountRefusal, IsExplainedIn, IsExplanationOf, IsUnexplained, IsUnexplainedIn, count_in, with_scores}
 use Rattle.qm_query.specs.Searches.{without_scores}
-use Rattle.qm_query.specs.TopDocs.{AreBestOf, AreTopDocs, IsTopDocsRefusal}
+use Rattle.qm_query.specs.TopDocs.{AreBestOf, AreTopDocs, FitsFor, IsRefusalFor, IsTopDocsRefusal}
 use Rattle.qm_query.specs.WeightRefusals.{IsByProvider, IsClauseRefused, IsDisjunctRefused, IsLeafRefusal, IsPrefixByProvider, IsRefused, IsWeightRefusal}
 use Rattle.qm_query.specs.declared.enable_scoring.EnableScoring.{EnableScoring}
 use Rattle.qm_query.specs.declared.enable_scoring.EnableScoring.TheVariants.{Enabled, Disabled}
@@ -284,15 +284,30 @@ module _ (S : Ghosts Searched) (searcher : Searched) (under : EnableScoring Sear
     found_best items k (Ok v) found = record { are = subst (λ u. AreBestOf k u searcher.segments (items v)) searched_tree (found searched_scores) }
     found_best items k (Err e) found = found
 
-    pub best_fits : FitsAtOne t → QueryFits S (with_scores searcher) q
-    best_fits fits = subst FitsAtOne searched_tree fits
+    pub best_fits : (k : ℕ) → FitsAtOne t → FitsFor S (with_scores searcher) q k
+    best_fits zero fits = subst LeavesFit searched_tree fits.leaves
+    best_fits (suc k) fits = subst FitsAtOne searched_tree fits
 
-    pub best_refused : {V : Type 0} (r : Result V QueryError) → IfErr r (IsRefusalOf t 1) → IfErr r (IsTopDocsRefusal S searcher q)
-    best_refused (Ok v) refused = refused
-    best_refused (Err e) refused = record { refused = inr (subst (λ u. IsRefusalOf u 1 e) searched_tree refused) }
+    -- .. where none is wanted
+    pub leaves_fit : (k : ℕ) → k ≡ 0 → LeavesFit t → FitsFor S (with_scores searcher) q k
+    leaves_fit zero zero_is leaves = subst LeavesFit searched_tree leaves
+    leaves_fit (suc k) zero_is leaves = absurd (omega (arith, zero_is))
 
-  pub best_unweighed : (error : QueryError) → schema_of under ≡ searcher.schema → IsWeightRefusal S under q error → IsTopDocsRefusal S searcher q error
-  best_unweighed error fields refused = record { refused = inl (on_refusal S searcher q under error on fields refused) }
+    refused_for : (k : ℕ) (e : QueryError) → 0 < k → IsRefusalOf t 1 e → IsRefusalFor S (with_scores searcher) q k e
+    refused_for zero e some refused = absurd (omega (arith, some))
+    refused_for (suc k) e some refused = inr (subst (λ u. IsRefusalOf u 1 e) searched_tree refused)
+
+    pub best_refused : {V : Type 0} (k : ℕ) (r : Result V QueryError) → 0 < k → IfErr r (IsRefusalOf t 1) → IfErr r (IsTopDocsRefusal S searcher q k)
+    best_refused k (Ok v) some refused = refused
+    best_refused k (Err e) some refused = record { refused = refused_for k e some refused }
+
+  unweighed_for : (k : ℕ) (error : QueryError) → IsWeightRefusal S (with_scores searcher) q error → IsRefusalFor S (with_scores searcher) q k error
+  unweighed_for zero error refused = refused
+  unweighed_for (suc k) error refused = inl refused
+
+  pub best_unweighed : (k : ℕ) (error : QueryError) → schema_of under ≡ searcher.schema → IsWeightRefusal S under q error →
+      IsTopDocsRefusal S searcher q k error
+  best_unweighed k error fields refused = record { refused = unweighed_for k error (on_refusal S searcher q under error on fields refused) }
 
 -- ---- what holds anyway
 

@@ -1,5 +1,5 @@
 -- The best of all documents that a query finds in the segments of a searcher.
-use Rattle.std.specs.Prelude.{◌≡◌, ◌⊎◌, ℕ, suc, ℤ, pos, ◌<ℤ◌, List, [], ◌∷◌, ◌++◌, All, length, map}
+use Rattle.std.specs.Prelude.{◌≡◌, ◌⊎◌, ℕ, zero, suc, ℤ, pos, ◌<ℤ◌, List, [], ◌∷◌, ◌++◌, All, length, map}
 use Rattle.std.specs.List.{sum_by}
 use Rattle.std.specs.declared.cmp.Ordering.TheVariants.{Less}
 use Rattle.qm_docset.specs.Entry.{FirstAndOthers}
@@ -12,11 +12,13 @@ use Rattle.qm_postings.specs.declared.statistics.Bm25StatisticsProvider.{Ghosts}
 use Rattle.qm_schema.specs.declared.error.QueryError.{QueryError}
 use Rattle.qm_weight.specs.Best.{best}
 use Rattle.qm_weight.specs.Counts.{alive_matching}
-use Rattle.qm_weight.specs.Tree.{Tree, score}
+use Rattle.qm_weight.specs.Tree.{LeavesFit, Tree, score}
 use Rattle.qm_query.specs.Query.{Query}
-use Rattle.qm_query.specs.QueryScorers.{IsQueryRefusal}
+use Rattle.qm_query.specs.QueryScorers.{IsQueryRefusal, QueryFits}
 use Rattle.qm_query.specs.QueryTree.{query_tree}
 use Rattle.qm_query.specs.Searches.{with_scores}
+use Rattle.qm_query.specs.WeightRefusals.{IsWeightRefusal}
+use Rattle.qm_query.specs.declared.enable_scoring.EnableScoring.{EnableScoring}
 
 -- ---- what is found, by address
 
@@ -61,9 +63,20 @@ AreInOrder (d ∷ ds) = FirstAndOthers (All (StandsBefore d) ds) (AreInOrder ds)
 pub record AreTopDocs (S : Ghosts Searched) (searcher : Searched) (query : Query) (k : ℕ) (found : List (ℤ × DocAddress)) : Type 0 where
   pub are : found ≡ map score_first (best k (all_found S searcher query))
 
--- The query's weight with scoring on is refused so, or the scorer of its tree.
-pub record IsTopDocsRefusal (S : Ghosts Searched) (searcher : Searched) (query : Query) (error : QueryError) : Type 0 where
-  pub refused : IsQueryRefusal S (with_scores searcher) query 1 error
+-- What fits where so many are wanted: of none what the words of each leaf weigh, which is a score, and of some
+-- the query.
+abbrev pub FitsFor : {P : Type 0} → Ghosts P → EnableScoring P → Query → ℕ → Type 0
+FitsFor S under query zero = LeavesFit (query_tree S under query)
+FitsFor S under query (suc k) = QueryFits S under query
+
+-- Where none is wanted, the query's weight is refused so; where some are, that or the scorer of its tree.
+abbrev pub IsRefusalFor : {P : Type 0} → Ghosts P → EnableScoring P → Query → ℕ → QueryError → Type 0
+IsRefusalFor S under query zero error = IsWeightRefusal S under query error
+IsRefusalFor S under query (suc k) error = IsQueryRefusal S under query 1 error
+
+-- a search for so many, which wants scores, is refused so
+pub record IsTopDocsRefusal (S : Ghosts Searched) (searcher : Searched) (query : Query) (k : ℕ) (error : QueryError) : Type 0 where
+  pub refused : IsRefusalFor S (with_scores searcher) query k error
 
 -- the same of a tree
 abbrev pub AreBestOf : ℕ → Tree → List Reader → List (ℤ × DocAddress) → Type 0

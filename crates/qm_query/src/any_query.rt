@@ -84,11 +84,11 @@ impl AnyQuery {
         ensures refused { IfErr result (IsWeightRefusal P.Bm25StatisticsProvider enable_scoring.entry (query_of self.now)) }
     {
         match self {
-            AnyQuery::All(query) => query.weight(alloc, enable_scoring),
-            AnyQuery::Empty(query) => query.weight(alloc, enable_scoring),
-            AnyQuery::Term(query) => query.weight(alloc, enable_scoring),
-            AnyQuery::Phrase(query) => query.weight(alloc, enable_scoring),
-            AnyQuery::PhrasePrefix(query) => query.weight(alloc, enable_scoring),
+            AnyQuery::All(query) => build_leaf(query, alloc, enable_scoring),
+            AnyQuery::Empty(query) => build_leaf(query, alloc, enable_scoring),
+            AnyQuery::Term(query) => build_leaf(query, alloc, enable_scoring),
+            AnyQuery::Phrase(query) => build_leaf(query, alloc, enable_scoring),
+            AnyQuery::PhrasePrefix(query) => build_leaf(query, alloc, enable_scoring),
             AnyQuery::Boolean(query) => query.build_weight(alloc, enable_scoring),
             AnyQuery::Boost(query) => query.build_weight(alloc, enable_scoring),
             AnyQuery::ConstScore(query) => query.build_weight(alloc, enable_scoring),
@@ -114,4 +114,19 @@ impl AnyQuery {
             AnyQuery::DisjunctionMax(query) => query.visit_terms(visitor),
         }
     }
+}
+
+// The weight of a query that has no other inside, made apart: what it takes of the stack, no level of the recursion
+// has to take.
+#[inline(never)]
+fn build_leaf<Q: Query, P: Bm25StatisticsProvider>(
+    query: &Q,
+    alloc: Global,
+    enable_scoring: EnableScoring<'_, P>,
+) -> Result<Box<AnyWeight>, QueryError>
+    ensures tree { IfOk result (λ weight. tree_of weight.value ≡ query_tree P.Bm25StatisticsProvider enable_scoring.entry (Q.query query.now)) }
+    ensures served { IfOk result (λ _. IsTrue (is_served (schema_of enable_scoring.entry) (Q.query query.now))) }
+    ensures refused { IfErr result (IsWeightRefusal P.Bm25StatisticsProvider enable_scoring.entry (Q.query query.now)) }
+{
+    query.weight(alloc, enable_scoring)
 }

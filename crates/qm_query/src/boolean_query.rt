@@ -12,7 +12,7 @@ ghost use Rattle.std.specs.List.{list_all};
 ghost use Rattle.qm_query.specs.Occurs.{is_should};
 
 use crate::any_query::AnyQuery;
-use crate::boxed::boxed;
+use crate::boxed::boxed_boolean;
 use crate::enable_scoring::EnableScoring;
 use crate::query::Query;
 use crate::term_query::TermQuery;
@@ -201,7 +201,7 @@ impl BooleanQuery {
             enable_scoring.is_scoring_enabled(),
             AnyCombiner::from(SumCombiner::default()),
         );
-        boxed(alloc, AnyWeight::Boolean(weight))
+        boxed_boolean(alloc, weight)
     }
 
     // A call with each term that the query names; see [`Query::query_terms`].

@@ -9,7 +9,7 @@ ghost use Rattle.qm_query.specs.QueryTree.{query_tree};
 ghost use Rattle.qm_query.specs.WeightRefusals.{IsWeightRefusal};
 
 use crate::any_query::AnyQuery;
-use crate::boxed::boxed;
+use crate::boxed::boxed_boolean;
 use crate::enable_scoring::EnableScoring;
 use crate::query::Query;
 use qm_combine::DisjunctionMaxCombiner;
@@ -94,7 +94,7 @@ impl DisjunctionMaxQuery {
         }
         let scoring = enable_scoring.is_scoring_enabled();
         let weight = BooleanWeight::new(weights, scoring, AnyCombiner::from(self.combiner));
-        boxed(alloc, AnyWeight::Boolean(weight))
+        boxed_boolean(alloc, weight)
     }
 
     // A call with each term that the query names; see [`Query::query_terms`].

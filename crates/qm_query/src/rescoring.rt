@@ -10,7 +10,7 @@ ghost use Rattle.qm_query.specs.Rescoring.{rescored_query};
 ghost use Rattle.qm_query.specs.WeightRefusals.{IsWeightRefusal};
 
 use crate::any_query::AnyQuery;
-use crate::boxed::boxed;
+use crate::boxed::{boxed_boost, boxed_constant};
 use crate::enable_scoring::EnableScoring;
 use crate::factor::Factor;
 use qm_postings::Bm25StatisticsProvider;
@@ -44,13 +44,9 @@ pub(crate) fn build_rescored<P: Bm25StatisticsProvider>(
         return Ok(inside);
     }
     match rescoring {
-        Rescoring::Boost(boost) => {
-            let weight = BoostWeight::new(inside, boost.score());
-            boxed(alloc, AnyWeight::Boost(weight))
-        }
+        Rescoring::Boost(boost) => boxed_boost(alloc, BoostWeight::new(inside, boost.score())),
         Rescoring::Constant(score) => {
-            let weight = ConstWeight::new(inside, score.score());
-            boxed(alloc, AnyWeight::Const(weight))
+            boxed_constant(alloc, ConstWeight::new(inside, score.score()))
         }
     }
 }

@@ -1,13 +1,12 @@
 //! The best documents of all segments of a searcher.
 
-ghost use Rattle.std.specs.Prelude.{◌≡◌, IfErr, IfOk, IsTrue, OnOk};
+ghost use Rattle.std.specs.Prelude.{◌≡◌, ◌<◌, IfErr, IfOk, IsTrue, OnOk};
 ghost use Rattle.qm_weight.specs.Scorers.{IsRefusalOf};
 ghost use Rattle.qm_weight.specs.Tree.{is_scoring};
 ghost use Rattle.qm_weight.specs.Weights.{tree_of};
 ghost use Rattle.qm_query.specs.KeptDocuments.{AreKeptToo};
-ghost use Rattle.qm_query.specs.QueryScorers.{QueryFits};
 ghost use Rattle.qm_query.specs.Searches.{with_scores};
-ghost use Rattle.qm_query.specs.TopDocs.{AreBestOf, AreTopDocs, IsTopDocsRefusal, alive_in};
+ghost use Rattle.qm_query.specs.TopDocs.{AreBestOf, AreTopDocs, FitsFor, IsTopDocsRefusal, alive_in};
 
 mod kept_document;
 mod kept_documents;
@@ -53,10 +52,11 @@ impl TopDocs {
     /// each with its score, in points, and its address: by score downwards, then by address upwards,
     /// and at most so many. The searcher gives the weights of the terms.
     ///
-    /// Refused as [`Query::weight`] is, with a limit of 0 too, then with [`QueryError::ScoreBound`] exactly
-    /// where the query doesn't fit, whatever the segments are, and else with [`QueryError::Memory`] alone.
-    /// Takes room for the smaller of the limit and the number of documents
-    /// that weren't deleted, so that a great limit is no refusal by itself.
+    /// Refused as [`Query::weight`] is, and with a limit of 0 by nothing else: no segment is looked at then,
+    /// and no score is asked for. With any other limit then with [`QueryError::ScoreBound`] exactly where
+    /// the query doesn't fit, whatever the segments are, and else with [`QueryError::Memory`] alone. Takes
+    /// room for the smaller of the limit and the number of documents that weren't deleted, so that a great
+    /// limit is no refusal by itself.
     ///
     /// Builds the weight once, and costs what `Weight::for_each_pruning` does for each segment, with a
     /// threshold that is carried from one to the next: -1, and once as many documents are kept as the
@@ -69,28 +69,29 @@ impl TopDocs {
         searcher: &Searcher,
     ) -> Result<Vec<(Score, DocAddress)>, QueryError>
         ensures best { IfOk result (λ found. AreTopDocs ⟦<Searcher as Bm25StatisticsProvider>⟧ searcher.now (Q.query query.now) self.now found.items) }
-        ensures fits { IfOk result (λ _. QueryFits ⟦<Searcher as Bm25StatisticsProvider>⟧ (with_scores searcher.now) (Q.query query.now)) }
-        ensures refused { IfErr result (IsTopDocsRefusal ⟦<Searcher as Bm25StatisticsProvider>⟧ searcher.now (Q.query query.now)) }
+        ensures fits { IfOk result (λ _. FitsFor ⟦<Searcher as Bm25StatisticsProvider>⟧ (with_scores searcher.now) (Q.query query.now) self.now) }
+        ensures refused { IfErr result (IsTopDocsRefusal ⟦<Searcher as Bm25StatisticsProvider>⟧ searcher.now (Q.query query.now) self.now) }
     {
         let weight = query.weight(alloc, EnableScoring::enabled_from_searcher(searcher))?;
+        if self.limit == 0 {
+            return Ok(Vec::new(alloc));
+        }
         check_fits(&weight)?;
         best_alive(&weight, alloc, searcher, self.limit)
     }
 }
 
-// The best documents of all segments that match and weren't deleted.
+// The best documents of all segments that match and weren't deleted, where some are wanted.
 fn best_alive(
     weight: &AnyWeight,
     alloc: Global,
     searcher: &Searcher,
     limit: usize,
 ) -> Result<Vec<(Score, DocAddress)>, QueryError>
+    requires some { 0 < limit }
     ensures best { IfOk result (λ found. IsTrue (is_scoring (tree_of weight.now)) → AreBestOf limit (tree_of weight.now) searcher.now.segments found.items) }
     ensures refused { IfErr result (IsRefusalOf (tree_of weight.now) 1) }
 {
-    if limit == 0 {
-        return Ok(Vec::new(alloc));
-    }
     let room = limit.min(count_alive_documents(searcher));
     let mut kept = KeptDocuments::with_limit(alloc, limit, room)?;
     let mut segment_ord = 0;

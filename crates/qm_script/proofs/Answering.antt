@@ -1,5 +1,5 @@
 -- What is answered where a query was listed, or was not.
-use Rattle.std.proofs.Common.{◌≡◌, inl, inr, ℕ, ℤ, Bool, true, false, List, [], ◌∷◌, ◌++◌, length, arith, Option, None, Result, Ok, Err, IfOk, IfErr, OnOk}
+use Rattle.std.proofs.Common.{◌≡◌, ◌⊎◌, inl, inr, ℕ, ℤ, Bool, true, false, List, [], ◌∷◌, ◌++◌, length, arith, Option, None, Result, Ok, Err, IfOk, IfErr, OnOk}
 use Rattle.std.proofs.Common.{refl, sym, subst, ◌∙◌, ◌+◌, length-append}
 use Rattle.std.specs.Borrow.{Bor}
 use Rattle.std.specs.List.{range_with_len}
@@ -7,17 +7,16 @@ use Rattle.qm_index.specs.Indexed.{AreMerged, AreSearched, all_segments}
 use Rattle.qm_index.specs.Parts.{segments_of}
 use Rattle.qm_postings.specs.Reading.{Reader}
 use Rattle.qm_postings.specs.Statistics.{Searched}
-use Rattle.qm_query.specs.EnableScoring.{schema_of}
 use Rattle.qm_query.specs.Query.{Query}
 use Rattle.qm_query.specs.declared.any_query.AnyQuery.{AnyQuery}
 use Rattle.qm_query.specs.declared.enable_scoring.EnableScoring.{EnableScoring}
 use Rattle.qm_query.specs.declared.enable_scoring.EnableScoring.TheVariants.{Enabled, Disabled}
 use Rattle.qm_schema.specs.Refusals.{refusal_number}
 use Rattle.qm_schema.specs.declared.error.QueryError.{QueryError}
+use Rattle.qm_schema.specs.declared.error.QueryError.TheVariants.{Memory}
 use Rattle.qm_script.specs.AllSegments.{all_listed}
 use Rattle.qm_script.specs.Answers.{AnswersQuery, IsLineRefusal, IsListingAnswer}
 use Rattle.qm_script.specs.Asked.{Builds, asked}
-use Rattle.qm_script.specs.Fields.{script_fields}
 use Rattle.qm_script.specs.Found.{found_above, found_above_in_parts, found_alive, found_best}
 use Rattle.qm_script.specs.PrefixFree.{has_no_prefix}
 use Rattle.qm_script.specs.Prefixes.{has_prefix}
@@ -26,10 +25,9 @@ use Rattle.qm_script.specs.Script as language
 use Rattle.qm_script.specs.ScriptSegments.{Script}
 use Rattle.qm_script.specs.State.{State}
 use Rattle.qm_script.specs.Text.{IsListing, listing_text}
-use Rattle.qm_script.specs.Under.{IsForDocuments, IsForScores, IsListingRefusal, IsWithinScores, tree_of}
+use Rattle.qm_script.specs.Under.{IsForDocuments, IsForScores, IsScoreRefusal, tree_of}
 use Rattle.qm_script.specs.declared.answer.Answer.{Answer}
 use Rattle.qm_script.specs.declared.answer.Answer.TheVariants.{Refused}
-use Rattle.qm_script.proofs.AskedFields.{score-refusal}
 use Rattle.qm_script.proofs.AskedTrees.{asked-free}
 use Rattle.qm_script.proofs.BestListings.{best-one_part, best-segments}
 use Rattle.qm_script.proofs.CountLemmas.{counted-one_part, counted-segments}
@@ -56,36 +54,34 @@ for_scores s = Enabled (lent (nothing_searched s)) (lent (nothing_searched s))
 pub IsForScores-refused : (s : State) → IsForScores s (nothing_searched s) (for_scores s)
 IsForScores-refused s = record { fields = refl; scores = refl; weights = record { given = λ q. refl; others = refl; norms = refl } }
 
-module _ (text_of : Query → List ℕ) (enable : EnableScoring Searched) (q : language.Query) (text : List ℕ) where
+-- a line that lists something of a query, by what is to fit of it
+module _ (text_of : Query → List ℕ) (Fits : Query → Type 0) (q : language.Query) (text : List ℕ) where
   -- the query could not be built
   pub unbuilt-answer : (e : QueryError) (number : ℕ) → number ≡ refusal_number e →
-      Builds (asked q) (let r : Result AnyQuery QueryError = Err e in r) → AnswersQuery text_of enable q (Refused number) text
+      Builds (asked q) (let r : Result AnyQuery QueryError = Err e in r) → AnswersQuery text_of Fits q (Refused number) text
   unbuilt-answer e number is (inl memory) = (e, is, inl memory)
   unbuilt-answer e number is (inr due) = (e, is, inr (inl due))
 
-  -- it was built, and refused where it was listed
-  line-refusal : (query : Query) (e : QueryError) → schema_of enable ≡ script_fields →
-      asked q ≡ Ok query → IsListingRefusal enable query e → IsLineRefusal enable q e
-  line-refusal query e fields built refused =
-      elim (score-refusal enable q query fields built e refused) [ inl memory ↦ inl memory | inr past ↦ inr (inr (query, built, past)) ]
+  module _ (query : Query) (Refusal : QueryError → Type 0) (built : asked q ≡ Ok query)
+      (of_scores : (e : QueryError) → Refusal e → (e ≡ Memory) ⊎ IsScoreRefusal Fits query e) where
+    -- it was built, and refused where it was listed
+    line-refusal : (e : QueryError) → Refusal e → IsLineRefusal Fits q e
+    line-refusal e refused = elim (of_scores e refused) [ inl memory ↦ inl memory | inr past ↦ inr (inr (query, built, past)) ]
 
-  -- its text was written, or refused
-  pub text-answer : (query : Query) (r : Result (Unit {0}) QueryError) (answer : Answer) → schema_of enable ≡ script_fields → asked q ≡ Ok query →
-      OnOk r (text ≡ text_of query) → OnOk r (IsWithinScores enable query) → IfErr r (IsListingRefusal enable query) → IsListingAnswer r answer →
-      AnswersQuery text_of enable q answer text
-  text-answer query (Ok done) answer fields built written within refused is =
-      subst (λ a. AnswersQuery text_of enable q a text) (sym is) (record { query = query; built = built; within = within; written = written })
-  text-answer query (Err e) answer fields built written within refused is =
-      subst (λ a. AnswersQuery text_of enable q a text) (sym is) (e, refl, line-refusal query e fields built refused)
+    -- its text was written, or refused
+    pub text-answer : (r : Result (Unit {0}) QueryError) (answer : Answer) → OnOk r (text ≡ text_of query) → OnOk r (Fits query) →
+        IfErr r Refusal → IsListingAnswer r answer → AnswersQuery text_of Fits q answer text
+    text-answer (Ok done) answer written within refused is =
+        subst (λ a. AnswersQuery text_of Fits q a text) (sym is) (record { query = query; built = built; within = within; written = written })
+    text-answer (Err e) answer written within refused is =
+        subst (λ a. AnswersQuery text_of Fits q a text) (sym is) (e, refl, line-refusal e refused)
 
-  -- the same of a listing
-  pub listing-answer : (query : Query) (items : List (ℕ × Option ℤ)) (r : Result (Unit {0}) QueryError) (answer : Answer) →
-      schema_of enable ≡ script_fields → asked q ≡ Ok query → listing_text items ≡ text_of query → OnOk r (IsListing items text) →
-      OnOk r (IsWithinScores enable query) → IfErr r (IsListingRefusal enable query) → IsListingAnswer r answer → AnswersQuery text_of enable q answer text
-  listing-answer query items (Ok done) answer fields built same lists within refused is =
-      text-answer query (Ok done) answer fields built (lists.listed ∙ same) within refused is
-  listing-answer query items (Err e) answer fields built same lists within refused is =
-      text-answer query (Err e) answer fields built tt tt refused is
+    -- the same of a listing
+    pub listing-answer : (items : List (ℕ × Option ℤ)) (r : Result (Unit {0}) QueryError) (answer : Answer) →
+        listing_text items ≡ text_of query → OnOk r (IsListing items text) → OnOk r (Fits query) → IfErr r Refusal →
+        IsListingAnswer r answer → AnswersQuery text_of Fits q answer text
+    listing-answer items (Ok done) answer same lists within refused is = text-answer (Ok done) answer (lists.listed ∙ same) within refused is
+    listing-answer items (Err e) answer same lists within refused is = text-answer (Err e) answer tt tt refused is
 
 -- what is written behind nothing
 pub behind_nothing : (text more : List ℕ) → length text ≡ 0 → text ++ more ≡ more

@@ -1,6 +1,6 @@
 -- The field of a script's documents serves every query that a line asks: so of what may be refused where it is
 -- listed, memory aside, its scores alone are left.
-use Rattle.std.proofs.Common.{◌≡◌, ◌<◌, ◌⊎◌, arith, inl, inr, ℕ, ◌+◌, ◌==◌, ◌&&◌, Bool, true, false, if◌then◌else◌, nat_lt, is_none, List, [], ◌∷◌, Option, None, Some, Ok}
+use Rattle.std.proofs.Common.{◌≡◌, ◌<◌, ◌⊎◌, arith, inl, inr, ℕ, zero, suc, ◌+◌, ◌==◌, ◌&&◌, Bool, true, false, if◌then◌else◌, nat_lt, is_none, List, [], ◌∷◌, Option, None, Some, Ok}
 use Rattle.std.proofs.Common.{IfOk, length, map, refl, ap, sym, subst}
 use Rattle.std.proofs.lemmas.Bool.{false≢true}
 use Rattle.std.specs.List.{enumerate_from}
@@ -23,7 +23,7 @@ use Rattle.qm_script.specs.Asked.{asked, clauses_asked, disjuncts_asked, prefix_
 use Rattle.qm_script.specs.Fields.{script_fields}
 use Rattle.qm_script.specs.Script as language
 use Rattle.qm_script.specs.Script.{no_clause, clause, no_query}
-use Rattle.qm_script.specs.Under.{IsListingRefusal, IsScoreRefusal, tree_of}
+use Rattle.qm_script.specs.Under.{IsBestRefusal, IsListingRefusal, IsScoreRefusal, IsWithinBest, IsWithinScores, tree_of}
 use Rattle.qm_script.specs.ProgramNumbers.{body_field}
 use Rattle.qm_script.proofs.AskedTrees.{bind-ok, test-ok, unless-ok}
 use Rattle.qm_script.proofs.WordLemmas.{not_zero}
@@ -202,7 +202,7 @@ module _ (enable : EnableScoring Searched) (q : language.Query) (built : Query)
   served-here : is_served (schema_of enable) built ≡ true
   served-here = subst (λ f. is_served f built ≡ true) (sym fields) (subst (λ r. IfOk r IsServed) is_asked (asked-served q))
 
-  pub score-refusal : (e : QueryError) → IsListingRefusal enable built e → (e ≡ Memory) ⊎ IsScoreRefusal enable built e
+  pub score-refusal : (e : QueryError) → IsListingRefusal enable built e → (e ≡ Memory) ⊎ IsScoreRefusal (IsWithinScores enable) built e
   score-refusal e (inl (inl memory)) = inl memory
   score-refusal e (inl (inr refused)) =
       let is = refused-bound e enable built served-here refused in
@@ -210,4 +210,15 @@ module _ (enable : EnableScoring Searched) (q : language.Query) (built : Query)
   score-refusal e (inr of_tree) = elim (tree-refused e (tree_of enable built) of_tree) [
     | inl memory ↦ inl memory
     | inr past ↦ inr (record { error_is = past.0; past = λ within. past.1 within.nodes })
+  ]
+
+  -- the same of the best so many
+  pub best-refusal : (count : ℕ) (e : QueryError) → IsBestRefusal count enable built e → (e ≡ Memory) ⊎ IsScoreRefusal (IsWithinBest count enable) built e
+  best-refusal zero e (inl memory) = inl memory
+  best-refusal zero e (inr refused) =
+      let is = refused-bound e enable built served-here refused in
+      inr (record { error_is = is; past = λ leaves. refused-past e enable built served-here refused leaves })
+  best-refusal (suc count) e refused = elim (score-refusal e refused) [
+    | inl memory ↦ inl memory
+    | inr past ↦ inr (record { error_is = past.error_is; past = past.past })
   ]

@@ -16,7 +16,7 @@ use Rattle.qm_script.specs.Spelled.{query_of}
 use Rattle.qm_script.specs.State.{State, with_documents, with_weight}
 use Rattle.qm_script.specs.Text.{listing_text}
 use Rattle.qm_script.specs.TextSegments.{IsTextRefusal}
-use Rattle.qm_script.specs.Under.{IsForDocuments, IsForScores, IsScoreRefusal, IsWithinScores}
+use Rattle.qm_script.specs.Under.{IsForDocuments, IsForScores, IsScoreRefusal, IsWithinBest, IsWithinScores}
 use Rattle.qm_script.specs.declared.answer.Answer.{Answer}
 use Rattle.qm_script.specs.declared.answer.Answer.TheVariants.{Silence, Listing, Refused, NotUnderstood}
 use Rattle.qm_script.specs.ProgramNumbers.{most_segments}
@@ -55,25 +55,24 @@ EndsSegment s Silence t = (t ≡ with_documents s (with_segment_ended s.document
 EndsSegment s (Refused number) t = (t ≡ s) × IsRefusedBy (IsLastSegment s.documents) number
 EndsSegment s answer t = ⊥
 
--- Why a line that lists what a query matches is refused: the query can't be built, its scores may pass the
--- greatest, which are due wherever they hold; or want of memory. The one field of a script's documents serves
--- every query.
-abbrev pub IsLineRefusal : EnableScoring Searched → language.Query → QueryError → Type 0
-IsLineRefusal enable q error =
-    (error ≡ Memory) ⊎ ((asked q ≡ Err error) ⊎ ((query : Query) × (asked q ≡ Ok query) × IsScoreRefusal enable query error))
+-- Why a line that lists what a query matches is refused: the query can't be built, its scores don't fit, which
+-- are due wherever they hold; or want of memory. The one field of a script's documents serves every query.
+abbrev pub IsLineRefusal : (Query → Type 0) → language.Query → QueryError → Type 0
+IsLineRefusal Fits q error =
+    (error ≡ Memory) ⊎ ((asked q ≡ Err error) ⊎ ((query : Query) × (asked q ≡ Ok query) × IsScoreRefusal Fits query error))
 
--- the query can be built, its scores are within the greatest, and it makes this text
-pub record ListsQuery (text_of : Query → List ℕ) (enable : EnableScoring Searched) (q : language.Query) (text : List ℕ) : Type 0 where
+-- the query can be built, its scores fit, and it makes this text
+pub record ListsQuery (text_of : Query → List ℕ) (Fits : Query → Type 0) (q : language.Query) (text : List ℕ) : Type 0 where
   pub query : Query
   pub built : asked q ≡ Ok query
-  pub within : IsWithinScores enable query
+  pub within : Fits query
   pub written : text ≡ text_of query
 
 -- a line that lists something of a query: its answer, and the text, which the query makes
-abbrev pub AnswersQuery : (Query → List ℕ) → EnableScoring Searched → language.Query → Answer → List ℕ → Type 0
-AnswersQuery text_of enable q Listing text = ListsQuery text_of enable q text
-AnswersQuery text_of enable q (Refused number) text = IsRefusedBy (IsLineRefusal enable q) number
-AnswersQuery text_of enable q answer text = ⊥
+abbrev pub AnswersQuery : (Query → List ℕ) → (Query → Type 0) → language.Query → Answer → List ℕ → Type 0
+AnswersQuery text_of Fits q Listing text = ListsQuery text_of Fits q text
+AnswersQuery text_of Fits q (Refused number) text = IsRefusedBy (IsLineRefusal Fits q) number
+AnswersQuery text_of Fits q answer text = ⊥
 
 -- the documents that a query matches, with their scores where these are wanted
 abbrev pub listed_text : EnableScoring Searched → Script → Query → List ℕ
@@ -93,29 +92,31 @@ best_text count enable s query = listing_text (found_best count enable query (al
 
 -- a line that lists documents alone
 abbrev pub ListsDocuments : language.Query → Script → Answer → List ℕ → Type 0
-ListsDocuments q s answer text = (enable : EnableScoring Searched) × IsForDocuments s enable × AnswersQuery (listed_text enable s) enable q answer text
+ListsDocuments q s answer text =
+    (enable : EnableScoring Searched) × IsForDocuments s enable × AnswersQuery (listed_text enable s) (IsWithinScores enable) q answer text
 
 -- a line that counts them
 abbrev pub CountsMatches : language.Query → Script → Answer → List ℕ → Type 0
-CountsMatches q s answer text = (enable : EnableScoring Searched) × IsForDocuments s enable × AnswersQuery (count_text enable s) enable q answer text
+CountsMatches q s answer text =
+    (enable : EnableScoring Searched) × IsForDocuments s enable × AnswersQuery (count_text enable s) (IsWithinScores enable) q answer text
 
 -- a line that lists documents with scores, by what the script says that words weigh
 abbrev pub ListsScores : language.Query → State → Answer → List ℕ → Type 0
 ListsScores q s answer text =
     (searched : Searched) × (enable : EnableScoring Searched) × IsForScores s searched enable ×
-    AnswersQuery (listed_text enable s.documents) enable q answer text
+    AnswersQuery (listed_text enable s.documents) (IsWithinScores enable) q answer text
 
 -- a line that lists those of them for which a pruned run calls
 abbrev pub ListsAbove : ℤ → language.Query → State → Answer → List ℕ → Type 0
 ListsAbove threshold q s answer text =
     (searched : Searched) × (enable : EnableScoring Searched) × IsForScores s searched enable ×
-    AnswersQuery (pruned_text threshold enable s.documents) enable q answer text
+    AnswersQuery (pruned_text threshold enable s.documents) (IsWithinScores enable) q answer text
 
--- a line that lists the best of them
+-- a line that lists the best of them; where none is wanted only what its leaves weigh has to be a score
 abbrev pub ListsBest : ℕ → language.Query → State → Answer → List ℕ → Type 0
 ListsBest count q s answer text =
     (searched : Searched) × (enable : EnableScoring Searched) × IsForScores s searched enable ×
-    AnswersQuery (best_text count enable s.documents) enable q answer text
+    AnswersQuery (best_text count enable s.documents) (IsWithinBest count enable) q answer text
 
 -- what is answered where a change of the documents or the weights came to this
 abbrev pub IsChangeAnswer : Result (Unit {0}) QueryError → Answer → Type 0

@@ -1,11 +1,12 @@
 -- What the queries of a script's lines are asked under.
-use Rattle.std.specs.Prelude.{◌≡◌, None, Some}
+use Rattle.std.specs.Prelude.{◌≡◌, ℕ, None, Some}
 use Rattle.qm_postings.specs.Statistics.{Searched}
 use Rattle.qm_postings.specs.contracts.searcher.SearcherBm25StatisticsProvider.TheImpl.{ghosts}
 use Rattle.qm_query.specs.EnableScoring.{provider_of, schema_of}
 use Rattle.qm_query.specs.Query.{Query}
 use Rattle.qm_query.specs.QueryScorers.{IsQueryRefusal, QueryFits}
 use Rattle.qm_query.specs.QueryTree as under
+use Rattle.qm_query.specs.TopDocs.{FitsFor, IsRefusalFor}
 use Rattle.qm_query.specs.declared.enable_scoring.EnableScoring.{EnableScoring}
 use Rattle.qm_schema.specs.declared.error.QueryError.{QueryError}
 use Rattle.qm_schema.specs.declared.error.QueryError.TheVariants.{ScoreBound}
@@ -37,7 +38,14 @@ IsListingRefusal enable query error = IsQueryRefusal ghosts enable query 1 error
 abbrev pub IsWithinScores : EnableScoring Searched → Query → Type 0
 IsWithinScores enable query = QueryFits ghosts enable query
 
--- why it is refused where its fields serve and there is memory
-pub record IsScoreRefusal (enable : EnableScoring Searched) (query : Query) (error : QueryError) : Type 0 where
+-- the same two where so many of the best are wanted: of none, only what the words of each leaf weigh counts
+abbrev pub IsBestRefusal : ℕ → EnableScoring Searched → Query → QueryError → Type 0
+IsBestRefusal count enable query error = IsRefusalFor ghosts enable query count error
+
+abbrev pub IsWithinBest : ℕ → EnableScoring Searched → Query → Type 0
+IsWithinBest count enable query = FitsFor ghosts enable query count
+
+-- why it is refused where its fields serve and there is memory: its scores don't fit what is wanted of it
+pub record IsScoreRefusal (Fits : Query → Type 0) (query : Query) (error : QueryError) : Type 0 where
   pub error_is : error ≡ ScoreBound
-  pub past : ¬ IsWithinScores enable query
+  pub past : ¬ Fits query

@@ -10,7 +10,7 @@ ghost use Rattle.qm_script.specs.Found.{found_best};
 ghost use Rattle.qm_script.specs.Parts.{document_count};
 ghost use Rattle.qm_script.specs.ProgramNumbers.{most_segments};
 ghost use Rattle.qm_script.specs.Text.{AddsToListing, IsListing};
-ghost use Rattle.qm_script.specs.Under.{IsListingRefusal, IsWithinScores};
+ghost use Rattle.qm_script.specs.Under.{IsBestRefusal, IsWithinBest};
 
 use crate::listing::{reserve_line_end, write_score};
 use qm_docset::Score;
@@ -33,8 +33,8 @@ pub(crate) fn write_best(
     requires few { document_count (segments_of searcher.now.segments) ≤ most_segments * TERMINATED }
     requires empty { length (string_bytes text.old) ≡ 0 }
     ensures listed { OnOk result (IsListing (found_best count (with_scores searcher.now) (query_of query.now) (segments_of searcher.now.segments)) (string_bytes text.new)) }
-    ensures within { OnOk result (IsWithinScores (with_scores searcher.now) (query_of query.now)) }
-    ensures refused { IfErr result (IsListingRefusal (with_scores searcher.now) (query_of query.now)) }
+    ensures within { OnOk result (IsWithinBest count (with_scores searcher.now) (query_of query.now)) }
+    ensures refused { IfErr result (IsBestRefusal count (with_scores searcher.now) (query_of query.now)) }
 {
     let found = TopDocs::with_limit(count as usize).search(alloc, query, searcher)?;
     let firsts = first_numbers(alloc, searcher.segment_readers())?;

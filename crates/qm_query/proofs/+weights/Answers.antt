@@ -93,14 +93,14 @@ boolean_query::BooleanQuery::build_weight-returns-clause-tree g t c =
     (subst (λ xs. length xs ≤ c.loop-occur.occur-index) c.deref-occur-items.ensures.value c.loop-occur-test.false) c.loop-occur.invariant.trees in
     let tree = made ∙ c.with_minimum_number_should_match-weight.ensures
     ∙ (λ i. boolean_node (c.is_scoring_enabled.ensures i) c.args.self.now.minimum_number_should_match (combiner_of (c.from.ensures i)) (clauses i)) in
-    IfOk-weaker c.boxed.result (λ b. b.value ≡ Boolean weight) _ (λ b is. ap tree_of is ∙ tree) c.boxed.ensures.value
+    IfOk-weaker c.boxed_boolean.result (λ b. b.value ≡ Boolean weight) _ (λ b is. ap tree_of is ∙ tree) c.boxed_boolean.ensures.value
 
 pub boolean_query::BooleanQuery::build_weight-returns-clause-served :
     goal.boolean_query::BooleanQuery::build_weight-returns-clause-served
 boolean_query::BooleanQuery::build_weight-returns-clause-served g t c =
     let served = are_clauses_served-whole (schema_of c.args.enable_scoring) c.args.self.now.subqueries.items c.loop-occur.occur-index
     (subst (λ xs. length xs ≤ c.loop-occur.occur-index) c.deref-occur-items.ensures.value c.loop-occur-test.false) c.loop-occur.invariant.served in
-    IfOk-weaker c.boxed.result (λ b. b.value ≡ Boolean c.with_minimum_number_should_match-weight.result) _ (λ _ _. served) c.boxed.ensures.value
+    IfOk-weaker c.boxed_boolean.result (λ b. b.value ≡ Boolean c.with_minimum_number_should_match-weight.result) _ (λ _ _. served) c.boxed_boolean.ensures.value
 
 pub disjunction_max_query::DisjunctionMaxQuery::build_weight-returns-in_err-weight-clause-refused :
     goal.disjunction_max_query::DisjunctionMaxQuery::build_weight-returns-in_err-weight-clause-refused
@@ -122,11 +122,11 @@ disjunction_max_query::DisjunctionMaxQuery::build_weight-returns-clause-tree g t
     c.loop-query.weights.items c.args.self.now.disjuncts.items c.loop-query.query-index
     (subst (λ xs. length xs ≤ c.loop-query.query-index) c.deref-query-items.ensures.value c.loop-query-test.false) c.loop-query.invariant.trees in
     let tree = made ∙ c.new-weight.ensures ∙ (λ i. boolean_node (c.is_scoring_enabled-scoring.ensures i) 1 (combiner_of (c.from.ensures i)) (clauses i)) in
-    IfOk-weaker c.boxed.result (λ b. b.value ≡ Boolean weight) _ (λ b is. ap tree_of is ∙ tree) c.boxed.ensures.value
+    IfOk-weaker c.boxed_boolean.result (λ b. b.value ≡ Boolean weight) _ (λ b is. ap tree_of is ∙ tree) c.boxed_boolean.ensures.value
 
 pub disjunction_max_query::DisjunctionMaxQuery::build_weight-returns-clause-served :
     goal.disjunction_max_query::DisjunctionMaxQuery::build_weight-returns-clause-served
 disjunction_max_query::DisjunctionMaxQuery::build_weight-returns-clause-served g t c =
     let served = are_disjuncts_served-whole (schema_of c.args.enable_scoring) c.args.self.now.disjuncts.items c.loop-query.query-index
     (subst (λ xs. length xs ≤ c.loop-query.query-index) c.deref-query-items.ensures.value c.loop-query-test.false) c.loop-query.invariant.served in
-    IfOk-weaker c.boxed.result (λ b. b.value ≡ Boolean c.new-weight.result) _ (λ _ _. served) c.boxed.ensures.value
+    IfOk-weaker c.boxed_boolean.result (λ b. b.value ≡ Boolean c.new-weight.result) _ (λ _ _. served) c.boxed_boolean.ensures.value

@@ -8,6 +8,8 @@ use Rattle.qm_query.specs.Searches.{without_scores}
 use Rattle.qm_script.specs.Found.{found_alive}
 use Rattle.qm_script.specs.ScriptSegments.{Script, script}
 use Rattle.qm_script.specs.Spelled.{query_of}
+use Rattle.qm_script.specs.Under.{IsListingRefusal, IsWithinScores}
+use Rattle.qm_script.proofs.AskedFields.{score-refusal}
 use Rattle.qm_script.proofs.Answering.{IsForDocuments-refused, behind_nothing, counted-same, for_documents, text-answer, unbuilt-answer}
 use Rattle.qm_script.proofs.answer.count_matches.Goals as goal
 
@@ -16,7 +18,7 @@ returns-in-Err-clause-answer c =
     let s = script c.args.corpus.now in (
       for_documents s,
       IsForDocuments-refused s,
-      unbuilt-answer (count_text (for_documents s) s) (for_documents s)
+      unbuilt-answer (count_text (for_documents s) s) (IsWithinScores (for_documents s))
           (query_of c.args.spelled.now) (string_bytes c.args.text.now) c.in-Err.error c.number.result c.number.ensures c.in-Err.ensures,
     )
 
@@ -39,6 +41,7 @@ returns-in_ok-build_segments-in-Ok-clause-answer c =
     let fields = c.searcher.ensures.fields ∙ ap (λ (t : Script). t.current.schema) same in (
       enable,
       record { fields = fields; scores = refl },
-      text-answer (count_text enable s) enable q text query c.write_count-written.result c.answer_listing.result
-          (fields ∙ c.args.corpus.now.fields) c.in-Ok.ensures written c.write_count-written.ensures.within c.write_count-written.ensures.refused c.answer_listing.ensures,
+      text-answer (count_text enable s) (IsWithinScores enable) q text query (IsListingRefusal enable query) c.in-Ok.ensures
+          (score-refusal enable q query (fields ∙ c.args.corpus.now.fields) c.in-Ok.ensures) c.write_count-written.result c.answer_listing.result
+          written c.write_count-written.ensures.within c.write_count-written.ensures.refused c.answer_listing.ensures,
     )

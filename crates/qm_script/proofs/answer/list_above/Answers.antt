@@ -10,6 +10,8 @@ use Rattle.qm_script.specs.Spelled.{query_of}
 use Rattle.qm_script.specs.State.{state}
 use Rattle.qm_script.specs.Text.{IsListing, listing_text}
 use Rattle.qm_script.specs.Weights.{IsWeighedBy}
+use Rattle.qm_script.specs.Under.{IsListingRefusal, IsWithinScores}
+use Rattle.qm_script.proofs.AskedFields.{score-refusal}
 use Rattle.qm_script.proofs.Answering.{IsForScores-refused, above-same, for_scores, listing-answer, nothing_searched, unbuilt-answer}
 use Rattle.qm_script.proofs.answer.list_above.Goals as goal
 
@@ -19,7 +21,7 @@ returns-in-Err-clause-answer c =
       nothing_searched s,
       for_scores s,
       IsForScores-refused s,
-      unbuilt-answer (pruned_text c.args.threshold (for_scores s) s.documents) (for_scores s)
+      unbuilt-answer (pruned_text c.args.threshold (for_scores s) s.documents) (IsWithinScores (for_scores s))
           (query_of c.args.spelled.now) (string_bytes c.args.text.now) c.in-Err.error c.number.result c.number.ensures c.in-Err.ensures,
     )
 
@@ -51,8 +53,9 @@ returns-in_ok-build_segments-in-Ok-clause-answer c =
         scores = c.enabled_from_searcher.ensures.provider;
         weights = subst (λ w. IsWeighedBy w searcher) (ap (λ s. s.weights) c.build_segments.ensures.weights) c.searcher-searcher.ensures.weights;
       },
-      listing-answer (pruned_text threshold enable s) enable q text query
+      listing-answer (pruned_text threshold enable s) (IsWithinScores enable) q text query (IsListingRefusal enable query) c.in-Ok.ensures
+          (score-refusal enable q query (fields ∙ c.args.corpus.now.fields) c.in-Ok.ensures)
           (found_above_in_parts threshold enable query c.ended.result (segments_of c.segment_readers.result.now))
-          c.write_pruned-written.result c.answer_listing.result (fields ∙ c.args.corpus.now.fields) c.in-Ok.ensures
+          c.write_pruned-written.result c.answer_listing.result
           (all ∙ ap listing_text listed) written c.write_pruned-written.ensures.within c.write_pruned-written.ensures.refused c.answer_listing.ensures,
     )

@@ -10,6 +10,8 @@ use Rattle.qm_script.specs.Spelled.{query_of}
 use Rattle.qm_script.specs.State.{state}
 use Rattle.qm_script.specs.Text.{listing_text}
 use Rattle.qm_script.specs.Weights.{IsWeighedBy}
+use Rattle.qm_script.specs.Under.{IsBestRefusal, IsWithinBest}
+use Rattle.qm_script.proofs.AskedFields.{best-refusal}
 use Rattle.qm_script.proofs.Answering.{IsForScores-refused, best-same, for_scores, listing-answer, nothing_searched, unbuilt-answer}
 use Rattle.qm_script.proofs.answer.list_best.Goals as goal
 
@@ -19,7 +21,7 @@ returns-in-Err-clause-answer c =
       nothing_searched s,
       for_scores s,
       IsForScores-refused s,
-      unbuilt-answer (best_text c.args.count (for_scores s) s.documents) (for_scores s)
+      unbuilt-answer (best_text c.args.count (for_scores s) s.documents) (IsWithinBest c.args.count (for_scores s))
           (query_of c.args.spelled.now) (string_bytes c.args.text.now) c.in-Err.error c.number.result c.number.ensures c.in-Err.ensures,
     )
 
@@ -45,7 +47,8 @@ returns-in_ok-build_segments-in-Ok-clause-answer c =
         scores = refl;
         weights = subst (λ w. IsWeighedBy w searcher) (ap (λ s. s.weights) c.build_segments.ensures.weights) c.searcher.ensures.weights;
       },
-      listing-answer (best_text c.args.count enable s) enable q text query (found_best c.args.count enable query (segments_of readers))
-          c.write_best-written.result c.answer_listing.result (fields ∙ c.args.corpus.now.fields) c.in-Ok.ensures
+      listing-answer (best_text c.args.count enable s) (IsWithinBest c.args.count enable) q text query (IsBestRefusal c.args.count enable query) c.in-Ok.ensures
+          (best-refusal enable q query (fields ∙ c.args.corpus.now.fields) c.in-Ok.ensures c.args.count) (found_best c.args.count enable query (segments_of readers))
+          c.write_best-written.result c.answer_listing.result
           (ap listing_text listed) c.write_best-written.ensures.listed c.write_best-written.ensures.within c.write_best-written.ensures.refused c.answer_listing.ensures,
     )

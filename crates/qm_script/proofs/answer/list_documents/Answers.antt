@@ -8,7 +8,8 @@ use Rattle.qm_index.specs.Parts.{segments_of}
 use Rattle.qm_script.specs.ScriptSegments.{Script, script}
 use Rattle.qm_script.specs.Spelled.{query_of}
 use Rattle.qm_script.specs.Text.{listing_text}
-use Rattle.qm_script.specs.Under.{tree_of}
+use Rattle.qm_script.specs.Under.{IsListingRefusal, IsWithinScores, tree_of}
+use Rattle.qm_script.proofs.AskedFields.{score-refusal}
 use Rattle.qm_script.proofs.Answering.{IsForDocuments-refused, for_documents, listing-answer, parts-same, unbuilt-answer}
 use Rattle.qm_script.proofs.answer.list_documents.Goals as goal
 
@@ -17,7 +18,7 @@ returns-in-Err-clause-answer c =
     let s = script c.args.corpus.now in (
       for_documents s,
       IsForDocuments-refused s,
-      unbuilt-answer (listed_text (for_documents s) s) (for_documents s)
+      unbuilt-answer (listed_text (for_documents s) s) (IsWithinScores (for_documents s))
           (query_of c.args.spelled.now) (string_bytes c.args.text.now) c.in-Err.error c.number.result c.number.ensures c.in-Err.ensures,
     )
 
@@ -39,8 +40,9 @@ returns-in_ok-build_segments-in-Ok-clause-answer c =
     let all = ap (λ rs. listing_text (all_listed (is_enabled enable) (tree_of enable query) (segments_of rs))) c.segment_readers.ensures.segments in (
       enable,
       record { fields = fields; scores = c.disabled_from_searcher-enable.ensures.provider },
-      listing-answer (listed_text enable s) enable q text query
+      listing-answer (listed_text enable s) (IsWithinScores enable) q text query (IsListingRefusal enable query) c.in-Ok.ensures
+          (score-refusal enable q query (fields ∙ c.args.corpus.now.fields) c.in-Ok.ensures)
           (all_listed (is_enabled enable) (tree_of enable query) (segments_of c.segment_readers.result.now))
-          c.write_matches-written.result c.answer_listing.result (fields ∙ c.args.corpus.now.fields) c.in-Ok.ensures
+          c.write_matches-written.result c.answer_listing.result
           (all ∙ ap listing_text listed) c.write_matches-written.ensures.listed c.write_matches-written.ensures.within c.write_matches-written.ensures.refused c.answer_listing.ensures,
     )

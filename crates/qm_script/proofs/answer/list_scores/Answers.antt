@@ -9,8 +9,9 @@ use Rattle.qm_script.specs.ScriptSegments.{Script, script}
 use Rattle.qm_script.specs.Spelled.{query_of}
 use Rattle.qm_script.specs.State.{state}
 use Rattle.qm_script.specs.Text.{listing_text}
-use Rattle.qm_script.specs.Under.{tree_of}
+use Rattle.qm_script.specs.Under.{IsListingRefusal, IsWithinScores, tree_of}
 use Rattle.qm_script.specs.Weights.{IsWeighedBy}
+use Rattle.qm_script.proofs.AskedFields.{score-refusal}
 use Rattle.qm_script.proofs.Answering.{IsForScores-refused, for_scores, listing-answer, nothing_searched, parts-same, unbuilt-answer}
 use Rattle.qm_script.proofs.answer.list_scores.Goals as goal
 
@@ -20,7 +21,7 @@ returns-in-Err-clause-answer c =
       nothing_searched s,
       for_scores s,
       IsForScores-refused s,
-      unbuilt-answer (listed_text (for_scores s) s.documents) (for_scores s)
+      unbuilt-answer (listed_text (for_scores s) s.documents) (IsWithinScores (for_scores s))
           (query_of c.args.spelled.now) (string_bytes c.args.text.now) c.in-Err.error c.number.result c.number.ensures c.in-Err.ensures,
     )
 
@@ -47,8 +48,9 @@ returns-in_ok-build_segments-in-Ok-clause-answer c =
         scores = c.enabled_from_searcher-enable.ensures.provider;
         weights = subst (λ w. IsWeighedBy w searcher) (ap (λ s. s.weights) c.build_segments.ensures.weights) c.searcher-searcher.ensures.weights;
       },
-      listing-answer (listed_text enable s) enable q text query
+      listing-answer (listed_text enable s) (IsWithinScores enable) q text query (IsListingRefusal enable query) c.in-Ok.ensures
+          (score-refusal enable q query (fields ∙ c.args.corpus.now.fields) c.in-Ok.ensures)
           (all_listed (is_enabled enable) (tree_of enable query) (segments_of c.segment_readers.result.now))
-          c.write_matches-written.result c.answer_listing.result (fields ∙ c.args.corpus.now.fields) c.in-Ok.ensures
+          c.write_matches-written.result c.answer_listing.result
           (all ∙ ap listing_text listed) c.write_matches-written.ensures.listed c.write_matches-written.ensures.within c.write_matches-written.ensures.refused c.answer_listing.ensures,
     )
