@@ -5,10 +5,11 @@
 
 Each program of cases plays the files of its crates, and then what tests/generate_cases.py writes from the
 plain model, in as many parts as there are processors: tables of all small cases, and N rows by chance, by a
-seed that is always the same where none is given. Before that the model is compared with worked rows. Every run is under an allocator that refuses the requests for memory that a case names
-(tests/refuse_memory.c). The programs are those that `rt ci` has left in crates/PROGRAM/out, or those in a
-FOLDER. Prints the rows that are wrong, and last how many rows were played; the exit status is 1 where one
-is wrong, or where a program plays none.
+seed that is always the same where none is given. Before that the model is compared with worked rows. The files
+flat.case, of very many parts and none of them deep, are played with a stack of one megabyte. Every run is under
+an allocator that refuses the requests for memory that a case names (tests/refuse_memory.c). The programs are
+those that `rt ci` has left in crates/PROGRAM/out, or those in a FOLDER. Prints the rows that are wrong, and last
+how many rows were played; the exit status is 1 where one is wrong, or where a program plays none.
 """
 
 import os
@@ -29,6 +30,9 @@ PROGRAMS = {
 ROWS = {"cases_cursors": 20_000, "cases_postings": 50_000, "cases_queries": 300_000}
 # A program that takes longer than this many seconds is taken never to end.
 LIMIT = 600
+# Files of this name are played with a stack of one megabyte.
+FLAT = "flat.case"
+BOUND = ["sh", "-c", 'ulimit -s 1024 && exec "$0"']
 
 
 def build_refusing(room):
@@ -39,12 +43,15 @@ def build_refusing(room):
     return library
 
 
-def files_of(crates):
-    """The text of all case files of these crates, each with its name before it."""
+def files_of(crates, are_flat=False):
+    """The text of the case files of these crates, each with its name before it: of those of one name alone, or of all
+    others."""
     text = []
     for crate in crates:
         folder = f"{ROOT}/cases/{crate}"
         for name in sorted(os.listdir(folder)):
+            if (name == FLAT) != are_flat:
+                continue
             with open(f"{folder}/{name}", encoding="utf-8") as it:
                 text.append(f"file cases/{crate}/{name}\n{it.read()}\n")
     return "".join(text)
@@ -59,15 +66,16 @@ def generated(program, seed, rows, parts):
     return f"file seed {seed}\n{made}"
 
 
-def play(path, library, text):
+def play(path, library, text, is_flat=False):
     """How many rows the program played and how many were wrong, and the lines of these."""
     environment = {**os.environ, "LD_PRELOAD": library}
     how = {"stdout": subprocess.PIPE, "stderr": subprocess.STDOUT, "timeout": LIMIT}
+    words = [*BOUND, path] if is_flat else [path]
     with tempfile.TemporaryFile() as given:
         given.write(text.encode())
         given.seek(0)
         try:
-            ran = subprocess.run([path], stdin=given, env=environment, **how)
+            ran = subprocess.run(words, stdin=given, env=environment, **how)
         except subprocess.TimeoutExpired:
             return 0, 1, [f"{path} did not end within {LIMIT} seconds"]
     lines = ran.stdout.decode(errors="replace").splitlines()
@@ -78,12 +86,17 @@ def play(path, library, text):
     return rows, max(wrong, ran.returncode), lines[:-1]
 
 
+def play_made(path, library, make, is_flat):
+    return play(path, library, make(), is_flat)
+
+
 def runs_of(program, seed, rows):
-    """What a program is to play: its files, and what the model says, some to each processor."""
+    """What a program is to play: its files, and what the model says, some to each processor. Each with whether it is
+    flat."""
     parts, rows = os.cpu_count() or 1, rows or ROWS[program]
-    texts = [lambda: files_of(PROGRAMS[program])]
+    texts = [(lambda: files_of(PROGRAMS[program], True), True), (lambda: files_of(PROGRAMS[program]), False)]
     for part in range(parts):
-        texts.append(lambda part=part: generated(program, seed * parts + part, rows // parts, parts))
+        texts.append((lambda part=part: generated(program, seed * parts + part, rows // parts, parts), False))
     return texts
 
 
@@ -93,8 +106,8 @@ def play_all(programs, folder, seed, rows):
         library, played = build_refusing(room), []
         for program in programs:
             path = f"{folder}/{program}" if folder else f"{ROOT}/crates/{program}/out/{program}"
-            for make in runs_of(program, seed, rows):
-                played.append((program, pool.submit(lambda path=path, make=make: play(path, library, make()))))
+            for make, is_flat in runs_of(program, seed, rows):
+                played.append((program, pool.submit(play_made, path, library, make, is_flat)))
         total, failed = 0, 0
         for program, it in played:
             rows, wrong, lines = it.result()

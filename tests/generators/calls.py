@@ -1,6 +1,7 @@
 """Rows: calls on a scorer, on a weight and on a query, each with what it must answer."""
 
 import functools
+import re
 
 from generators import spelled
 from generators.scorers import Left
@@ -256,6 +257,13 @@ def of_unscored(random, tree, segment, most_explained=3):
     for doc in explains(random, segment, most_explained):
         if doc not in documents:
             yield explained("explain", doc, None)
+
+
+def through(random, rows, types):
+    """The rows; of some of them the call is that of one of these types, `own` or `boxed`."""
+    for it in rows:
+        words = random.choice(["", "", *types])
+        yield it if not words else re.sub("^  (refused each )?", rf"\g<0>{words} ", it)
 
 
 # ---- calls on a query

@@ -2,7 +2,7 @@
 
 from generators import calls, chance, spelled
 from generators.scorers import Left
-from model import GREATEST, Searcher, fits, matches, tree_of
+from model import GREATEST, Searcher, fits, matches, tree_of, weighs_too_much
 
 
 def weights(random):
@@ -33,7 +33,7 @@ def of_weight(random, segments, field, depth):
     trees = chance.Trees(random, field)
     tree = worth_playing(segments[0], lambda: (trees.fitting(depth),) * 2)
     yield f"weight {spelled.weight(tree)}"
-    yield from on_segments(random, segments, lambda it: calls.of_weight(random, tree, it))
+    yield from on_segments(random, segments, lambda it: calls.through(random, calls.of_weight(random, tree, it), ["own"]))
 
 
 def of_query(random, searcher, field, depth):
@@ -49,11 +49,15 @@ def of_query(random, searcher, field, depth):
     query = worth_playing(segments[0], any_query)
     tree = scoring(query)
     yield f"query {spelled.query(query, random)}"
-    yield from calls.of_query(random, query, tree, segments)
-    yield from on_segments(random, segments, lambda it: calls.of_weight(random, tree, it, 3, 8))
+
+    def asked(rows):
+        return calls.through(random, rows, ["own", "boxed"])
+
+    yield from asked(calls.of_query(random, query, tree, segments))
+    yield from on_segments(random, segments, lambda it: asked(calls.of_weight(random, tree, it, 3, 8)))
     unscored = tree_of(query, searcher, False)
     yield f"unscored {spelled.query(query, random)}"
-    yield from on_segments(random, segments, lambda it: calls.of_unscored(random, unscored, it))
+    yield from on_segments(random, segments, lambda it: asked(calls.of_unscored(random, unscored, it)))
     yield from scorers_of_query(random, query, searcher)
 
 
@@ -104,10 +108,12 @@ def of_bounds(random, field, depth):
 def of_great_query(random, searcher, field, depth):
     """What is refused of a query that doesn't fit, whatever the segments hold."""
     query = chance.GreatTrees(random, field, are_queries=True).tree(depth)
-    if not fits(tree_of(query, searcher, True), 1):
+    tree = tree_of(query, searcher, True)
+    if not fits(tree, 1):
         yield f"query {spelled.query(query, random)}"
         yield spelled.row("fitting", "refused ScoreBound")
-        yield spelled.row(f"top {random.choice([0, 1, 7])}", "refused ScoreBound")
+        yield spelled.row(f"top {random.choice([1, 7])}", "refused ScoreBound")
+        yield spelled.row("top 0", "refused ScoreBound" if weighs_too_much(tree) else "")
 
 
 def corpus(random):

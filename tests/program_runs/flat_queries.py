@@ -5,11 +5,9 @@ from .report import in_parallel
 
 STACK = 1 << 20
 FEW, MANY = 10_000, 100_000
-# What takes less processor time than this many seconds is not compared, and ten times as many parts may take at most
-# so many times as long: a pass over all parts for each of them would take a hundred times as long.
+# Ten times as many parts may take at most so many times as long, and what takes less processor time than this many
+# seconds is not compared: a pass over all parts for each of them would take a hundred times as long.
 SHORT, FACTOR = 0.1, 40
-# A pruned run over so many words that may match goes over all of them for each one, so these have so many times fewer.
-PRUNED = 10
 
 
 def check(program, report, jobs):
@@ -21,13 +19,11 @@ def check_name(program, report, name):
     script, text = made(name, MANY)
     outcome, seconds = program.run_with_stack(script, STACK)
     report.expect(f"{name}, {MANY} parts", text, 0, outcome)
-    if seconds < SHORT:
-        return
     few, text = made(name, FEW)
     outcome, less = program.run_with_stack(few, STACK)
     report.expect(f"{name}, {FEW} parts", text, 0, outcome)
     wanted = f"{name}: at most {FACTOR} times the time for {MANY} parts"
-    is_linear = seconds <= FACTOR * max(less, SHORT / 10)
+    is_linear = seconds < SHORT or seconds <= FACTOR * max(less, SHORT / 10)
     report.expect_same(name, wanted, wanted if is_linear else f"{seconds} after {less} seconds")
 
 
@@ -61,7 +57,7 @@ def documents(parts):
 
 def queries(parts):
     """By name: what makes a query of so many parts, and what it is answered behind these documents."""
-    half, tenth, few = parts // 2, parts // 10, parts // PRUNED
+    half, tenth = parts // 2, parts // 10
     # a word that stands once in a document of 255 words and more scores 1000 / (1 + 255), a phrase of many as much as
     # they together, before it is rounded
     phrase = 1000 * tenth // 256
@@ -86,6 +82,14 @@ def queries(parts):
         "words that must not match": lambda: (
             b"scores bool 0 %d + all" % (parts + 1) + signed(b"-", terms(parts)),
             b"3:1",
+        ),
+        # the first half twice, all words, and the second half twice
+        "words of each sign": lambda: (
+            b"scores bool 0 %d" % (3 * parts)
+            + signed(b"+", terms(parts)[:half] * 2)
+            + signed(b"?", terms(parts))
+            + signed(b"-", terms(parts)[half:] * 2),
+            b"1:%d" % (3 * 2 * half + 3 * half),
         ),
         "the same word many times": lambda: (b"count bool 2 %d" % parts + b" ? term w0" * parts, b"2"),
         "phrases": lambda: (
@@ -117,17 +121,33 @@ def queries(parts):
             b"0:%d" % (3 * parts),
         ),
         "a pruned run of words that may match": lambda: (
-            b"prune 0 bool 0 %d" % few + signed(b"?", terms(few)),
-            b"0:%d" % (3 * few),
+            b"prune 0 bool 0 %d" % parts + signed(b"?", terms(parts)),
+            b"0:%d" % (3 * parts),
         ),
-        "a pruned run of the greatest score": lambda: (b"prune 0 max 0 %d " % few + b" ".join(terms(few)), b"0:3"),
+        "a pruned run of words two of which must match": lambda: (
+            b"prune 0 bool 2 %d" % parts + signed(b"?", terms(parts)),
+            b"0:%d" % (3 * parts),
+        ),
+        "a pruned run of the greatest score": lambda: (b"prune 2 max 0 %d " % parts + b" ".join(terms(parts)), b"0:3"),
+        "a pruned run of the greatest score and half of the others": lambda: (
+            b"prune %d max 500 %d " % (others, parts) + b" ".join(terms(parts)),
+            b"0:%d" % best,
+        ),
         "the best of words that may match": lambda: (
-            b"top 1 bool 0 %d" % few + signed(b"?", terms(few)),
-            b"0:%d" % (3 * few),
+            b"top 3 bool 0 %d" % parts + signed(b"?", terms(parts)),
+            sums,
+        ),
+        "the best of words two of which must match": lambda: (
+            b"top 1 bool 2 %d" % parts + signed(b"?", terms(parts)),
+            b"0:%d" % (3 * parts),
+        ),
+        "the best by the greatest score": lambda: (
+            b"top 2 max 0 %d " % parts + b" ".join(terms(parts)),
+            b"0:3 1:3",
         ),
         "the best by the greatest score and half of the others": lambda: (
-            b"top 1 max 500 %d " % few + b" ".join(terms(few)),
-            b"0:%d" % (3 + 3 * (few - 1) // 2),
+            b"top 4 max 500 %d " % parts + b" ".join(terms(parts)),
+            bests,
         ),
     }
 

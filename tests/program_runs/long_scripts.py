@@ -3,6 +3,10 @@
 # So many bytes are read at once.
 CHUNK = 4096
 
+# So many bytes of stack are enough for every query that isn't deep, and for every one that is.
+STACK = 1 << 20
+DEEP_STACK = 5 << 19
+
 # Refused where `a` has the greatest weight.
 TOO_GREAT = b"scores bool 0 2 + term a + term a\n"
 
@@ -164,11 +168,16 @@ def line_around_a_chunk(length):
 
 
 def check_levels(program, report):
-    """A query is at most 500 deep, in whatever form."""
-    for form in [b"boost 1 ", b"const 1 ", b"bool 0 1 + ", b"bool 1 1 ? ", b"max 0 1 "]:
-        for line, answer in [(b"docs ", b"0\n"), (b"scores ", b"0:1\n"), (b"count ", b"1\n")]:
+    """A query is at most 500 deep, in whatever form, and one so deep needs no more than two and a half megabytes of stack."""
+    # the last four with a clause beside, which scores 1 or nothing at each level
+    forms = {b"boost 1 ": 1, b"const 1 ": 1, b"bool 0 1 + ": 1, b"bool 1 1 ? ": 1, b"max 0 1 ": 1}
+    forms |= {b"bool 0 2 + all + ": 500, b"bool 1 2 ? all ? ": 500, b"bool 0 2 - term b + ": 1, b"max 0 2 term b ": 1}
+    for form, score in forms.items():
+        best = b"0:%d\n" % score
+        lines = {b"docs ": b"0\n", b"scores ": best, b"count ": b"1\n", b"prune 0 ": best, b"top 1 ": best}
+        for line, answer in lines.items():
             name = f"{line!r} with 499 times {form!r}"
-            outcome = program.run(b"doc a\n" + line + form * 499 + b"all\n")
+            outcome, _ = program.run_with_stack(b"doc a\n" + line + form * 499 + b"all\n", DEEP_STACK)
             report.expect(name, answer, 0, outcome)
             name = f"{line!r} with 500 times {form!r}"
             outcome = program.run(b"doc a\n" + line + form * 500 + b"all\n")

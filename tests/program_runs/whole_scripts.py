@@ -45,6 +45,14 @@ LISTED = [
         b"0:4611686018427387903\nline 4: refused 9\nline 5: refused 9\n",
         1,
     ),
+    # half of the greatest score, twice that, and twice the greatest
+    (
+        "the greatest weight, boosted and twice, and the least threshold",
+        b"doc a\nweight a 9223372036854775807\nscores term a\nscores boost 2 term a\n"
+        b"scores bool 0 2 ? term a ? term a\nprune -9223372036854775808 all\n",
+        b"0:4611686018427387903\nline 4: refused 9\nline 5: refused 9\n0:1\n",
+        1,
+    ),
     # of each two the same query is asked of a segment in one part, and of one in two
     (
         "weights that pass the greatest score, in a word that a part does not hold",
@@ -59,7 +67,7 @@ LISTED = [
         b"prune 0 bool 0 2 ? term a ? term a\ntop 0 bool 0 2 ? term a ? term a\ncount bool 0 2 ? term a ? term a\n"
         b"docs bool 0 2 ? term a ? term a\nscores boost 2 term a\nscores bool 0 2 + term b - boost 2 term a\n"
         b"scores const 1 boost 2 term a\nscores boost 0 phrase 0 2 a a\nscores boost 0 boost 2 term a\n",
-        b"line 2: refused 9\nline 4: refused 9\nline 5: refused 9\nline 6: refused 9\n0\n\nline 9: refused 9\n"
+        b"line 2: refused 9\nline 4: refused 9\nline 5: refused 9\n\n0\n\nline 9: refused 9\n"
         b"line 10: refused 9\nline 11: refused 9\nline 12: refused 9\n\n",
         1,
     ),
@@ -282,6 +290,14 @@ BEST = [
         b"3:500 5:500 2:333\n3:1000 5:1000\n\n",
         0,
     ),
+    # 333 + 166 and 400 + 125
+    (
+        "the best where the first of two words must match, and of all, none and no phrase",
+        b"doc a b\ndoc a\ndelete 1\nsegment\ndoc a a b\nweight b 500\ntop 2 bool 0 2 + term a ? term b\ntop 1 all\n"
+        b"top 4294967295 all\ntop 0 all\ntop 3 none\ntop 1 phrase 0 1 a\n",
+        b"2:525 0:499\n0:1\n0:1 2:1\n\n\nline 12: refused 1\n",
+        1,
+    ),
     # 500 and 333, then 400 behind them, then of 400 and 500 what is left; searched after each, so that the open
     # segment is in parts, or built as one for a prefix
     (
@@ -295,9 +311,10 @@ BEST = [
     (
         "searches for the best that are refused",
         b"doc a\ntop 3 phrase 0 1 a\ntop 3 prefix 1 0\ntop 3 max 1001 0\nweight a 9223372036854775807\n"
-        b"top 0 bool 0 2 + term a + term a\ntop 1 bool 0 2 + term a + term a\ntop 1 term a\n",
-        b"line 2: refused 1\nline 3: refused 2\nline 4: refused 8\nline 6: refused 9\nline 7: refused 9\n"
-        b"0:4611686018427387903\n",
+        b"top 0 bool 0 2 + term a + term a\ntop 1 bool 0 2 + term a + term a\ntop 1 term a\n"
+        b"top 0 boost 0 phrase 0 2 a a\ntop 0 phrase 0 1 a\n",
+        b"line 2: refused 1\nline 3: refused 2\nline 4: refused 8\n\nline 7: refused 9\n"
+        b"0:4611686018427387903\nline 9: refused 9\nline 10: refused 1\n",
         1,
     ),
 ]

@@ -3,9 +3,10 @@
 use crate::ask_weight::{ask_weight, read_number};
 use crate::changes::change;
 use crate::explained::explain_at;
-use crate::getters::get;
+use crate::getters::{get, write_named};
 use crate::given::first_word;
 use crate::kinds::kind_of_weight;
+use crate::own_calls::{Through, ask_kind_of_query, box_clone_of_kind, read_through};
 use crate::runs::run_each;
 use crate::top::write_top;
 use crate::weigh::{Scales, specialize, weigh};
@@ -27,6 +28,16 @@ pub struct QueryAsker<'a> {
     pub segment: u32,
 }
 
+/// What a row asks of a query.
+#[derive(Clone, Copy)]
+pub struct Question<'a> {
+    pub scales: Scales<'a>,
+    /// the segment that is asked
+    pub segment: u32,
+    pub call: &'a str,
+    pub memory: Memory,
+}
+
 impl<'a> Asker for QueryAsker<'a> {
     fn ask(
         &mut self,
@@ -36,35 +47,90 @@ impl<'a> Asker for QueryAsker<'a> {
         text: &mut String,
     ) -> Result<(), Fault> {
         match first_word(call) {
+            "own" | "boxed" => self.ask_of_type(alloc, call, memory, text),
             "segment" => {
                 self.segment = read_number(call.strip_prefix("segment ").unwrap_or(""))?;
                 Ok(())
             }
-            "clone" | "box_clone" => self.clone_query(alloc, call, memory),
+            "clone" | "box_clone" => self.clone_query(alloc, Through::Any, call, memory),
             "original" => self.swap_original(),
             "same" => self.compare(alloc, text),
             "set_minimum" | "set_slop" | "set_max_expansions" => change(&mut self.query, call),
-            "minimum" | "signs" | "field" | "term" | "phrase_terms" | "terms" => {
+            "minimum" | "signs" | "field" | "term" | "phrase_terms" => {
                 get(alloc, &self.query, call, memory, text)
             }
             "asked" => Ok(write!(text, "{}", self.scales.asked.get())?),
-            _ => ask(
-                alloc,
-                self.scales,
-                &self.query,
-                self.segment,
-                call,
-                memory,
-                text,
-            ),
+            "specialized" => self.ask_specialized(alloc, memory, text),
+            _ => self.ask_through(alloc, Through::Any, call, memory, text),
         }
     }
 }
 
 impl<'a> QueryAsker<'a> {
+    // `own CALL` or `boxed CALL`
+    fn ask_of_type(
+        &mut self,
+        alloc: Global,
+        call: &str,
+        memory: Memory,
+        text: &mut String,
+    ) -> Result<(), Fault> {
+        let (through, call) = read_through(call);
+        match call {
+            "clone" | "box_clone" => self.clone_query(alloc, through, call, memory),
+            _ => self.ask_through(alloc, through, call, memory, text),
+        }
+    }
+
+    // Writes what the query answers to a call of that type.
+    fn ask_through(
+        &self,
+        alloc: Global,
+        through: Through,
+        call: &str,
+        memory: Memory,
+        text: &mut String,
+    ) -> Result<(), Fault> {
+        let asked = Question {
+            scales: self.scales,
+            segment: self.segment,
+            call,
+            memory,
+        };
+        match through {
+            Through::Any => ask_query(alloc, asked, &*self.query, text),
+            Through::Own => ask_kind_of_query(alloc, asked, &self.query, text),
+            Through::Boxed => ask_query(alloc, asked, &self.query, text),
+        }
+    }
+
+    // Writes what the specialized weight of a term finds.
+    fn ask_specialized(
+        &self,
+        alloc: Global,
+        memory: Memory,
+        text: &mut String,
+    ) -> Result<(), Fault> {
+        let weight = specialize(alloc, self.scales, &self.query, memory)?;
+        let segment = self.scales.world.segment(self.segment)?;
+        run_each(alloc, segment, &*weight, Memory::Ample, text)
+    }
+
     // From now on the rows are on a clone of the query.
-    fn clone_query(&mut self, alloc: Global, call: &str, memory: Memory) -> Result<(), Fault> {
-        let copy = clone_of(alloc, &self.query, call == "clone", memory)?;
+    fn clone_query(
+        &mut self,
+        alloc: Global,
+        through: Through,
+        call: &str,
+        memory: Memory,
+    ) -> Result<(), Fault> {
+        let copy = match (call, through) {
+            ("clone", Through::Any) => clone_of(alloc, &self.query, memory)?,
+            ("box_clone", Through::Any) => box_clone_of(alloc, &*self.query, memory)?,
+            ("box_clone", Through::Own) => box_clone_of_kind(alloc, &self.query, memory)?,
+            ("box_clone", Through::Boxed) => box_clone_of(alloc, &self.query, memory)?,
+            _ => return Err(Fault::NotUnderstood),
+        };
         self.original = Some(mem::replace(&mut self.query, copy));
         Ok(())
     }
@@ -93,35 +159,37 @@ impl<'a> QueryAsker<'a> {
     }
 }
 
-// A clone of a query, by its own call or by that of `QueryClone`.
-fn clone_of(
-    alloc: Global,
-    query: &AnyQuery,
-    is_own: bool,
-    memory: Memory,
-) -> Result<Box<AnyQuery>, Fault> {
-    if !is_own {
-        memory.begin(alloc);
-        let copy = query.box_clone(alloc);
-        end_refusals(alloc);
-        return Ok(copy?);
-    }
+// A clone of a query, by its own call.
+fn clone_of(alloc: Global, query: &AnyQuery, memory: Memory) -> Result<Box<AnyQuery>, Fault> {
     memory.begin(alloc);
     let copy = query.clone(alloc);
     end_refusals(alloc);
     Ok(Box::new(alloc, copy?)?)
 }
 
-// Writes what a query answers to a call, by itself or by its weight.
-fn ask(
+/// A clone of a query, by the call of `QueryClone`.
+pub fn box_clone_of<Q: QueryClone>(
     alloc: Global,
-    scales: Scales<'_>,
-    query: &AnyQuery,
-    segment: u32,
-    call: &str,
+    query: &Q,
     memory: Memory,
+) -> Result<Box<AnyQuery>, Fault> {
+    memory.begin(alloc);
+    let copy = query.box_clone(alloc);
+    end_refusals(alloc);
+    Ok(copy?)
+}
+
+/// Writes what a query answers to a call, by itself or by its weight.
+pub fn ask_query<Q: Query>(
+    alloc: Global,
+    asked: Question<'_>,
+    query: &Q,
     text: &mut String,
 ) -> Result<(), Fault> {
+    let (scales, call, memory) = (asked.scales, asked.call, asked.memory);
+    if call == "terms" {
+        return Ok(write_named(alloc, query, memory, text));
+    }
     if call == "total" {
         return count_all(alloc, scales.world, query, memory, text);
     }
@@ -135,16 +203,9 @@ fn ask(
         let weight = weigh(alloc, scales, query, call == "fitting", memory)?;
         return Ok(text.push_str(kind_of_weight(&weight))?);
     }
-    let weight = if call == "specialized" {
-        specialize(alloc, scales, query, memory)?
-    } else {
-        weigh(alloc, scales, query, false, Memory::Ample)?
-    };
-    let segment = scales.world.segment(segment)?;
-    if call == "specialized" {
-        return run_each(alloc, segment, &weight, Memory::Ample, text);
-    }
-    ask_weight(alloc, segment, &weight, call, memory, text)
+    let weight = weigh(alloc, scales, query, false, Memory::Ample)?;
+    let segment = scales.world.segment(asked.segment)?;
+    ask_weight(alloc, segment, &*weight, call, memory, text)
 }
 
 // The document of `explain S D`.
@@ -156,10 +217,10 @@ fn address_of(alloc: Global, call: &str) -> Result<Option<DocAddress>, Fault> {
     }
 }
 
-fn count_all(
+fn count_all<Q: Query>(
     alloc: Global,
     world: &World,
-    query: &AnyQuery,
+    query: &Q,
     memory: Memory,
     text: &mut String,
 ) -> Result<(), Fault> {

@@ -2,6 +2,7 @@
 
 use crate::asked::{Asked, read_asked};
 use crate::explained::{explain, print};
+use crate::own_calls::ask_kind_of_weight;
 use crate::phrase_counts::{write_counts, write_kind};
 use crate::runs::{run_called, run_documents, run_each, run_pruning, run_slices};
 use crate::world::World;
@@ -33,7 +34,10 @@ impl<'a> Asker for WeightAsker<'a> {
             return Ok(());
         }
         let segment = self.world.segment(self.segment)?;
-        ask_weight(alloc, segment, self.weight, call, memory, text)
+        match call.strip_prefix("own ") {
+            Some(call) => ask_kind_of_weight(alloc, segment, self.weight, call, memory, text),
+            None => ask_weight(alloc, segment, self.weight, call, memory, text),
+        }
     }
 }
 
@@ -46,10 +50,10 @@ pub fn read_number(text: &str) -> Result<u32, Fault> {
 }
 
 /// Writes what a weight answers to a call.
-pub fn ask_weight(
+pub fn ask_weight<W: Weight>(
     alloc: Global,
     segment: &SegmentReader,
-    weight: &AnyWeight,
+    weight: &W,
     call: &str,
     memory: Memory,
     text: &mut String,
@@ -74,7 +78,7 @@ pub fn ask_weight(
 }
 
 // Whether a weight fits at the boost that a text spells.
-fn write_fits(weight: &AnyWeight, boost: &str, text: &mut String) -> Result<(), Fault> {
+fn write_fits<W: Weight>(weight: &W, boost: &str, text: &mut String) -> Result<(), Fault> {
     let Ok(boost) = boost.parse::<Score>() else {
         return Err(Fault::NotUnderstood);
     };
@@ -84,10 +88,10 @@ fn write_fits(weight: &AnyWeight, boost: &str, text: &mut String) -> Result<(), 
     Ok(write!(text, "{}", weight.fits(boost))?)
 }
 
-fn prune(
+fn prune<W: Weight>(
     alloc: Global,
     segment: &SegmentReader,
-    weight: &AnyWeight,
+    weight: &W,
     call: &str,
     has_scores: bool,
     memory: Memory,
@@ -104,10 +108,10 @@ fn prune(
     run_pruning(alloc, segment, weight, threshold, memory, pruning)
 }
 
-fn count(
+fn count<W: Weight>(
     alloc: Global,
     segment: &SegmentReader,
-    weight: &AnyWeight,
+    weight: &W,
     memory: Memory,
     text: &mut String,
 ) -> Result<(), Fault> {

@@ -4,16 +4,16 @@ use crate::world::World;
 use cases::{Fault, Memory, end_refusals, write_space};
 use qm_docset::DocId;
 use qm_postings::{DocAddress, SegmentReader};
-use qm_query::{AnyQuery, Query};
+use qm_query::Query;
 use qm_term::Explanation;
-use qm_weight::{AnyWeight, Weight};
+use qm_weight::Weight;
 use std::alloc::Global;
 
 /// The value of a weight's explanation, or those of its details.
-pub fn explain(
+pub fn explain<W: Weight>(
     alloc: Global,
     segment: &SegmentReader,
-    weight: &AnyWeight,
+    weight: &W,
     doc: DocId,
     are_details: bool,
     memory: Memory,
@@ -26,10 +26,10 @@ pub fn explain(
 }
 
 /// Whether the text behind `prints DOC` stands in what is printed of a weight's explanation.
-pub fn print(
+pub fn print<W: Weight>(
     alloc: Global,
     segment: &SegmentReader,
-    weight: &AnyWeight,
+    weight: &W,
     doc: DocId,
     call: &str,
     text: &mut String,
@@ -42,10 +42,10 @@ pub fn print(
 }
 
 /// The value of a query's explanation.
-pub fn explain_at(
+pub fn explain_at<Q: Query>(
     alloc: Global,
     world: &World,
-    query: &AnyQuery,
+    query: &Q,
     address: DocAddress,
     memory: Memory,
     text: &mut String,

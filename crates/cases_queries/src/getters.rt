@@ -6,7 +6,7 @@ use qm_query::{AnyQuery, BooleanQuery, Query};
 use qm_schema::{Occur, QueryError, Term};
 use std::alloc::Global;
 
-/// Writes what a call answers: `minimum`, `signs`, `field`, `term`, `phrase_terms` or `terms`.
+/// Writes what a call answers: `minimum`, `signs`, `field`, `term` or `phrase_terms`.
 pub fn get(
     alloc: Global,
     query: &AnyQuery,
@@ -15,7 +15,6 @@ pub fn get(
     text: &mut String,
 ) -> Result<(), Fault> {
     match (query, call) {
-        (_, "terms") => Ok(write_named(alloc, query, memory, text)),
         (AnyQuery::Boolean(query), "minimum") => {
             let minimum = query.get_minimum_number_should_match();
             Ok(write!(text, "{minimum}")?)
@@ -35,8 +34,8 @@ pub fn get(
     }
 }
 
-// The terms that the query names, each with whether its positions are wanted.
-fn write_named(alloc: Global, query: &AnyQuery, memory: Memory, text: &mut String) {
+/// The terms that the query names, each with whether its positions are wanted.
+pub fn write_named<Q: Query>(alloc: Global, query: &Q, memory: Memory, text: &mut String) {
     let mut listing = Listing { text };
     memory.begin(alloc);
     query.query_terms(&mut |term: &Term, positions_wanted: bool| {

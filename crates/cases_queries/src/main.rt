@@ -19,6 +19,7 @@ mod kinds;
 mod leaves;
 mod listing;
 mod nodes;
+mod own_calls;
 mod phrase_counts;
 mod player;
 mod provider;

@@ -9,14 +9,14 @@ use qm_docset::{DocSet, TERMINATED};
 use qm_phrase::{PhrasePrefixScorer, PhraseScorer};
 use qm_postings::{SegmentPostings, SegmentReader};
 use qm_scorer::AnyScorer;
-use qm_weight::{AnyWeight, Weight};
+use qm_weight::Weight;
 use std::alloc::Global;
 
 /// Which variant the scorer of a weight is.
-pub fn write_kind(
+pub fn write_kind<W: Weight>(
     alloc: Global,
     segment: &SegmentReader,
-    weight: &AnyWeight,
+    weight: &W,
     memory: Memory,
     text: &mut String,
 ) -> Result<(), Fault> {
@@ -31,10 +31,10 @@ pub fn write_kind(
 }
 
 /// The documents where a phrase stands, each with how often it does.
-pub fn write_counts(
+pub fn write_counts<W: Weight>(
     alloc: Global,
     segment: &SegmentReader,
-    weight: &AnyWeight,
+    weight: &W,
     text: &mut String,
 ) -> Result<(), Fault> {
     match weight.scorer::<EmptyScorer>(alloc, segment, 1) {

@@ -4,14 +4,14 @@ use crate::listing::Listing;
 use cases::{Fault, Memory, Pruning, end_refusals};
 use qm_docset::Score;
 use qm_postings::SegmentReader;
-use qm_weight::{AnyWeight, Weight};
+use qm_weight::Weight;
 use std::alloc::Global;
 
 /// The calls of `for_each`.
-pub fn run_each(
+pub fn run_each<W: Weight>(
     alloc: Global,
     segment: &SegmentReader,
-    weight: &AnyWeight,
+    weight: &W,
     memory: Memory,
     text: &mut String,
 ) -> Result<(), Fault> {
@@ -27,10 +27,10 @@ pub fn run_each(
 }
 
 /// The documents of the calls of `for_each`, where their scores are open.
-pub fn run_called(
+pub fn run_called<W: Weight>(
     alloc: Global,
     segment: &SegmentReader,
-    weight: &AnyWeight,
+    weight: &W,
     memory: Memory,
     text: &mut String,
 ) -> Result<(), Fault> {
@@ -42,10 +42,10 @@ pub fn run_called(
 }
 
 /// How long the slices of `for_each_no_score` are.
-pub fn run_slices(
+pub fn run_slices<W: Weight>(
     alloc: Global,
     segment: &SegmentReader,
-    weight: &AnyWeight,
+    weight: &W,
     memory: Memory,
     text: &mut String,
 ) -> Result<(), Fault> {
@@ -57,10 +57,10 @@ pub fn run_slices(
 }
 
 /// The slices of `for_each_no_score`, joined.
-pub fn run_documents(
+pub fn run_documents<W: Weight>(
     alloc: Global,
     segment: &SegmentReader,
-    weight: &AnyWeight,
+    weight: &W,
     memory: Memory,
     text: &mut String,
 ) -> Result<(), Fault> {
@@ -72,10 +72,10 @@ pub fn run_documents(
 }
 
 /// The calls of `for_each_pruning` from a threshold on.
-pub fn run_pruning(
+pub fn run_pruning<W: Weight>(
     alloc: Global,
     segment: &SegmentReader,
-    weight: &AnyWeight,
+    weight: &W,
     threshold: Score,
     memory: Memory,
     mut pruning: Pruning<'_>,

@@ -4,15 +4,15 @@ use crate::world::World;
 use cases::{Fault, Memory, end_refusals, write_space};
 use qm_docset::Score;
 use qm_postings::DocAddress;
-use qm_query::{AnyQuery, TopDocs};
+use qm_query::{Query, TopDocs};
 use std::alloc::Global;
 
 /// Writes the best documents that a query finds, at most as many as the word says, each as its segment,
 /// its document and its score.
-pub fn write_top(
+pub fn write_top<Q: Query>(
     alloc: Global,
     world: &World,
-    query: &AnyQuery,
+    query: &Q,
     limit: &str,
     memory: Memory,
     text: &mut String,

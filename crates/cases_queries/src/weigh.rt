@@ -30,10 +30,10 @@ impl<'a> Scales<'a> {
 }
 
 /// The weight of a query, by `Query::weight`, or by `fitting_weight` where it has to fit.
-pub fn weigh(
+pub fn weigh<Q: Query>(
     alloc: Global,
     scales: Scales<'_>,
-    query: &AnyQuery,
+    query: &Q,
     must_fit: bool,
     memory: Memory,
 ) -> Result<Box<AnyWeight>, Fault> {
@@ -55,9 +55,9 @@ pub fn weigh(
     }
 }
 
-fn weigh_under<P: Bm25StatisticsProvider>(
+fn weigh_under<Q: Query, P: Bm25StatisticsProvider>(
     alloc: Global,
-    query: &AnyQuery,
+    query: &Q,
     scoring: EnableScoring<'_, P>,
     must_fit: bool,
     memory: Memory,

@@ -4,4 +4,4 @@ use Rattle.qm_term.specs.RunsFacts.{MayCallEach-always}
 use Rattle.cases_queries.proofs.runs.run_each.Goals as goal
 
 pub for_each-run-requires : goal.for_each-run-requires
-for_each-run-requires c = record { allowed = λ es is. search (rules, MayCallEach-always) }
+for_each-run-requires c c' = record { allowed = λ es is. search (rules, MayCallEach-always) }
