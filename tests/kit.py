@@ -32,9 +32,9 @@ class Crate:
             found += [it for it in [*dep.below(), dep] if it not in found]
         return found
 
-    def files(self):
+    def files(self, parts=PARTS):
         """What its proof is about: each file, by its path in the crate."""
-        for part in PARTS:
+        for part in parts:
             for at, folders, names in os.walk(f"{self.folder}/{part}"):
                 folders.sort()
                 yield from (os.path.relpath(f"{at}/{name}", self.folder) for name in sorted(names))
@@ -43,12 +43,12 @@ class Crate:
         with open(f"{self.folder}/{path}", encoding="utf-8") as it:
             return it.read()
 
-    def sum(self):
-        """A checksum of the crate, of all below it, and of the toolchain."""
+    def sum(self, parts=PARTS):
+        """A checksum of these folders of the crate, and of all below it, and of the toolchain."""
         made = hashlib.sha256(version().encode())
         for crate in [*self.below(), self]:
             made.update(crate.line.encode())
-            for path in crate.files():
+            for path in crate.files(parts):
                 made.update(repr((path, crate.read(path))).encode())
         return made.hexdigest()
 
