@@ -10,7 +10,8 @@ own function that it is not proved and shows which goal fails; that a function o
 not proved, or that a proof only lost a name, does not count. What a batch leaves undecided so is tried once
 more, and at last alone. First the crate as it stands must be proved for these functions; each check of a
 batch begins with the work that this one kept. Right behind `rt ci`, which has proved it, the first batch goes
-without that, and the others begin with the work that the first one kept.
+without that, and the others begin with the work that the first one kept, several beside each other where there are
+processors for them.
 
 An edit whose line says `refused by: the compiler, CODE` must not reach the prover: it is tried alone, and the
 check must end with that error.
@@ -97,6 +98,8 @@ class Trial:
         self.crate, self.options, self.lanes = crate, options, lanes
         self.kept, self.counts = Kept(crate, "--anew" in options), [0, 0]
         self.left = self.edits_left()
+        # how many of its checks run beside each other
+        self.beside = 1
 
     def tell(self, name, is_well, said, how="not tried"):
         self.counts[not is_well] += 1
@@ -154,13 +157,22 @@ class Trial:
         linked(kit.kept_work(self.crate), seed)
         left, undecided = edits if "--built" in self.options else self.proved_before(edits, seed), []
         while left:
-            batch, texts = batches_of(self.crate, left)[0]
-            again = self.try_batch(batch, texts, seed, room)
+            # without any kept work the first batch goes alone, and leaves some
+            batches = batches_of(self.crate, left)[: self.lanes.jobs() if os.listdir(seed) else 1]
+            again = self.try_batches(batches, seed, room)
+            tried = [it for batch, _ in batches for it in batch]
             # what a batch does not decide shares a later one
-            left = [it for it in left if it not in batch] + [it for it in again if it not in undecided]
+            left = [it for it in left if it not in tried] + [it for it in again if it not in undecided]
             undecided += again
-        for edit in dict.fromkeys(it for it in undecided if undecided.count(it) > 1):
-            self.try_batch([edit], edit.apply(self.crate, {}), seed, room)
+        alone = dict.fromkeys(it for it in undecided if undecided.count(it) > 1)
+        self.try_batches([([it], it.apply(self.crate, {})) for it in alone], seed, room)
+
+    def try_batches(self, batches, seed, room):
+        """Tries batches beside each other, and returns the edits that they leave undecided."""
+        self.beside = max(1, min(self.lanes.jobs(), len(batches)))
+        with ThreadPoolExecutor(self.beside) as pool:
+            left = pool.map(lambda it: self.try_batch(*it, seed, room), batches)
+            return [edit for it in left for edit in it]
 
     def proved_before(self, edits, seed):
         """Those of the edits whose functions are proved in the crate as it stands: all or none, but for those
@@ -187,10 +199,9 @@ class Trial:
         """Tries these edits in one check, and returns those that it leaves undecided."""
         start, left = time.monotonic(), []
         if os.listdir(seed):
-            over = f"{room}/over"
-            linked(seed, over)
-            status, lines = self.check(batch[0].name, batch, texts, over)
-            shutil.rmtree(over)
+            with tempfile.TemporaryDirectory(dir=room) as over:
+                linked(seed, f"{over}/seed")
+                status, lines = self.check(batch[0].name, batch, texts, f"{over}/seed")
         else:
             # what is proved beside the wrong bodies need not be proved again
             status, lines = self.check(batch[0].name, batch, texts, seed)
@@ -242,7 +253,8 @@ class Trial:
                 with open(f"{room}/{path}", "w", encoding="utf-8") as it:
                     it.write(texts.get(path) or self.crate.read(path))
             paths = sorted({it.path for it in edits}) or [""]
-            status, lines = kit.check(self.crate, room, kept, paths, self.lanes.jobs())
+            jobs = max(1, self.lanes.jobs() // self.beside)
+            status, lines = kit.check(self.crate, room, kept, paths, jobs)
         said = option(self.options, "--said")
         if said:
             os.makedirs(said, exist_ok=True)
