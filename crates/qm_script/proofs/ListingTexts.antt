@@ -1,9 +1,9 @@
 -- Texts of listings: one document more, and several.
-use Rattle.std.proofs.Common.{◌≡◌, ℕ, ℤ, ◌+◌, ◌<◌, ◌^◌, List, [], ◌∷◌, ◌++◌, Option, length, map, ap, sym, ◌∙◌, append_assoc, arith, refl, length-append, take}
+use Rattle.std.proofs.Common.{◌≡◌, ℕ, ℤ, ◌+◌, ◌<◌, ◌^◌, List, [], ◌∷◌, ◌++◌, Option, None, Some, length, map, ap, sym, ◌∙◌, append_assoc, arith, refl, length-append, take}
 use Rattle.std.proofs.Common.{get_or, Bool, true, false, ◌==◌, zero, suc}
 use Rattle.std.proofs.lemmas.Bool.{eqb-true, false≢true}
 use Rattle.std.specs.List.{join_with_byte}
-use Rattle.std.specs.Fmt.{decimal}
+use Rattle.std.specs.Fmt.{decimal, signed_decimal}
 use Rattle.std.proofs.lemmas.Fmt.{decimal_nonempty}
 use Rattle.std.proofs.lemmas.List.{map-append, take_more}
 use Rattle.qm_script.specs.Text.{numbered}
@@ -33,16 +33,37 @@ IsListing-first [] [] new item is empty small e = record { listed = e; begun = �
 IsListing-first (i ∷ items) [] new item is empty small e = let no : i ∷ items ≡ [] = is.begun refl in cc
 IsListing-first items (x ∷ text) new item is empty small e = absurd (omega arith)
 
+-- an item more stands behind a space
+listing-push : (i : Item) (items : List Item) (item : Item) →
+    join_with_byte 32 (map item_text ((i ∷ items) ++ item ∷ [])) ≡ join_with_byte 32 (map item_text (i ∷ items)) ++ (32 ∷ item_text item)
+listing-push i items item =
+    ap (λ ts. join_with_byte 32 (item_text i ∷ ts)) (map-append item_text items (item ∷ []))
+    ∙ join_with_byte-push 32 (item_text i) (map item_text items) (item_text item)
+
 -- each further one comes after a space
 pub IsListing-next : (items : List Item) (text new : List ℕ) (item : Item) → IsListing items text →
     0 < length text → new ≡ (text ++ 32 ∷ []) ++ item_text item → IsListing (items ++ item ∷ []) new
 IsListing-next [] text new item is some e = absurd (omega (arith, ap length is.listed))
 IsListing-next (i ∷ items) text new item is some e = record {
-  listed = e ∙ append_assoc text (32 ∷ []) (item_text item) ∙ ap (λ t. t ++ (32 ∷ item_text item)) is.listed
-      ∙ sym (ap (λ ts. join_with_byte 32 (item_text i ∷ ts)) (map-append item_text items (item ∷ []))
-      ∙ join_with_byte-push 32 (item_text i) (map item_text items) (item_text item));
+  listed = e ∙ append_assoc text (32 ∷ []) (item_text item) ∙ ap (λ t. t ++ (32 ∷ item_text item)) is.listed ∙ sym (listing-push i items item);
   begun = λ h. absurd (omega (arith, ap length e, length-append (text ++ 32 ∷ []) (item_text item), length-append text (32 ∷ [])));
 }
+
+-- the last one gets its score, behind a colon
+pub IsListing-scored : (items : List Item) (text new : List ℕ) (d : ℕ) (s : ℤ) → IsListing (items ++ (d, None) ∷ []) text →
+    new ≡ text ++ (58 ∷ signed_decimal s) → IsListing (items ++ (d, Some s) ∷ []) new
+IsListing-scored [] text new d s is e = record {
+  listed = e ∙ ap (λ t. t ++ (58 ∷ signed_decimal s)) is.listed ∙ append_assoc (decimal d) [] (58 ∷ signed_decimal s);
+  begun = λ h. absurd (omega (arith, ap length e, length-append text (58 ∷ signed_decimal s)));
+}
+IsListing-scored (i ∷ items) text new d s is e =
+    let front = join_with_byte 32 (map item_text (i ∷ items)) in
+    record {
+      listed = e ∙ ap (λ t. t ++ (58 ∷ signed_decimal s)) (is.listed ∙ listing-push i items (d, None))
+          ∙ append_assoc front (32 ∷ item_text (d, None)) (58 ∷ signed_decimal s)
+          ∙ ap (λ t. front ++ (32 ∷ t)) (append_assoc (decimal d) [] (58 ∷ signed_decimal s)) ∙ sym (listing-push i items (d, Some s));
+      begun = λ h. absurd (omega (arith, ap length e, length-append text (58 ∷ signed_decimal s)));
+    }
 
 -- a loop over the documents of a segment: one more
 pub listing-more : {X : Type 0} (make : X → Item) (items : List Item) (first : ℕ) (found : List X) (i : ℕ) (d : X) → i < length found →

@@ -1,5 +1,5 @@
 -- What a query finds in several segments, by what it is asked under.
-use Rattle.std.specs.Prelude.{◌≡◌, ℕ, ℤ, List, ◌++◌, Option, String, drop, string_bytes, take}
+use Rattle.std.specs.Prelude.{◌≡◌, ℕ, ℤ, List, ◌++◌, OnOk, Option, Result, String, drop, string_bytes, take}
 use Rattle.std.specs.Fmt.{decimal}
 use Rattle.std.specs.Global.{Global}
 use Rattle.qm_postings.specs.Segment.{Segment}
@@ -36,6 +36,6 @@ found_best count enable query segments = best_listed count (tree_of enable query
 abbrev pub found_alive : EnableScoring Searched → Query → List Segment → ℕ
 found_alive enable query segments = alive_count (tree_of enable query) segments
 
--- a text, and behind what it was a number in decimal digits
-abbrev pub AddsNumber : String Global → String Global → ℕ → Type 0
-AddsNumber before after n = string_bytes after ≡ string_bytes before ++ decimal n
+-- Where the call succeeds, the text has a number in decimal digits behind what it was.
+abbrev pub AddsNumber : {T E : Type 0} → Result T E → ℕ → String Global → String Global → Type 0
+AddsNumber result n before after = OnOk result (string_bytes after ≡ string_bytes before ++ decimal n)

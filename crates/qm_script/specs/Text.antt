@@ -1,7 +1,8 @@
 -- The texts that the program writes.
-use Rattle.std.specs.Prelude.{◌≡◌, ◌+◌, ℕ, ℤ, List, [], ◌∷◌, ◌++◌, Option, None, Some, OnOk, Result, length, map}
+use Rattle.std.specs.Prelude.{◌≡◌, ◌+◌, ℕ, ℤ, List, [], ◌∷◌, ◌++◌, Option, None, Some, OnOk, Result, String, length, map, string_bytes}
 use Rattle.std.specs.List.{join_with_byte}
 use Rattle.std.specs.Fmt.{decimal, signed_decimal}
+use Rattle.std.specs.Global.{Global}
 
 -- a colon and a score, where there is one
 abbrev pub score_text : Option ℤ → List ℕ
@@ -25,11 +26,16 @@ pub record IsListing (items : List (ℕ × Option ℤ)) (text : List ℕ) : Type
   pub listed : text ≡ listing_text items
   pub begun : length text ≡ 0 → items ≡ []
 
+-- Where the call succeeds, the text lists these.
+abbrev pub WritesListing : {T E : Type 0} → Result T E → List (ℕ × Option ℤ) → String Global → Type 0
+WritesListing result items text = OnOk result (IsListing items (string_bytes text))
+
 -- Where the call succeeds, what the text listed before has these behind it.
-abbrev pub AddsToListing : {T E : Type 0} → Result T E → List (ℕ × Option ℤ) → List ℕ → List ℕ → Type 0
+abbrev pub AddsToListing : {T E : Type 0} → Result T E → List (ℕ × Option ℤ) → String Global → String Global → Type 0
 AddsToListing result more before after =
-    (items : List (ℕ × Option ℤ)) → IsListing items before → OnOk result (IsListing (items ++ more) after)
+    (items : List (ℕ × Option ℤ)) → IsListing items (string_bytes before) → OnOk result (IsListing (items ++ more) (string_bytes after))
 
 -- what the text listed before has these behind it
-abbrev pub ListsMore : List (ℕ × Option ℤ) → List ℕ → List ℕ → Type 0
-ListsMore more before after = (items : List (ℕ × Option ℤ)) → IsListing items before → IsListing (items ++ more) after
+abbrev pub ListsMore : List (ℕ × Option ℤ) → String Global → String Global → Type 0
+ListsMore more before after =
+    (items : List (ℕ × Option ℤ)) → IsListing items (string_bytes before) → IsListing (items ++ more) (string_bytes after)

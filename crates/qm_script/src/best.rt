@@ -9,7 +9,7 @@ ghost use Rattle.qm_index.specs.Parts.{segments_of};
 ghost use Rattle.qm_script.specs.Found.{found_best};
 ghost use Rattle.qm_script.specs.Parts.{document_count};
 ghost use Rattle.qm_script.specs.ProgramNumbers.{most_segments};
-ghost use Rattle.qm_script.specs.Text.{AddsToListing, IsListing};
+ghost use Rattle.qm_script.specs.Text.{AddsToListing, WritesListing};
 ghost use Rattle.qm_script.specs.Under.{IsBestRefusal, IsWithinBest};
 
 use crate::listing::{reserve_line_end, write_score};
@@ -32,7 +32,7 @@ pub(crate) fn write_best(
 ) -> Result<(), QueryError>
     requires few { document_count (segments_of searcher.now.segments) ≤ most_segments * TERMINATED }
     requires empty { length (string_bytes text.old) ≡ 0 }
-    ensures listed { OnOk result (IsListing (found_best count (with_scores searcher.now) (query_of query.now) (segments_of searcher.now.segments)) (string_bytes text.new)) }
+    ensures listed { WritesListing result (found_best count (with_scores searcher.now) (query_of query.now) (segments_of searcher.now.segments)) text.new }
     ensures within { OnOk result (IsWithinBest count (with_scores searcher.now) (query_of query.now)) }
     ensures refused { IfErr result (IsBestRefusal count (with_scores searcher.now) (query_of query.now)) }
 {
@@ -67,7 +67,7 @@ fn write_found(
 ) -> Result<(), AllocError>
     requires there { All (λ f. f.1.segment_ord < length firsts.now) found.now }
     requires few { All (λ n. n ≤ most_segments * TERMINATED) firsts.now }
-    ensures { AddsToListing result (map (found_item firsts.now) found.now) (string_bytes text.old) (string_bytes text.new) }
+    ensures { AddsToListing result (map (found_item firsts.now) found.now) text.old text.new }
 {
     for (score, address) in found {
         let first = firsts[address.segment_ord as usize];

@@ -23,7 +23,7 @@ pub(crate) fn write_count(
     query: &AnyQuery,
     text: &mut String,
 ) -> Result<(), QueryError>
-    ensures count { OnOk result (AddsNumber text.old text.new (found_alive (without_scores searcher.now) (query_of query.now) (segments_of searcher.now.segments))) }
+    ensures count { AddsNumber result (found_alive (without_scores searcher.now) (query_of query.now) (segments_of searcher.now.segments)) text.old text.new }
     ensures within { OnOk result (IsWithinScores (without_scores searcher.now) (query_of query.now)) }
     ensures refused { IfErr result (IsListingRefusal (without_scores searcher.now) (query_of query.now)) }
 {

@@ -8,7 +8,7 @@ ghost use Rattle.qm_index.specs.Parts.{segments_of};
 ghost use Rattle.qm_script.specs.Found.{found_matches};
 ghost use Rattle.qm_script.specs.Parts.{document_count};
 ghost use Rattle.qm_script.specs.ProgramNumbers.{most_segments};
-ghost use Rattle.qm_script.specs.Text.{AddsToListing, IsListing, ListsMore, numbered};
+ghost use Rattle.qm_script.specs.Text.{AddsToListing, ListsMore, WritesListing, numbered};
 ghost use Rattle.qm_script.specs.Under.{IsListingRefusal, IsWithinScores};
 ghost use Rattle.qm_weight.specs.Scorers.{IsRefusalOf};
 ghost use Rattle.qm_weight.specs.Tree.{is_scoring};
@@ -36,7 +36,7 @@ pub(crate) fn write_matches(
 ) -> Result<(), QueryError>
     requires few { document_count (map (λ r. r.segment) segments.now) ≤ most_segments * TERMINATED }
     requires empty { length (string_bytes text.old) ≡ 0 }
-    ensures listed { OnOk result (IsListing (found_matches enable_scoring.entry (query_of query.now) (segments_of segments.now)) (string_bytes text.new)) }
+    ensures listed { WritesListing result (found_matches enable_scoring.entry (query_of query.now) (segments_of segments.now)) text.new }
     ensures within { OnOk result (IsWithinScores enable_scoring.entry (query_of query.now)) }
     ensures refused { IfErr result (IsListingRefusal enable_scoring.entry (query_of query.now)) }
 {
@@ -67,7 +67,7 @@ fn write_listing(
     requires few { document_count (map (λ r. r.segment) segments.now) ≤ most_segments * TERMINATED }
     requires empty { length (string_bytes text.old) ≡ 0 }
     requires scoring { is_scored ≡ true → IsTrue (is_scoring (tree_of weight.now)) }
-    ensures listed { OnOk result (IsListing (all_listed is_scored (tree_of weight.now) (map (λ r. r.segment) segments.now)) (string_bytes text.new)) }
+    ensures listed { WritesListing result (all_listed is_scored (tree_of weight.now) (map (λ r. r.segment) segments.now)) text.new }
     ensures refused { IfErr result (IsRefusalOf (tree_of weight.now) 1) }
 {
     let mut first: u64 = 0;
@@ -89,7 +89,7 @@ fn write_segment(
 ) -> Result<(), QueryError>
     requires few { first ≤ most_segments * TERMINATED }
     requires scoring { is_scored ≡ true → IsTrue (is_scoring (tree_of weight.now)) }
-    ensures listed { AddsToListing result (listed is_scored (tree_of weight.now) first segment.now.segment) (string_bytes text.old) (string_bytes text.new) }
+    ensures listed { AddsToListing result (listed is_scored (tree_of weight.now) first segment.now.segment) text.old text.new }
     ensures refused { IfErr result (IsRefusalOf (tree_of weight.now) 1) }
 {
     if is_scored {
@@ -109,7 +109,7 @@ fn write_scored(
 ) -> Result<(), QueryError>
     requires few { first ≤ most_segments * TERMINATED }
     requires scoring { IsTrue (is_scoring (tree_of weight.now)) }
-    ensures listed { AddsToListing result (listed true (tree_of weight.now) first segment.now.segment) (string_bytes text.old) (string_bytes text.new) }
+    ensures listed { AddsToListing result (listed true (tree_of weight.now) first segment.now.segment) text.old text.new }
     ensures refused { IfErr result (IsRefusalOf (tree_of weight.now) 1) }
 {
     let mut listing = Listing::new(alloc, first, text);
@@ -130,7 +130,7 @@ fn write_unscored(
     text: &mut String,
 ) -> Result<(), QueryError>
     requires few { first ≤ most_segments * TERMINATED }
-    ensures listed { AddsToListing result (listed false (tree_of weight.now) first segment.now.segment) (string_bytes text.old) (string_bytes text.new) }
+    ensures listed { AddsToListing result (listed false (tree_of weight.now) first segment.now.segment) text.old text.new }
     ensures refused { IfErr result (IsRefusalOf (tree_of weight.now) 1) }
 {
     let mut listing = Listing::new(alloc, first, text);
@@ -184,7 +184,7 @@ impl Listing {
     fn add_documents(&mut self, documents: &[DocId])
         ensures before { self.new.is_refused ≡ false → self.old.is_refused ≡ false }
         ensures first { self.new.first ≡ self.old.first }
-        ensures listed { self.new.is_refused ≡ false → ListsMore (numbered self.old.first (map (λ d. (d, None)) documents.now)) (string_bytes self.old.text) (string_bytes self.new.text) }
+        ensures listed { self.new.is_refused ≡ false → ListsMore (numbered self.old.first (map (λ d. (d, None)) documents.now)) self.old.text self.new.text }
     {
         if !self.is_refused {
             self.is_refused = write_documents(&mut self.text, self.first, documents).is_err();
@@ -195,7 +195,7 @@ impl Listing {
     fn add_score(&mut self, document: DocId, score: Score)
         ensures before { self.new.is_refused ≡ false → self.old.is_refused ≡ false }
         ensures first { self.new.first ≡ self.old.first }
-        ensures listed { self.new.is_refused ≡ false → ListsMore ((self.old.first + document, Some score) ∷ []) (string_bytes self.old.text) (string_bytes self.new.text) }
+        ensures listed { self.new.is_refused ≡ false → ListsMore ((self.old.first + document, Some score) ∷ []) self.old.text self.new.text }
     {
         if !self.is_refused {
             let number = self.first + u64::from(document);
@@ -206,7 +206,7 @@ impl Listing {
 
 fn write_documents(text: &mut String, first: u64, found: &[DocId]) -> Result<(), AllocError>
     requires { first ≤ most_segments * TERMINATED }
-    ensures { AddsToListing result (numbered first (map (λ d. (d, None)) found.now)) (string_bytes text.old) (string_bytes text.new) }
+    ensures { AddsToListing result (numbered first (map (λ d. (d, None)) found.now)) text.old text.new }
 {
     for document in found {
         write_document(text, first + u64::from(*document))?;
@@ -221,7 +221,7 @@ pub(crate) fn write_scores(
     found: &[(DocId, Score)],
 ) -> Result<(), AllocError>
     requires { first ≤ most_segments * TERMINATED }
-    ensures { AddsToListing result (numbered first (map (λ p. (p.0, Some p.1)) found.now)) (string_bytes text.old) (string_bytes text.new) }
+    ensures { AddsToListing result (numbered first (map (λ p. (p.0, Some p.1)) found.now)) text.old text.new }
 {
     for (document, score) in found {
         write_score(text, first + u64::from(*document), *score)?;
@@ -231,7 +231,7 @@ pub(crate) fn write_scores(
 
 // Writes a document's number, behind a space where something stands before it.
 fn write_document(text: &mut String, document: u64) -> Result<(), AllocError>
-    ensures { AddsToListing result ((document, None) ∷ []) (string_bytes text.old) (string_bytes text.new) }
+    ensures { AddsToListing result ((document, None) ∷ []) text.old text.new }
 {
     if !text.as_str().is_empty() {
         text.push(' ')?;
@@ -241,10 +241,9 @@ fn write_document(text: &mut String, document: u64) -> Result<(), AllocError>
 
 /// The same with its score, behind a colon.
 pub(crate) fn write_score(text: &mut String, document: u64, score: Score) -> Result<(), AllocError>
-    ensures { AddsToListing result ((document, Some score) ∷ []) (string_bytes text.old) (string_bytes text.new) }
+    ensures { AddsToListing result ((document, Some score) ∷ []) text.old text.new }
 {
-    if !text.as_str().is_empty() {
-        text.push(' ')?;
-    }
-    write!(text, "{document}:{score}")
+    write_document(text, document)?;
+    text.push(':')?;
+    write!(text, "{score}")
 }

@@ -5,12 +5,13 @@ ghost use Rattle.qm_docset.specs.declared.numbers.TheConstants.{TERMINATED};
 ghost use Rattle.qm_query.specs.EnableScoring.{is_enabled};
 ghost use Rattle.qm_query.specs.Query.{query_of};
 ghost use Rattle.qm_script.specs.AllSegments.{listed};
+ghost use Rattle.qm_script.specs.BestListed.{scored_item};
 ghost use Rattle.qm_index.specs.Parts.{segments_of};
 ghost use Rattle.qm_script.specs.Found.{found_above_in_parts};
 ghost use Rattle.qm_script.specs.Parts.{document_count};
 ghost use Rattle.qm_script.specs.ProgramNumbers.{most_segments};
 ghost use Rattle.qm_script.specs.Pruned.{all_pruned, entry_item, parts_pruned, rising, threshold_after};
-ghost use Rattle.qm_script.specs.Text.{AddsToListing, IsListing};
+ghost use Rattle.qm_script.specs.Text.{AddsToListing, WritesListing};
 ghost use Rattle.qm_script.specs.Under.{IsListingRefusal, IsWithinScores};
 ghost use Rattle.qm_weight.specs.Scorers.{IsRefusalOf};
 ghost use Rattle.qm_weight.specs.Tree.{is_scoring, list};
@@ -44,7 +45,7 @@ pub(crate) fn write_pruned(
     requires few { document_count (map (λ r. r.segment) segments.now) ≤ most_segments * TERMINATED }
     requires empty { length (string_bytes text.old) ≡ 0 }
     requires scoring { is_enabled enable_scoring ≡ true }
-    ensures listed { OnOk result (IsListing (found_above_in_parts threshold enable_scoring.entry (query_of query.now) ended (segments_of segments.now)) (string_bytes text.new)) }
+    ensures listed { WritesListing result (found_above_in_parts threshold enable_scoring.entry (query_of query.now) ended (segments_of segments.now)) text.new }
     ensures within { OnOk result (IsWithinScores enable_scoring.entry (query_of query.now)) }
     ensures refused { IfErr result (IsListingRefusal enable_scoring.entry (query_of query.now)) }
 {
@@ -66,7 +67,7 @@ fn write_runs(
     requires empty { length (string_bytes text.old) ≡ 0 }
     requires scoring { IsTrue (is_scoring (tree_of weight.now)) }
     ensures counted { IfOk result (λ number. number ≡ document_count (map (λ r. r.segment) segments.now)) }
-    ensures listed { OnOk result (IsListing (all_pruned threshold (tree_of weight.now) (map (λ r. r.segment) segments.now)) (string_bytes text.new)) }
+    ensures listed { WritesListing result (all_pruned threshold (tree_of weight.now) (map (λ r. r.segment) segments.now)) text.new }
     ensures refused { IfErr result (IsRefusalOf (tree_of weight.now) 1) }
 {
     let mut first: u64 = 0;
@@ -89,7 +90,7 @@ fn write_parts(
 ) -> Result<(), QueryError>
     requires few { first + document_count (map (λ r. r.segment) parts.now) ≤ most_segments * TERMINATED }
     requires scoring { IsTrue (is_scoring (tree_of weight.now)) }
-    ensures listed { AddsToListing result (parts_pruned threshold (tree_of weight.now) first (map (λ r. r.segment) parts.now)) (string_bytes text.old) (string_bytes text.new) }
+    ensures listed { AddsToListing result (parts_pruned threshold (tree_of weight.now) first (map (λ r. r.segment) parts.now)) text.old text.new }
     ensures refused { IfErr result (IsRefusalOf (tree_of weight.now) 1) }
 {
     let mut next = first;
@@ -114,7 +115,7 @@ fn write_run(
     requires few { first ≤ most_segments * TERMINATED }
     requires scoring { IsTrue (is_scoring (tree_of weight.now)) }
     ensures left { IfOk result (λ left. left ≡ threshold_after threshold (rising threshold (listed true (tree_of weight.now) first segment.now.segment))) }
-    ensures listed { AddsToListing result (rising threshold (listed true (tree_of weight.now) first segment.now.segment)) (string_bytes text.old) (string_bytes text.new) }
+    ensures listed { AddsToListing result (rising threshold (listed true (tree_of weight.now) first segment.now.segment)) text.old text.new }
     ensures refused { IfErr result (IsRefusalOf (tree_of weight.now) 1) }
 {
     let found = rising_scores(alloc, segment, weight, threshold)?;
@@ -133,7 +134,7 @@ fn rising_scores(
     threshold: Score,
 ) -> Result<Vec<(DocId, Score)>, QueryError>
     requires { IsTrue (is_scoring (tree_of weight.now)) }
-    ensures found { IfOk result (λ found. map (λ p. (p.0, Some p.1)) found.items ≡ rising threshold (map entry_item (list (tree_of weight.now) 1 segment.now.segment))) }
+    ensures found { IfOk result (λ found. map scored_item found.items ≡ rising threshold (map entry_item (list (tree_of weight.now) 1 segment.now.segment))) }
     ensures refused { IfErr result (IsRefusalOf (tree_of weight.now) 1) }
 {
     let mut rising = Rising {

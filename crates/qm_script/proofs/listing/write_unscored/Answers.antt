@@ -29,7 +29,7 @@ returns-clause-listed c = λ items is.
     let before : h.0.now.is_refused ≡ false → f.0.now.is_refused ≡ false = search rules in
     let first : h.0.now.first ≡ f.0.now.first = search rules in
     let more : h.0.now.is_refused ≡ false →
-    ListsMore (numbered f.0.now.first (map plain_item slice)) (string_bytes f.0.now.text) (string_bytes h.0.now.text) = search rules in
+    ListsMore (numbered f.0.now.first (map plain_item slice)) f.0.now.text h.0.now.text = search rules in
     let same : h.0.ghost_name ≡ f.0.ghost_name = search rules in (
       λ ok.
           let so_far = now.0 (before ok) in (
