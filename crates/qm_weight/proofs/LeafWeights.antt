@@ -1,5 +1,5 @@
 -- What the leaves of a weight weigh are scores, since each keeps its weight as one.
-use Rattle.std.specs.Prelude.{ℕ, Bool, true, false, Option, None, Some}
+use Rattle.std.specs.Prelude.{Bool, true, false, Option, None, Some}
 use Rattle.qm_term.specs.declared.bm25.Bm25Weight.{Bm25Weight}
 use Rattle.qm_weight.specs.Tree.{ClauseLeavesFit, LeavesFit, WeighsScore}
 use Rattle.qm_weight.specs.Weights.{clauses_of, tree_of, weighing_if, weighing_of}

@@ -1,5 +1,5 @@
 -- The scorers of a Boolean's clauses where they are of terms: what they list together, and their bounds.
-use Rattle.std.specs.Prelude.{◌≡◌, ℕ, ℤ, ◌+◌, ◌<◌, ◌≤◌, max, All, IfErr, IsErrOf, List, [], ◌∷◌, ◌++◌, length, map}
+use Rattle.std.specs.Prelude.{◌≡◌, ℕ, ℤ, ◌<◌, ◌≤◌, max, All, IfErr, IsErrOf, List, [], ◌∷◌, ◌++◌, length, map}
 use Rattle.std.proofs.Common.{Err, Ok, OnOk, Result, append_assoc, arith, refl, sym, ap, subst, ◌∙◌, inl, inr}
 use Rattle.std.proofs.lemmas.List.{append-nil}
 use Rattle.std.proofs.lemmas.Bool.{cases_eq}

@@ -16,11 +16,12 @@ ghost use Rattle.qm_weight.specs.Weights.{term_tree, term_weighing, weight_term,
 use crate::bounds::bound_of_term;
 use crate::counts::count_alive;
 use crate::explanations::add_term;
+use crate::leaf_scorers::scorer_of_leaf;
 use crate::shared_runs::{
     StandsFor, check_document, find_in_leaf, prune_leaf, run_leaf, run_leaf_slices,
 };
 use crate::weight::Weight;
-use qm_combine::{EmptyScorer, Scorer};
+use qm_combine::Scorer;
 use qm_docset::{DocId, DocSet, Score, TERMINATED};
 use qm_postings::SegmentReader;
 use qm_schema::{IndexRecordOption, QueryError, Term};
@@ -131,10 +132,9 @@ impl Weight for TermWeight {
         reader: &'a SegmentReader,
         boost: Score,
     ) -> Result<AnyScorer<'a, S>, QueryError> {
-        match self.term_scorer(reader, boost as u64)? {
-            Some(scorer) => Ok(AnyScorer::Term(Box::new(alloc, scorer)?)),
-            None => Ok(AnyScorer::Empty(EmptyScorer)),
-        }
+        let boost = boost as u64;
+        let leaf = self.term_scorer(reader, boost)?;
+        scorer_of_leaf(self, alloc, reader, leaf, boost)
     }
 
     fn fits(&self, boost: Score) -> bool {

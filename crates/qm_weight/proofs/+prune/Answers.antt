@@ -12,20 +12,18 @@ use Rattle.qm_weight.specs.declared.boost_weight.BoostWeight as kq
 use Rattle.qm_weight.proofs.ClauseSteps.{row_clauses-items}
 use Rattle.qm_weight.proofs.Nodes.{list-boost}
 use Rattle.qm_weight.proofs.OneClauses.{list-one_weight}
-use Rattle.qm_weight.proofs.RunSteps.{MayPrune-at, MayPruneTree-from, MayPruneTree-read, PrunesTree-from}
+use Rattle.qm_weight.proofs.RunSteps.{MayPrune-at, MayPruneTree-from, PrunesTree-from}
 use Rattle.qm_weight.proofs.+prune.Goals as goal
 
 pub any_weight::prune_any-prune_boost-requires : goal.any_weight::prune_any-prune_boost-requires
 any_weight::prune_any-prune_boost-requires g t c κs within =
-    let words = fnmut.words g.row.F g.F.FnMut in
     let same : boost_tree c.in-Boost.node ≡ tree_of c.args.weight.now = search (rules, w.the_lemmas) in (
       search (rules, w.the_lemmas),
       (
         search rules,
         (
           c.requires.boost,
-          MayPruneTree-read words.step words.pre _ _ c.args.boost c.args.reader.now.segment c.args.threshold c.args.callback.now
-              c.ranges.threshold same c.requires.allowed,
+          rw (same, to_z-of_z w64 c.args.threshold c.ranges.threshold) c.requires.allowed,
         ),
       ),
     )
@@ -33,15 +31,13 @@ any_weight::prune_any-prune_boost-requires g t c κs within =
 pub any_weight::prune_any-prune_boolean-requires :
     goal.any_weight::prune_any-prune_boolean-requires
 any_weight::prune_any-prune_boolean-requires g t c κs within =
-    let words = fnmut.words g.row.F g.F.FnMut in
     let same : boolean_tree c.in-Boolean.node ≡ tree_of c.args.weight.now = search (rules, w.the_lemmas, row_clauses-items) in (
       search (rules, w.the_lemmas),
       (
         search rules,
         (
           c.requires.boost,
-          MayPruneTree-read words.step words.pre _ _ c.args.boost c.args.reader.now.segment c.args.threshold c.args.callback.now
-              c.ranges.threshold same c.requires.allowed,
+          rw (same, to_z-of_z w64 c.args.threshold c.ranges.threshold) c.requires.allowed,
         ),
       ),
     )

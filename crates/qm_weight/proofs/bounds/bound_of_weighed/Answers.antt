@@ -1,5 +1,5 @@
 -- The products of the boost with those of the weight.
-use Rattle.std.proofs.Common.{rules, ◌≡◌, ◌*◌, ◌≤◌, ◌∙◌, arith, max}
+use Rattle.std.proofs.Common.{rules, ◌≡◌, ◌*◌, ◌≤◌, ◌∙◌, max}
 use Rattle.qm_docset.specs.Entry.{greatest_score}
 use Rattle.qm_term.specs.Bm25Weight.{weighing}
 use Rattle.qm_weight.proofs.FittingBounds.{bound-weighed, fits-weighed, unfit-weighed}

@@ -1,6 +1,6 @@
-use Rattle.std.proofs.Common.{rules, ◌≡◌, ◌<◌, All, Err, IsErrOf, List, ap, arith, map, subst, sym, w64, ◌∙◌}
+use Rattle.std.proofs.Common.{rules, ◌≡◌, All, Err, List, ap, arith, map, subst, sym, w64, ◌∙◌}
 use Rattle.std.proofs.lemmas.Int.{to_z-of_z}
-use Rattle.qm_docset.specs.Entry.{Entry, greatest_score}
+use Rattle.qm_docset.specs.Entry.{Entry}
 use Rattle.qm_docset.specs.Gather.{gather}
 use Rattle.qm_schema.specs.declared.error.QueryError.TheVariants.{ScoreBound}
 use Rattle.qm_scorer.specs.Tree.{tree_entries}
