@@ -16,7 +16,7 @@ sys.dont_write_bytecode = True
 from cases import PROGRAMS, ROOT
 
 # the programs, those first that take the longest to build
-BUILT = ["birch", "cases_queries", "qm_search", "cases_postings", "cases_cursors"]
+BUILT = ["birch", "cases_queries", "qm_search", "cases_scripts", "cases_postings", "cases_cursors"]
 
 
 def build(room, name):

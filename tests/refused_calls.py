@@ -35,6 +35,8 @@ BLOCK = re.compile(rf"(?:pub )?(impl|trait)\b{GENERICS} (?:(\w+){GENERICS} for )
 FUNCTION = re.compile(r" *(pub )?fn (\w+)")
 # what a block or a row of a case begins with where requests are refused
 EACH, NONE = "refused each ", "takes no memory"
+# a row that is all about such refusals
+EACH_OF_A_RUN = "each request fails"
 
 
 def exported(crate):
@@ -126,7 +128,7 @@ def rows_of(path):
         if line.startswith(" ") and said == NONE:
             is_none = True
             continue
-        is_each, takes_none = said.startswith(EACH), is_none or said.startswith(f"{NONE} ")
+        is_each, takes_none = said.startswith((EACH, EACH_OF_A_RUN)), is_none or said.startswith(f"{NONE} ")
         words = re.sub(f"^({EACH}|{NONE} )", "", said).split()
         how = "each" if is_each else ("all" if answer == "refused Memory" else "none") if takes_none else ""
         if line.startswith(" "):
@@ -211,7 +213,7 @@ def main():
                 faults.append(f"{call}: no public call has this name, or it can't be refused")
             if how == "bare" and calls.get(call):
                 faults.append(f"{call}: it is handed an allocator")
-        if how in ("bare", "runs"):
+        if how == "bare":
             continue
         if not patterns:
             faults.append(f"{call}: the table doesn't say by which words rows name it")

@@ -1,0 +1,50 @@
+//! Bytes as rows spell and show them.
+
+use cases::Fault;
+use std::alloc::AllocError;
+
+/// The first word of a row, and what stands behind the space after it.
+pub fn cut<'a>(text: &'a str) -> (&'a str, &'a str) {
+    match text.split_once(' ') {
+        Some(parts) => parts,
+        None => (text, ""),
+    }
+}
+
+/// Puts the bytes that a row spells behind others: each `\x` with two digits is a byte. No end of a line may
+/// be among them.
+pub fn read_bytes(spelled: &str, bytes: &mut Vec<u8>) -> Result<(), Fault> {
+    let mut is_first = true;
+    for part in spelled.split("\\x") {
+        let rest = if is_first {
+            part
+        } else {
+            let (digits, rest) = part.split_at_checked(2).ok_or(Fault::NotUnderstood)?;
+            match u8::from_str_radix(digits, 16) {
+                Ok(byte) if byte != b'\n' => bytes.push(byte)?,
+                _ => return Err(Fault::NotUnderstood),
+            }
+            rest
+        };
+        bytes.extend_from_slice(rest.as_bytes())?;
+        is_first = false;
+    }
+    Ok(())
+}
+
+/// Writes bytes behind a text, each end of a line as `\n`, and `nothing` where there are none.
+pub fn show_bytes(bytes: &[u8], text: &mut String) -> Result<(), AllocError> {
+    if bytes.is_empty() {
+        return text.push_str("nothing");
+    }
+    for byte in bytes {
+        if *byte == b'\n' {
+            text.push_str("\\n")?;
+        } else if *byte == b' ' || byte.is_ascii_graphic() {
+            text.push(char::from(*byte))?;
+        } else {
+            write!(text, "\\x{byte:02x}")?;
+        }
+    }
+    Ok(())
+}
