@@ -98,9 +98,12 @@ fn drop_unwritten<W: Write + Drop>(buffer: BufWriter<W>) {
 ///
 /// Before more input is asked for, all lines that were read whole are answered, and the answers
 /// written and flushed: so the output is best a buffer, and nothing is left in it once the input has
-/// ended. The first error ends the run. What was answered before it has been written and flushed
-/// then, and after `Write` nothing more is written. Costs what the lines cost, and one flush for each
-/// read.
+/// ended. A read or a write that is interrupted is made again, a flush is not. Costs what the lines
+/// cost, and one flush for each read.
+///
+/// The first error ends the run. Behind `Read` what was answered before has been written and flushed;
+/// behind `Memory` too, unless the output answers an error to that, which is not told then. Behind
+/// `Write` nothing more is written, and what was written since the last flush may be anywhere.
 pub fn run<R: Read, W: Write>(alloc: Global, input: &mut R, output: &mut W) -> Result<u8, RunError>
     ensures answers { IfSome (R.remaining input.old)
         (λ bytes. IfOk result (λ status. IsRun bytes status (W.contents output.old) (W.contents output.new))) }
