@@ -17,6 +17,7 @@ use crate::intersection_node::{
     IntersectionNode, advance_intersection, danger_intersection, score_intersection,
     seek_intersection,
 };
+use crate::leaves::{danger_leaf, score_leaf, seek_leaf};
 use crate::optional_node::{OptionalNode, score_optional};
 use crate::passing::{advance_tree, count_tree, fill_tree, total_tree};
 use crate::union_node::{UnionNode, danger_union, score_union, seek_union};
@@ -124,13 +125,6 @@ fn seek_other<'a, S: Scorer>(scorer: &mut AnyScorer<'a, S>, target: DocId) -> Do
     ensures { Sought S.DocSet target scorer.old scorer.new result }
 {
     match scorer {
-        AnyScorer::Empty(leaf) => leaf.seek(target),
-        AnyScorer::All(leaf) => leaf.seek(target),
-        AnyScorer::Own(leaf) => leaf.seek(target),
-        AnyScorer::Term(leaf) => leaf.seek(target),
-        AnyScorer::BitSet(leaf) => leaf.seek(target),
-        AnyScorer::Phrase(leaf) => leaf.seek(target),
-        AnyScorer::PhrasePrefix(leaf) => leaf.seek(target),
         AnyScorer::Boost(node) => seek_tree(&mut node.inner, target),
         AnyScorer::Const(node) => seek_tree(&mut node.inner, target),
         AnyScorer::RequiredOptional(node) => seek_tree(&mut node.required, target),
@@ -138,6 +132,7 @@ fn seek_other<'a, S: Scorer>(scorer: &mut AnyScorer<'a, S>, target: DocId) -> Do
         AnyScorer::Union(node) => seek_union(node, target),
         AnyScorer::Disjunction(node) => seek_group(node, target),
         AnyScorer::Intersection(node) => seek_intersection(node, target),
+        _ => seek_leaf(scorer, target),
     }
 }
 
@@ -188,13 +183,6 @@ fn danger_other<'a, S: Scorer>(scorer: &mut AnyScorer<'a, S>, target: DocId) -> 
     ensures { Answered S.DocSet target scorer.old scorer.new result }
 {
     match scorer {
-        AnyScorer::Empty(leaf) => leaf.seek_danger(target),
-        AnyScorer::All(leaf) => leaf.seek_danger(target),
-        AnyScorer::Own(leaf) => leaf.seek_danger(target),
-        AnyScorer::Term(leaf) => leaf.seek_danger(target),
-        AnyScorer::BitSet(leaf) => leaf.seek_danger(target),
-        AnyScorer::Phrase(leaf) => leaf.seek_danger(target),
-        AnyScorer::PhrasePrefix(leaf) => leaf.seek_danger(target),
         AnyScorer::Boost(node) => danger_tree(&mut node.inner, target),
         AnyScorer::Const(node) => danger_tree(&mut node.inner, target),
         AnyScorer::RequiredOptional(node) => danger_tree(&mut node.required, target),
@@ -202,6 +190,7 @@ fn danger_other<'a, S: Scorer>(scorer: &mut AnyScorer<'a, S>, target: DocId) -> 
         AnyScorer::Union(node) => danger_union(node, target),
         AnyScorer::Disjunction(node) => danger_group(node, target),
         AnyScorer::Intersection(node) => danger_intersection(node, target),
+        _ => danger_leaf(scorer, target),
     }
 }
 
@@ -232,13 +221,6 @@ fn score_other<'a, S: Scorer>(scorer: &mut AnyScorer<'a, S>) -> u64
     ensures { Scored S.DocSet scorer.old scorer.new result }
 {
     match scorer {
-        AnyScorer::Empty(leaf) => leaf.score() as u64,
-        AnyScorer::All(leaf) => leaf.score() as u64,
-        AnyScorer::Own(leaf) => leaf.score() as u64,
-        AnyScorer::Term(leaf) => leaf.score() as u64,
-        AnyScorer::BitSet(leaf) => leaf.score() as u64,
-        AnyScorer::Phrase(leaf) => leaf.score() as u64,
-        AnyScorer::PhrasePrefix(leaf) => leaf.score() as u64,
         AnyScorer::Boost(node) => score_boost(node),
         AnyScorer::Const(node) => score_const(node),
         AnyScorer::RequiredOptional(node) => score_optional(node),
@@ -246,6 +228,7 @@ fn score_other<'a, S: Scorer>(scorer: &mut AnyScorer<'a, S>) -> u64
         AnyScorer::Union(node) => score_union(node),
         AnyScorer::Disjunction(node) => score_group(node),
         AnyScorer::Intersection(node) => score_intersection(node),
+        _ => score_leaf(scorer),
     }
 }
 

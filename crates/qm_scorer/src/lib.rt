@@ -14,6 +14,7 @@ mod group_builders;
 mod group_node;
 mod intersection_node;
 mod least_docs;
+mod leaves;
 mod optional_node;
 mod passing;
 mod union_node;

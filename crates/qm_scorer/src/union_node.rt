@@ -16,6 +16,7 @@ ghost use Rattle.qm_scorer.specs.declared.union_node.UnionNode.{size-UnionNode};
 
 use crate::any_combiner::AnyCombiner;
 use crate::any_scorer::{AnyScorer, doc_tree, reach_tree, score_tree, seek_tree};
+use crate::leaves::{is_leaf, take_leaf};
 use qm_combine::{SEEK_SPAN, Scorer, Window};
 use qm_docset::{COLLECT_BLOCK_BUFFER_LEN, DocId, Score, SeekDangerResult, TERMINATED};
 
@@ -82,13 +83,10 @@ fn take_other<'a, S: Scorer>(
     requires room { (d : ℕ) → HasRoomFor any_step any_cleared (tree_top S.DocSet member.old) (window_state window.old d) }
     ensures { Swept S.DocSet window.old window.new bound member.old member.new result }
 {
-    match member {
-        AnyScorer::All(leaf) => window.take_in(leaf, bound),
-        AnyScorer::Own(leaf) => window.take_in(leaf, bound),
-        AnyScorer::BitSet(leaf) => window.take_in(leaf, bound),
-        AnyScorer::Phrase(leaf) => window.take_in(leaf, bound),
-        AnyScorer::PhrasePrefix(leaf) => window.take_in(leaf, bound),
-        _ => take_by_steps(window, member, bound),
+    if is_leaf(member) {
+        take_leaf(window, member, bound)
+    } else {
+        take_by_steps(window, member, bound)
     }
 }
 

@@ -16,8 +16,6 @@ use Rattle.qm_docset.specs.declared.docset.SeekDangerResult.TheVariants.{SeekLow
 use Rattle.qm_docset.specs.declared.numbers.TheConstants.{TERMINATED}
 use Rattle.qm_docset.proofs.ExclusionLemmas.{has_document-before, has_document-head}
 use Rattle.qm_docset.proofs.Gathering.{head_document-from}
-use Rattle.qm_combine.specs.AllDocuments.{all_left}
-use Rattle.qm_combine.specs.Constant.{constant_left}
 use Rattle.qm_combine.specs.HeldSum.{held_sum}
 use Rattle.qm_combine.specs.RescoredFacts.{IsSeekAnswer-rescored, head_score-rescored}
 use Rattle.qm_combine.specs.SharedSeek.{StandOn}
@@ -29,29 +27,26 @@ use Rattle.qm_combine.proofs.EachMember.{map-map-set_same, take-map-set_more, ma
 use Rattle.qm_combine.proofs.Leading.{IsSeekAnswer-shared, common_entries-caught_up, common_entries-cut, common_entries-passed, common_entries-sought}
 use Rattle.qm_combine.proofs.Leading.{head_document-together, leader_bound-common_entries, head_score-together}
 use Rattle.qm_combine.proofs.Uniting.{least_head-push, least_head-most, scores_at-more}
-use Rattle.qm_phrase.specs.PhrasePrefixScorer.{phrase_prefix_left}
-use Rattle.qm_phrase.specs.PhraseScorer.{phrase_left}
 use Rattle.qm_term.specs.TermScorer.{scored_left}
 use Rattle.qm_scorer.specs.Group.{IsGroupNode, group_entries, group_lists}
-use Rattle.qm_scorer.specs.Tree.{AreHeads, HasRoom, IsTree, IsTreePlaced, postings_cursors, set_cursors, tree_entries, tree_limits}
+use Rattle.qm_scorer.specs.Tree.{AreHeads, HasRoom, IsTree, IsTreePlaced, tree_entries, tree_limits}
 use Rattle.qm_scorer.specs.Tree.{HasParts, kept_score, tree_head}
 use Rattle.qm_scorer.specs.Tree.{tree_top, united}
 use Rattle.qm_scorer.specs.TreeFacts.{tree-ascends}
 use Rattle.qm_scorer.specs.LeastDocs.{least_of}
 use Rattle.qm_scorer.proofs.GroupHeads.{AreHeads-put, all-reached, head-least, heads-length, least_of-heads, passed-more, scores_at-skipped}
 use Rattle.qm_scorer.proofs.Groups.{HasRoom-moved, group-ended, group-enough, group-moved, group-passed, group-reached, group-there, least_head-from}
-use Rattle.qm_scorer.proofs.Depth.{most-set, same-All, same-BitSet, same-Empty, same-Own, same-Phrase, same-PhrasePrefix, same-Term, size-kept, size-led}
+use Rattle.qm_scorer.proofs.Depth.{most-set, same-Term, size-kept, size-led}
 use Rattle.qm_scorer.proofs.Depth.{size-members, size-others, size-united}
 use Rattle.qm_scorer.proofs.HandedOn.{leaf-scored, leaf-sent}
 use Rattle.qm_scorer.proofs.Heads.{tree-head, boost-fits, tree-here}
 use Rattle.qm_scorer.proofs.Moving.{asked, both_found, on_found, placed_where, same, still_found}
 use Rattle.qm_scorer.proofs.MoveArms.{added, answered-as, answered-leaf, head-rescored, moved-Boost, moved-Const, moved-Disjunction, moved-Exclude}
 use Rattle.qm_scorer.proofs.MoveArms.{moved-Intersection, moved-RequiredOptional, moved-Union, sought-as, sought-leaf, swept-leaf}
-use Rattle.qm_scorer.specs.BareFacts.{bare-nil}
 use Rattle.qm_scorer.proofs.Opened.{entries-Disjunction, entries-Intersection, entries-Union, opened-Disjunction, opened-Union, placed-Intersection}
 use Rattle.qm_scorer.specs.declared.any_scorer.AnyScorer.{AnyScorer, size-AnyScorer}
-use Rattle.qm_scorer.specs.declared.any_scorer.AnyScorer.TheVariants.{All as Every, BitSet, Boost, Const, Disjunction, Empty, Exclude, Intersection, Own}
-use Rattle.qm_scorer.specs.declared.any_scorer.AnyScorer.TheVariants.{Phrase, PhrasePrefix, RequiredOptional, Term, Union, outs-Boost, outs-Const}
+use Rattle.qm_scorer.specs.declared.any_scorer.AnyScorer.TheVariants.{Boost, Const, Disjunction, Exclude, Intersection}
+use Rattle.qm_scorer.specs.declared.any_scorer.AnyScorer.TheVariants.{RequiredOptional, Term, Union, outs-Boost, outs-Const}
 use Rattle.qm_scorer.specs.declared.any_scorer.AnyScorer.TheVariants.{outs-Disjunction, outs-Exclude, outs-Intersection, outs-RequiredOptional, outs-Union}
 use Rattle.qm_scorer.specs.declared.group_node.Shape.{Shape}
 use Rattle.qm_scorer.specs.declared.intersection_node.IntersectionNode.{size_is-IntersectionNode}
@@ -456,7 +451,8 @@ group_node::seek_group-returns g t c =
       | group_node::seek_group-then-node-target w ↦
           let made = w.next_match-node.ensures in
           let moved = group-moved g.S.DocSet g.met.S.DocSet.ascending c.args.target c.args.node.now _ c.requires.valid
-          (record { valid = made.members.valid; placed = made.members.placed; heads = made.members.heads }) made.room made.shape made.head made.least made.entries in
+          (record { valid = made.members.valid; placed = made.members.placed; heads = made.members.heads })
+          made.room made.shape made.head made.least made.entries in
           rw w.node-is (record {
             head = made.head;
             entries = made.entries;
@@ -510,48 +506,6 @@ union_node::take_tree-returns-in-Term g t c =
     swept-leaf g.S.DocSet Term (λ s. scored_left s.value) (λ _. refl)
     (same-Term g.row.S.Denot) c.args.window.now c.take_in.new.self c.args.bound c.take_in.result c.in-Term.leaf c.take_in.new.scorer
     c.in-Term.leaf-is c.in-Term.is e.head e.left.entries (ap (λ (l : Limits). l.top) e.left.limits) e.left.valid e.left.placed
-    (record { documents = e.documents; beyond = e.beyond; states = e.states; start = e.start; until = e.until; combiner = e.combiner }) (search rules)
-
-pub union_node::take_other-returns-in-All : goal.union_node::take_other-returns-in-All
-union_node::take_other-returns-in-All g t c =
-    let e = c.take_in.ensures in
-    swept-leaf g.S.DocSet Every all_left (λ _. refl) (same-All g.row.S.Denot) c.args.window.now c.take_in.new.self c.args.bound
-    c.take_in.result c.in-All.leaf c.take_in.new.scorer c.in-All.leaf-is c.in-All.is e.head e.left.entries refl e.left.valid e.left.placed
-    (record { documents = e.documents; beyond = e.beyond; states = e.states; start = e.start; until = e.until; combiner = e.combiner }) (search rules)
-
-pub union_node::take_other-returns-in-Own : goal.union_node::take_other-returns-in-Own
-union_node::take_other-returns-in-Own g t c =
-    let e = c.take_in-in-Own.ensures in
-    swept-leaf g.S.DocSet Own g.S.DocSet.entries (λ _. refl)
-    (same-Own g.row.S.Denot) c.args.window.now c.take_in-in-Own.new.self c.args.bound c.take_in-in-Own.result c.in-Own.leaf c.take_in-in-Own.new.scorer
-    c.in-Own.leaf-is c.in-Own.is e.head e.left.entries (ap (λ (l : Limits). l.top) e.left.limits) e.left.valid e.left.placed
-    (record { documents = e.documents; beyond = e.beyond; states = e.states; start = e.start; until = e.until; combiner = e.combiner }) (search rules)
-
-pub union_node::take_other-returns-in-BitSet : goal.union_node::take_other-returns-in-BitSet
-union_node::take_other-returns-in-BitSet g t c =
-    let e = c.take_in-in-BitSet.ensures in
-    swept-leaf g.S.DocSet BitSet (λ s. constant_left set_cursors s.value) (λ _. refl)
-    (same-BitSet g.row.S.Denot) c.args.window.now c.take_in-in-BitSet.new.self c.args.bound c.take_in-in-BitSet.result
-    c.in-BitSet.leaf c.take_in-in-BitSet.new.scorer c.in-BitSet.leaf-is c.in-BitSet.is e.head e.left.entries
-    (ap (λ (l : Limits). l.top) e.left.limits) e.left.valid e.left.placed
-    (record { documents = e.documents; beyond = e.beyond; states = e.states; start = e.start; until = e.until; combiner = e.combiner }) (search rules)
-
-pub union_node::take_other-returns-in-Phrase : goal.union_node::take_other-returns-in-Phrase
-union_node::take_other-returns-in-Phrase g t c =
-    let e = c.take_in-in-Phrase.ensures in
-    swept-leaf g.S.DocSet Phrase (λ s. phrase_left postings_cursors s.value) (λ _. refl)
-    (same-Phrase g.row.S.Denot) c.args.window.now c.take_in-in-Phrase.new.self c.args.bound c.take_in-in-Phrase.result
-    c.in-Phrase.leaf c.take_in-in-Phrase.new.scorer c.in-Phrase.leaf-is c.in-Phrase.is e.head e.left.entries
-    (ap (λ (l : Limits). l.top) e.left.limits) e.left.valid e.left.placed
-    (record { documents = e.documents; beyond = e.beyond; states = e.states; start = e.start; until = e.until; combiner = e.combiner }) (search rules)
-
-pub union_node::take_other-returns-in-PhrasePrefix : goal.union_node::take_other-returns-in-PhrasePrefix
-union_node::take_other-returns-in-PhrasePrefix g t c =
-    let e = c.take_in-in-PhrasePrefix.ensures in
-    swept-leaf g.S.DocSet PhrasePrefix (λ s. phrase_prefix_left postings_cursors s.value) (λ _. refl)
-    (same-PhrasePrefix g.row.S.Denot) c.args.window.now c.take_in-in-PhrasePrefix.new.self c.args.bound c.take_in-in-PhrasePrefix.result
-    c.in-PhrasePrefix.leaf c.take_in-in-PhrasePrefix.new.scorer c.in-PhrasePrefix.leaf-is c.in-PhrasePrefix.is e.head e.left.entries
-    (ap (λ (l : Limits). l.top) e.left.limits) e.left.valid e.left.placed
     (record { documents = e.documents; beyond = e.beyond; states = e.states; start = e.start; until = e.until; combiner = e.combiner }) (search rules)
 
 pub union_node::take_by_steps-loop-doc-init : goal.union_node::take_by_steps-loop-doc-init
@@ -1254,7 +1208,7 @@ intersection_node::seek_intersection-returns g t c =
       depth = omega (arith, aligned.depth, size-led old c.seek_tree-candidate.new.scorer sought.depth);
     }
 
--- ---- the leaves of the enum
+-- ---- a term, which comes first
 
 pub any_scorer::seek_tree-returns-in-Term : goal.any_scorer::seek_tree-returns-in-Term
 any_scorer::seek_tree-returns-in-Term g t c =
@@ -1262,98 +1216,11 @@ any_scorer::seek_tree-returns-in-Term g t c =
     c.in-Term.leaf c.seek.new.self c.in-Term.leaf-is c.in-Term.is c.seek.ensures.head c.seek.ensures.entries
     (ap (λ (l : Limits). l.top) c.seek.ensures.limits) c.seek.ensures.valid c.seek.ensures.placed (search rules)
 
-pub any_scorer::seek_other-returns-in-Empty : goal.any_scorer::seek_other-returns-in-Empty
-any_scorer::seek_other-returns-in-Empty g t c =
-    sought-leaf g.S.DocSet Empty (λ _. []) (λ _. sym bare-nil) (same-Empty g.row.S.Denot) c.args.target c.seek.result c.in-Empty.leaf
-    c.seek.new.self c.in-Empty.leaf-is c.in-Empty.is c.seek.ensures.head c.seek.ensures.entries refl tt c.seek.ensures.placed (search rules)
-
-pub any_scorer::seek_other-returns-in-All : goal.any_scorer::seek_other-returns-in-All
-any_scorer::seek_other-returns-in-All g t c =
-    sought-leaf g.S.DocSet Every all_left (λ _. refl)
-    (same-All g.row.S.Denot) c.args.target c.seek-in-All.result c.in-All.leaf c.seek-in-All.new.self c.in-All.leaf-is c.in-All.is
-    c.seek-in-All.ensures.head c.seek-in-All.ensures.entries refl c.seek-in-All.ensures.valid c.seek-in-All.ensures.placed (search rules)
-
-pub any_scorer::seek_other-returns-in-Own : goal.any_scorer::seek_other-returns-in-Own
-any_scorer::seek_other-returns-in-Own g t c =
-    sought-leaf g.S.DocSet Own g.S.DocSet.entries (λ _. refl) (same-Own g.row.S.Denot) c.args.target c.seek-in-Own.result
-    c.in-Own.leaf c.seek-in-Own.new.self c.in-Own.leaf-is c.in-Own.is c.seek-in-Own.ensures.head c.seek-in-Own.ensures.entries
-    (ap (λ (l : Limits). l.top) c.seek-in-Own.ensures.limits) c.seek-in-Own.ensures.valid c.seek-in-Own.ensures.placed (search rules)
-
-pub any_scorer::seek_other-returns-in-Term : goal.any_scorer::seek_other-returns-in-Term
-any_scorer::seek_other-returns-in-Term g t c =
-    sought-leaf g.S.DocSet Term (λ s. scored_left s.value) (λ _. refl) (same-Term g.row.S.Denot) c.args.target c.seek-in-Term.result
-    c.in-Term.leaf c.seek-in-Term.new.self c.in-Term.leaf-is c.in-Term.is c.seek-in-Term.ensures.head c.seek-in-Term.ensures.entries
-    (ap (λ (l : Limits). l.top) c.seek-in-Term.ensures.limits) c.seek-in-Term.ensures.valid c.seek-in-Term.ensures.placed (search rules)
-
-pub any_scorer::seek_other-returns-in-BitSet : goal.any_scorer::seek_other-returns-in-BitSet
-any_scorer::seek_other-returns-in-BitSet g t c =
-    sought-leaf g.S.DocSet BitSet (λ s. constant_left set_cursors s.value) (λ _. refl) (same-BitSet g.row.S.Denot) c.args.target c.seek-in-BitSet.result
-    c.in-BitSet.leaf c.seek-in-BitSet.new.self c.in-BitSet.leaf-is c.in-BitSet.is c.seek-in-BitSet.ensures.head c.seek-in-BitSet.ensures.entries
-    (ap (λ (l : Limits). l.top) c.seek-in-BitSet.ensures.limits) c.seek-in-BitSet.ensures.valid c.seek-in-BitSet.ensures.placed (search rules)
-
-pub any_scorer::seek_other-returns-in-Phrase : goal.any_scorer::seek_other-returns-in-Phrase
-any_scorer::seek_other-returns-in-Phrase g t c =
-    sought-leaf g.S.DocSet Phrase (λ s. phrase_left postings_cursors s.value) (λ _. refl) (same-Phrase g.row.S.Denot) c.args.target c.seek-in-Phrase.result
-    c.in-Phrase.leaf c.seek-in-Phrase.new.self c.in-Phrase.leaf-is c.in-Phrase.is c.seek-in-Phrase.ensures.head c.seek-in-Phrase.ensures.entries
-    (ap (λ (l : Limits). l.top) c.seek-in-Phrase.ensures.limits) c.seek-in-Phrase.ensures.valid c.seek-in-Phrase.ensures.placed (search rules)
-
-pub any_scorer::seek_other-returns-in-PhrasePrefix : goal.any_scorer::seek_other-returns-in-PhrasePrefix
-any_scorer::seek_other-returns-in-PhrasePrefix g t c =
-    sought-leaf g.S.DocSet PhrasePrefix (λ s. phrase_prefix_left postings_cursors s.value) (λ _. refl) (same-PhrasePrefix g.row.S.Denot) c.args.target
-    c.seek-in-PhrasePrefix.result c.in-PhrasePrefix.leaf c.seek-in-PhrasePrefix.new.self c.in-PhrasePrefix.leaf-is c.in-PhrasePrefix.is
-    c.seek-in-PhrasePrefix.ensures.head c.seek-in-PhrasePrefix.ensures.entries (ap (λ (l : Limits). l.top) c.seek-in-PhrasePrefix.ensures.limits)
-    c.seek-in-PhrasePrefix.ensures.valid c.seek-in-PhrasePrefix.ensures.placed (search rules)
-
 pub any_scorer::danger_tree-returns-in-Term : goal.any_scorer::danger_tree-returns-in-Term
 any_scorer::danger_tree-returns-in-Term g t c =
     answered-leaf g.S.DocSet Term (λ s. scored_left s.value) (λ _. refl) (same-Term g.row.S.Denot) c.args.target c.seek_danger.result
     c.in-Term.leaf c.seek_danger.new.self c.in-Term.leaf-is c.in-Term.is c.seek_danger.ensures.answer c.seek_danger.ensures.entries
     (ap (λ (l : Limits). l.top) c.seek_danger.ensures.limits) c.seek_danger.ensures.valid c.seek_danger.ensures.placed (search rules)
-
-pub any_scorer::danger_other-returns-in-Empty : goal.any_scorer::danger_other-returns-in-Empty
-any_scorer::danger_other-returns-in-Empty g t c =
-    answered-leaf g.S.DocSet Empty (λ _. []) (λ _. sym bare-nil)
-    (same-Empty g.row.S.Denot) c.args.target c.seek_danger.result c.in-Empty.leaf c.seek_danger.new.self c.in-Empty.leaf-is
-    c.in-Empty.is c.seek_danger.ensures.answer c.seek_danger.ensures.entries refl tt c.seek_danger.ensures.placed (search rules)
-
-pub any_scorer::danger_other-returns-in-All : goal.any_scorer::danger_other-returns-in-All
-any_scorer::danger_other-returns-in-All g t c =
-    answered-leaf g.S.DocSet Every all_left (λ _. refl) (same-All g.row.S.Denot) c.args.target c.seek_danger-in-All.result
-    c.in-All.leaf c.seek_danger-in-All.new.self c.in-All.leaf-is c.in-All.is c.seek_danger-in-All.ensures.answer
-    c.seek_danger-in-All.ensures.entries refl c.seek_danger-in-All.ensures.valid c.seek_danger-in-All.ensures.placed (search rules)
-
-pub any_scorer::danger_other-returns-in-Own : goal.any_scorer::danger_other-returns-in-Own
-any_scorer::danger_other-returns-in-Own g t c =
-    answered-leaf g.S.DocSet Own g.S.DocSet.entries (λ _. refl) (same-Own g.row.S.Denot) c.args.target c.seek_danger-in-Own.result c.in-Own.leaf
-    c.seek_danger-in-Own.new.self c.in-Own.leaf-is c.in-Own.is c.seek_danger-in-Own.ensures.answer c.seek_danger-in-Own.ensures.entries
-    (ap (λ (l : Limits). l.top) c.seek_danger-in-Own.ensures.limits) c.seek_danger-in-Own.ensures.valid c.seek_danger-in-Own.ensures.placed (search rules)
-
-pub any_scorer::danger_other-returns-in-Term : goal.any_scorer::danger_other-returns-in-Term
-any_scorer::danger_other-returns-in-Term g t c =
-    answered-leaf g.S.DocSet Term (λ s. scored_left s.value) (λ _. refl) (same-Term g.row.S.Denot) c.args.target c.seek_danger-in-Term.result c.in-Term.leaf
-    c.seek_danger-in-Term.new.self c.in-Term.leaf-is c.in-Term.is c.seek_danger-in-Term.ensures.answer c.seek_danger-in-Term.ensures.entries (ap
-    (λ (l : Limits). l.top) c.seek_danger-in-Term.ensures.limits) c.seek_danger-in-Term.ensures.valid c.seek_danger-in-Term.ensures.placed (search rules)
-
-pub any_scorer::danger_other-returns-in-BitSet : goal.any_scorer::danger_other-returns-in-BitSet
-any_scorer::danger_other-returns-in-BitSet g t c =
-    answered-leaf g.S.DocSet BitSet (λ s. constant_left set_cursors s.value) (λ _. refl) (same-BitSet g.row.S.Denot) c.args.target
-    c.seek_danger-in-BitSet.result c.in-BitSet.leaf c.seek_danger-in-BitSet.new.self c.in-BitSet.leaf-is c.in-BitSet.is
-    c.seek_danger-in-BitSet.ensures.answer c.seek_danger-in-BitSet.ensures.entries (ap (λ (l : Limits). l.top) c.seek_danger-in-BitSet.ensures.limits)
-    c.seek_danger-in-BitSet.ensures.valid c.seek_danger-in-BitSet.ensures.placed (search rules)
-
-pub any_scorer::danger_other-returns-in-Phrase : goal.any_scorer::danger_other-returns-in-Phrase
-any_scorer::danger_other-returns-in-Phrase g t c =
-    answered-leaf g.S.DocSet Phrase (λ s. phrase_left postings_cursors s.value) (λ _. refl) (same-Phrase g.row.S.Denot) c.args.target
-    c.seek_danger-in-Phrase.result c.in-Phrase.leaf c.seek_danger-in-Phrase.new.self c.in-Phrase.leaf-is c.in-Phrase.is
-    c.seek_danger-in-Phrase.ensures.answer c.seek_danger-in-Phrase.ensures.entries (ap (λ (l : Limits). l.top) c.seek_danger-in-Phrase.ensures.limits)
-    c.seek_danger-in-Phrase.ensures.valid c.seek_danger-in-Phrase.ensures.placed (search rules)
-
-pub any_scorer::danger_other-returns-in-PhrasePrefix : goal.any_scorer::danger_other-returns-in-PhrasePrefix
-any_scorer::danger_other-returns-in-PhrasePrefix g t c =
-    answered-leaf g.S.DocSet PhrasePrefix (λ s. phrase_prefix_left postings_cursors s.value) (λ _. refl) (same-PhrasePrefix g.row.S.Denot)
-    c.args.target c.seek_danger-in-PhrasePrefix.result c.in-PhrasePrefix.leaf c.seek_danger-in-PhrasePrefix.new.self c.in-PhrasePrefix.leaf-is
-    c.in-PhrasePrefix.is c.seek_danger-in-PhrasePrefix.ensures.answer c.seek_danger-in-PhrasePrefix.ensures.entries (ap (λ (l : Limits). l.top)
-    c.seek_danger-in-PhrasePrefix.ensures.limits) c.seek_danger-in-PhrasePrefix.ensures.valid c.seek_danger-in-PhrasePrefix.ensures.placed (search rules)
 
 -- ---- the nodes of the enum
 pub any_scorer::seek_other-returns-in-Boost : goal.any_scorer::seek_other-returns-in-Boost
@@ -1786,7 +1653,8 @@ group_node::score_group-returns-clause-score g t c =
     let xs = c.loop-place.node.members.items in
     let lists = map (tree_entries D) xs in
     let long : length lists ≤ c.loop-place.place = omega (arith, length-map xs (tree_entries D), c.loop-place-test.false, c.loop-place.node.members.ok.0) in
-    let all = h.combined ∙ ap (λ r. fold any_step (any_cleared node.shape.combiner) (scores_at node.current r)) (take_all c.loop-place.place lists long ∙ h.lists) in
+    let whole = take_all c.loop-place.place lists long ∙ h.lists in
+    let all = h.combined ∙ ap (λ r. fold any_step (any_cleared node.shape.combiner) (scores_at node.current r)) whole in
     let value = group-score D g.met.S.DocSet.ascending node c.loop-place.combiner c.requires.valid c.requires.here all in
     score_cast c.score.result _ c.score.ensures c.score.type_inv ∙ value
 
@@ -1928,7 +1796,7 @@ intersection_node::score_intersection-returns-clause-depth g t c =
     let whole = with_items_is node.others xs (omega (arith, c.loop-i.auto.others, ap length c.as_mut_slice-others.ensures.value, node.others.ok.0)) in
     size-others node _ c.score_tree-sum.ensures.depth (omega (arith, ap (most size) whole, c.loop-i.invariant.depth))
 
--- ---- the leaves of the enum
+-- ---- a term, which comes first
 
 pub any_scorer::score_tree-returns-in-Term : goal.any_scorer::score_tree-returns-in-Term
 any_scorer::score_tree-returns-in-Term g t c =
@@ -1938,67 +1806,6 @@ any_scorer::score_tree-returns-in-Term g t c =
     scored-leaf g.S.DocSet Term (λ s. scored_left s.value) (λ _. refl) (λ _. refl) (same-Term g.row.S.Denot) leaf scored.new.self
     c.in-Term.leaf-is c.in-Term.is c.requires.here score (score_fits _ _ scored.ensures.score scored.type_inv) scored.ensures.entries
     (ap (λ (l : Limits). l.top) scored.ensures.limits) scored.ensures.valid scored.ensures.placed (search rules)
-
-pub any_scorer::score_other-returns-in-Empty : goal.any_scorer::score_other-returns-in-Empty
-any_scorer::score_other-returns-in-Empty g t c =
-    let leaf = c.in-Empty.leaf in
-    let scored = c.score in
-    let score = score_cast scored.result _ scored.ensures scored.type_inv in
-    scored-leaf g.S.DocSet Empty (λ _. []) (λ _. sym bare-nil) (λ _. refl) (same-Empty g.row.S.Denot) leaf scored.new.self c.in-Empty.leaf-is
-    c.in-Empty.is c.requires.here score (score_fits _ _ scored.ensures scored.type_inv) refl refl tt tt (search rules)
-
-pub any_scorer::score_other-returns-in-All : goal.any_scorer::score_other-returns-in-All
-any_scorer::score_other-returns-in-All g t c =
-    let leaf = c.in-All.leaf in
-    let scored = c.score-in-All in
-    let score = score_cast scored.result _ scored.ensures.score scored.type_inv in
-    scored-leaf g.S.DocSet Every all_left (λ _. refl) (λ _. refl) (same-All g.row.S.Denot) leaf scored.new.self c.in-All.leaf-is c.in-All.is c.requires.here
-    score (score_fits _ _ scored.ensures.score scored.type_inv) scored.ensures.entries refl scored.ensures.valid scored.ensures.placed (search rules)
-
-pub any_scorer::score_other-returns-in-Own : goal.any_scorer::score_other-returns-in-Own
-any_scorer::score_other-returns-in-Own g t c =
-    let leaf = c.in-Own.leaf in
-    let scored = c.score-in-Own in
-    let score = score_cast scored.result _ scored.ensures.score scored.type_inv in
-    scored-leaf g.S.DocSet Own g.S.DocSet.entries (λ _. refl) (λ _. refl) (same-Own g.row.S.Denot) leaf scored.new.self
-    c.in-Own.leaf-is c.in-Own.is c.requires.here score (score_fits _ _ scored.ensures.score scored.type_inv) scored.ensures.entries
-    (ap (λ (l : Limits). l.top) scored.ensures.limits) scored.ensures.valid scored.ensures.placed (search rules)
-
-pub any_scorer::score_other-returns-in-Term : goal.any_scorer::score_other-returns-in-Term
-any_scorer::score_other-returns-in-Term g t c =
-    let leaf = c.in-Term.leaf in
-    let scored = c.score-in-Term in
-    let score = score_cast scored.result _ scored.ensures.score scored.type_inv in
-    scored-leaf g.S.DocSet Term (λ s. scored_left s.value) (λ _. refl) (λ _. refl) (same-Term g.row.S.Denot) leaf scored.new.self
-    c.in-Term.leaf-is c.in-Term.is c.requires.here score (score_fits _ _ scored.ensures.score scored.type_inv) scored.ensures.entries
-    (ap (λ (l : Limits). l.top) scored.ensures.limits) scored.ensures.valid scored.ensures.placed (search rules)
-
-pub any_scorer::score_other-returns-in-BitSet : goal.any_scorer::score_other-returns-in-BitSet
-any_scorer::score_other-returns-in-BitSet g t c =
-    let leaf = c.in-BitSet.leaf in
-    let scored = c.score-in-BitSet in
-    let score = score_cast scored.result _ scored.ensures.score scored.type_inv in
-    scored-leaf g.S.DocSet BitSet (λ s. constant_left set_cursors s.value) (λ _. refl) (λ _. refl) (same-BitSet g.row.S.Denot) leaf scored.new.self
-    c.in-BitSet.leaf-is c.in-BitSet.is c.requires.here score (score_fits _ _ scored.ensures.score scored.type_inv) scored.ensures.entries
-    (ap (λ (l : Limits). l.top) scored.ensures.limits) scored.ensures.valid scored.ensures.placed (search rules)
-
-pub any_scorer::score_other-returns-in-Phrase : goal.any_scorer::score_other-returns-in-Phrase
-any_scorer::score_other-returns-in-Phrase g t c =
-    let leaf = c.in-Phrase.leaf in
-    let scored = c.score-in-Phrase in
-    let score = score_cast scored.result _ scored.ensures.score scored.type_inv in
-    scored-leaf g.S.DocSet Phrase (λ s. phrase_left postings_cursors s.value) (λ _. refl) (λ _. refl) (same-Phrase g.row.S.Denot) leaf scored.new.self
-    c.in-Phrase.leaf-is c.in-Phrase.is c.requires.here score (score_fits _ _ scored.ensures.score scored.type_inv) scored.ensures.entries
-    (ap (λ (l : Limits). l.top) scored.ensures.limits) scored.ensures.valid scored.ensures.placed (search rules)
-
-pub any_scorer::score_other-returns-in-PhrasePrefix : goal.any_scorer::score_other-returns-in-PhrasePrefix
-any_scorer::score_other-returns-in-PhrasePrefix g t c =
-    let leaf = c.in-PhrasePrefix.leaf in
-    let scored = c.score-in-PhrasePrefix in
-    let score = score_cast scored.result _ scored.ensures.score scored.type_inv in
-    scored-leaf g.S.DocSet PhrasePrefix (λ s. phrase_prefix_left postings_cursors s.value) (λ _. refl) (λ _. refl) (same-PhrasePrefix g.row.S.Denot)
-    leaf scored.new.self c.in-PhrasePrefix.leaf-is c.in-PhrasePrefix.is c.requires.here score (score_fits _ _ scored.ensures.score scored.type_inv)
-    scored.ensures.entries (ap (λ (l : Limits). l.top) scored.ensures.limits) scored.ensures.valid scored.ensures.placed (search rules)
 
 -- ---- the nodes of the enum
 
@@ -2141,7 +1948,7 @@ union_node::take_document-score_tree-score-requires g t c κs within =
       (search rules, (r.valid, (r.placed, omega (arith, here, r.here, r.some)))),
     )
 
--- ---- the leaves of the enum, asked
+-- ---- a term, asked
 
 pub any_scorer::seek_tree-seek-requires : goal.any_scorer::seek_tree-seek-requires
 any_scorer::seek_tree-seek-requires g t c =
@@ -2154,86 +1961,3 @@ any_scorer::danger_tree-seek_danger-requires g t c =
 pub any_scorer::score_tree-score-requires : goal.any_scorer::score_tree-score-requires
 any_scorer::score_tree-score-requires g t c =
     leaf-scored g.S.DocSet Term (λ s. scored_left s.value) (λ _. refl) c.in-Term.leaf-is c.in-Term.is c.requires.valid c.requires.placed c.requires.here
-
-pub any_scorer::seek_other-seek-requires : goal.any_scorer::seek_other-seek-requires
-any_scorer::seek_other-seek-requires g t c =
-    leaf-sent g.S.DocSet Empty c.in-Empty.leaf-is c.in-Empty.is c.requires.valid c.requires.target
-
-pub any_scorer::danger_other-seek_danger-requires : goal.any_scorer::danger_other-seek_danger-requires
-any_scorer::danger_other-seek_danger-requires g t c =
-    leaf-sent g.S.DocSet Empty c.in-Empty.leaf-is c.in-Empty.is c.requires.valid c.requires.target
-
-pub any_scorer::seek_other-seek-requires-in-All : goal.any_scorer::seek_other-seek-requires-in-All
-any_scorer::seek_other-seek-requires-in-All g t c =
-    leaf-sent g.S.DocSet Every c.in-All.leaf-is c.in-All.is c.requires.valid c.requires.target
-
-pub any_scorer::danger_other-seek_danger-requires-in-All : goal.any_scorer::danger_other-seek_danger-requires-in-All
-any_scorer::danger_other-seek_danger-requires-in-All g t c =
-    leaf-sent g.S.DocSet Every c.in-All.leaf-is c.in-All.is c.requires.valid c.requires.target
-
-pub any_scorer::score_other-score-requires-in-All : goal.any_scorer::score_other-score-requires-in-All
-any_scorer::score_other-score-requires-in-All g t c =
-    leaf-scored g.S.DocSet Every all_left (λ _. refl) c.in-All.leaf-is c.in-All.is c.requires.valid c.requires.placed c.requires.here
-
-pub any_scorer::seek_other-seek-requires-in-Own : goal.any_scorer::seek_other-seek-requires-in-Own
-any_scorer::seek_other-seek-requires-in-Own g t c =
-    leaf-sent g.S.DocSet Own c.in-Own.leaf-is c.in-Own.is c.requires.valid c.requires.target
-
-pub any_scorer::danger_other-seek_danger-requires-in-Own : goal.any_scorer::danger_other-seek_danger-requires-in-Own
-any_scorer::danger_other-seek_danger-requires-in-Own g t c =
-    leaf-sent g.S.DocSet Own c.in-Own.leaf-is c.in-Own.is c.requires.valid c.requires.target
-
-pub any_scorer::score_other-score-requires-in-Own : goal.any_scorer::score_other-score-requires-in-Own
-any_scorer::score_other-score-requires-in-Own g t c =
-    leaf-scored g.S.DocSet Own g.S.DocSet.entries (λ _. refl) c.in-Own.leaf-is c.in-Own.is c.requires.valid c.requires.placed c.requires.here
-
-pub any_scorer::seek_other-seek-requires-in-Term : goal.any_scorer::seek_other-seek-requires-in-Term
-any_scorer::seek_other-seek-requires-in-Term g t c =
-    leaf-sent g.S.DocSet Term c.in-Term.leaf-is c.in-Term.is c.requires.valid c.requires.target
-
-pub any_scorer::danger_other-seek_danger-requires-in-Term : goal.any_scorer::danger_other-seek_danger-requires-in-Term
-any_scorer::danger_other-seek_danger-requires-in-Term g t c =
-    leaf-sent g.S.DocSet Term c.in-Term.leaf-is c.in-Term.is c.requires.valid c.requires.target
-
-pub any_scorer::score_other-score-requires-in-Term : goal.any_scorer::score_other-score-requires-in-Term
-any_scorer::score_other-score-requires-in-Term g t c =
-    leaf-scored g.S.DocSet Term (λ s. scored_left s.value) (λ _. refl) c.in-Term.leaf-is c.in-Term.is c.requires.valid c.requires.placed c.requires.here
-
-pub any_scorer::seek_other-seek-requires-in-BitSet : goal.any_scorer::seek_other-seek-requires-in-BitSet
-any_scorer::seek_other-seek-requires-in-BitSet g t c =
-    leaf-sent g.S.DocSet BitSet c.in-BitSet.leaf-is c.in-BitSet.is c.requires.valid c.requires.target
-
-pub any_scorer::danger_other-seek_danger-requires-in-BitSet : goal.any_scorer::danger_other-seek_danger-requires-in-BitSet
-any_scorer::danger_other-seek_danger-requires-in-BitSet g t c =
-    leaf-sent g.S.DocSet BitSet c.in-BitSet.leaf-is c.in-BitSet.is c.requires.valid c.requires.target
-
-pub any_scorer::score_other-score-requires-in-BitSet : goal.any_scorer::score_other-score-requires-in-BitSet
-any_scorer::score_other-score-requires-in-BitSet g t c =
-    leaf-scored g.S.DocSet BitSet (λ s. constant_left set_cursors s.value) (λ _. refl)
-    c.in-BitSet.leaf-is c.in-BitSet.is c.requires.valid c.requires.placed c.requires.here
-
-pub any_scorer::seek_other-seek-requires-in-Phrase : goal.any_scorer::seek_other-seek-requires-in-Phrase
-any_scorer::seek_other-seek-requires-in-Phrase g t c =
-    leaf-sent g.S.DocSet Phrase c.in-Phrase.leaf-is c.in-Phrase.is c.requires.valid c.requires.target
-
-pub any_scorer::danger_other-seek_danger-requires-in-Phrase : goal.any_scorer::danger_other-seek_danger-requires-in-Phrase
-any_scorer::danger_other-seek_danger-requires-in-Phrase g t c =
-    leaf-sent g.S.DocSet Phrase c.in-Phrase.leaf-is c.in-Phrase.is c.requires.valid c.requires.target
-
-pub any_scorer::score_other-score-requires-in-Phrase : goal.any_scorer::score_other-score-requires-in-Phrase
-any_scorer::score_other-score-requires-in-Phrase g t c =
-    leaf-scored g.S.DocSet Phrase (λ s. phrase_left postings_cursors s.value) (λ _. refl)
-    c.in-Phrase.leaf-is c.in-Phrase.is c.requires.valid c.requires.placed c.requires.here
-
-pub any_scorer::seek_other-seek-requires-in-PhrasePrefix : goal.any_scorer::seek_other-seek-requires-in-PhrasePrefix
-any_scorer::seek_other-seek-requires-in-PhrasePrefix g t c =
-    leaf-sent g.S.DocSet PhrasePrefix c.in-PhrasePrefix.leaf-is c.in-PhrasePrefix.is c.requires.valid c.requires.target
-
-pub any_scorer::danger_other-seek_danger-requires-in-PhrasePrefix : goal.any_scorer::danger_other-seek_danger-requires-in-PhrasePrefix
-any_scorer::danger_other-seek_danger-requires-in-PhrasePrefix g t c =
-    leaf-sent g.S.DocSet PhrasePrefix c.in-PhrasePrefix.leaf-is c.in-PhrasePrefix.is c.requires.valid c.requires.target
-
-pub any_scorer::score_other-score-requires-in-PhrasePrefix : goal.any_scorer::score_other-score-requires-in-PhrasePrefix
-any_scorer::score_other-score-requires-in-PhrasePrefix g t c =
-    leaf-scored g.S.DocSet PhrasePrefix (λ s. phrase_prefix_left postings_cursors s.value) (λ _. refl)
-    c.in-PhrasePrefix.leaf-is c.in-PhrasePrefix.is c.requires.valid c.requires.placed c.requires.here
