@@ -88,8 +88,8 @@ def prove(wrong_bodies, pool):
 
 
 def main():
-    # three crates' wrong bodies beside the proofs, which leaves memory for these
-    with ThreadPoolExecutor(3) as pool:
+    # two crates' wrong bodies beside the proofs, which leaves memory for these
+    with ThreadPoolExecutor(2) as pool:
         wrong_bodies = Stage("wrong bodies")
         proofs, tried, waiting = prove(wrong_bodies, pool)
         stages = [proofs, wrong_bodies]

@@ -10,8 +10,8 @@ own function that it is not proved and shows which goal fails; that a function o
 not proved, or that a proof only lost a name, does not count. What a batch leaves undecided so is tried once
 more, and at last alone. First the crate as it stands must be proved for these functions; each check of a
 batch begins with the work that this one kept. Right behind `rt ci`, which has proved it, the first batch goes
-without that, and the others begin with the work that the first one kept, several beside each other where there are
-processors for them.
+without that, and the others begin with the work that the first one kept, two beside each other where there are
+processors and memory for them.
 
 An edit whose line says `refused by: the compiler, CODE` must not reach the prover: it is tried alone, and the
 check must end with that error.
@@ -158,7 +158,7 @@ class Trial:
         left, undecided = edits if "--built" in self.options else self.proved_before(edits, seed), []
         while left:
             # without any kept work the first batch goes alone, and leaves some
-            batches = batches_of(self.crate, left)[: self.lanes.jobs() if os.listdir(seed) else 1]
+            batches = batches_of(self.crate, left)[: self.room() if os.listdir(seed) else 1]
             again = self.try_batches(batches, seed, room)
             tried = [it for batch, _ in batches for it in batch]
             # what a batch does not decide shares a later one
@@ -167,9 +167,13 @@ class Trial:
         alone = dict.fromkeys(it for it in undecided if undecided.count(it) > 1)
         self.try_batches([([it], it.apply(self.crate, {})) for it in alone], seed, room)
 
+    def room(self):
+        """How many checks may run beside each other, with two processors each, while memory is left for others."""
+        return max(1, min(self.lanes.jobs() // 2, free_memory() // (2 * ROOM)))
+
     def try_batches(self, batches, seed, room):
         """Tries batches beside each other, and returns the edits that they leave undecided."""
-        self.beside = max(1, min(self.lanes.jobs(), len(batches)))
+        self.beside = max(1, min(self.room(), len(batches)))
         with ThreadPoolExecutor(self.beside) as pool:
             left = pool.map(lambda it: self.try_batch(*it, seed, room), batches)
             return [edit for it in left for edit in it]
