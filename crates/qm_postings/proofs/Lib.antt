@@ -26,3 +26,4 @@ pub mod BlocksOfTerms
 pub mod BlockFrequencies
 pub mod GroupedPostings
 pub mod TermHeads
+pub mod ShortTerms

@@ -21,4 +21,5 @@ pub mod PositionsFacts
 pub mod TermRange
 pub mod Address
 pub mod TermHead
+pub mod ShortTerms
 pub mod WordPlaces

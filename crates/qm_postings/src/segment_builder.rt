@@ -19,6 +19,7 @@ mod entering;
 mod grouping;
 mod position_rows;
 mod posting;
+mod short_terms;
 mod term_blocks;
 mod term_numbers;
 

@@ -1,0 +1,20 @@
+-- Short terms that were given numbers: field, head and length tell each from all others.
+use Rattle.std.specs.Prelude.{◌≡◌, ℕ, ◌≤◌, List, All, Some, length, slice_get}
+use Rattle.qm_schema.specs.Term.{TermKey}
+use Rattle.qm_postings.specs.TermHead.{IsHeadOf}
+use Rattle.qm_postings.specs.declared.segment_builder.short_terms.ShortTerm.{ShortTerm}
+
+-- A slot has this term: one of at most eight bytes, with that field, that head and that length.
+pub record IsOf (term : TermKey) (slot : ShortTerm) : Type 0 where
+  pub field : term.field ≡ slot.field
+  pub head : IsHeadOf term.bytes slot.head
+  pub len : length term.bytes ≡ slot.len
+  pub short : slot.len ≤ 8
+
+-- the number in a slot is that of the term that it has, if it has one
+abbrev pub IsNumbered : List TermKey → ShortTerm → Type 0
+IsNumbered names slot = (term : TermKey) → IsOf term slot → slice_get names slot.number ≡ Some term
+
+-- so in each of some slots
+abbrev pub AreNumbersOf : List TermKey → List ShortTerm → Type 0
+AreNumbersOf names slots = All (IsNumbered names) slots
