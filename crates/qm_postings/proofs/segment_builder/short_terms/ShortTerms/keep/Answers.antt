@@ -5,8 +5,8 @@ use Rattle.qm_postings.specs.declared.segment_builder.short_terms.ShortTerm.{Sho
 use Rattle.qm_postings.proofs.ShortTerms.{numbered_one}
 use Rattle.qm_postings.proofs.segment_builder.short_terms.ShortTerms.keep.Goals as goal
 
-pub returns-then-place-len : goal.returns-then-place-len
-returns-then-place-len c = λ names numbered found.
+pub returns-then-index-gt-HEAD_LEN : goal.returns-then-index-gt-HEAD_LEN
+returns-then-index-gt-HEAD_LEN c = λ names numbered found.
     let term = c.args.term.now in
     let slot : ShortTerm = record { field = c.field_id.result; number = c.args.number; head = c.head.result; len = c.text_len-len.result } in
     let here : IsOf term slot = record {
