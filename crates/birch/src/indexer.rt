@@ -120,11 +120,11 @@ impl Indexer {
         }
     }
 
-    // A segment takes in half of what is left, so that the making of the last ones, beside all that
-    // stands, takes little room.
+    // A segment takes in a little less than half of what is left, so that the making of the first takes no
+    // more room than all that stands in the end, and that of the last ones, beside the others, little.
     fn begin_segment(&mut self) {
-        let half = usize::try_from(self.left / 2).unwrap_or(MOST_BYTES);
-        self.segment_bytes = half.clamp(LEAST_BYTES, MOST_BYTES);
+        let part = usize::try_from(self.left / 20 * 9).unwrap_or(MOST_BYTES);
+        self.segment_bytes = part.clamp(LEAST_BYTES, MOST_BYTES);
     }
 
     // Where a document of the last file stands.
@@ -207,24 +207,29 @@ impl Indexer {
         }
         self.cuts.sort_by_key(|cut| cut.count)?;
         let words = mem::replace(&mut self.words, String::new(self.alloc));
-        let (segment, places) = self.build_segment(words)?;
+        let cuts = mem::replace(&mut self.cuts, Vec::new(self.alloc));
+        let (segment, places) = self.build_segment(words, cuts)?;
         self.segments.push(segment)?;
         self.places.push(places)?;
-        self.cuts.clear();
         self.begin_segment();
         Ok(())
     }
 
     // The segment of the documents with these words, and where each stands.
-    fn build_segment(&self, words: String) -> Result<(SegmentReader, Vec<Filed>), QueryError> {
+    fn build_segment(
+        &self,
+        words: String,
+        cuts: Vec<Cut>,
+    ) -> Result<(SegmentReader, Vec<Filed>), QueryError> {
         let mut builder = SegmentBuilder::new(self.alloc, &self.schema, BLOCK_LEN)?;
-        let mut places = Vec::with_capacity(self.alloc, self.cuts.len())?;
-        for cut in &self.cuts {
+        let mut places = Vec::with_capacity(self.alloc, cuts.len())?;
+        for cut in &cuts {
             builder.add_document(self.document(words.as_str(), cut)?)?;
             places.push(cut.filed)?;
         }
         // the building takes most room of all
         drop(words);
+        drop(cuts);
         Ok((builder.build(self.alloc)?, places))
     }
 

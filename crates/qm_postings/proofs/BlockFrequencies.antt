@@ -1,4 +1,5 @@
 -- No posting has a greater frequency than its block.
+use Rattle.qm_postings.specs.Frequencies.{listed}
 use Rattle.std.proofs.Common.{◌≡◌, ℕ, ◌+◌, ◌-◌, ◌*◌, ◌/◌, ◌<◌, ◌≤◌, List, [], ◌∷◌, length, map, get_or, take, drop, max, min, sym, ap, ◌∙◌, arith, length-drop}
 use Rattle.std.specs.Prelude.{All}
 use Rattle.std.specs.List.{fold}
@@ -64,10 +65,10 @@ read-rises ReadFreq few many h = h
 
 module _ (reading : FreqReadingOption) (a : TermArrays) (h : AreArrays reading a) where
   block_most : (b : ℕ) → b < length a.blocks.now →
-      (get_or (map (block_read reading) a.blocks.now) b no_block).most ≡ frequency_read reading (greatest (piece a.block_len b a.frequencies.now))
+      (get_or (map (block_read reading) a.blocks.now) b no_block).most ≡ frequency_read reading (greatest (piece a.block_len b (listed a.frequencies)))
   unfolding all_infos
   block_most b l =
-      let own = block_info a.block_len h.ids a.documents.now a.frequencies.now in
+      let own = block_info a.block_len h.ids a.documents.now (listed a.frequencies) in
       ap (λ (x : Block). x.most) (get_or-map (block_read reading) a.blocks.now b (own b) no_block l
       ∙ ap (block_read reading) (ap (λ xs. get_or xs b (own b)) h.blocks ∙ get_or-map-range_with_len own 0
       (block_count a.block_len (length a.documents.now)) b b (own b) (omega (arith, infos_count reading a h)) (omega arith)))
@@ -75,7 +76,7 @@ module _ (reading : FreqReadingOption) (a : TermArrays) (h : AreArrays reading a
   within_block : All (λ e. e.frequency ≤ (block_at e.document (map (block_read reading) a.blocks.now)).most) (stored reading a)
   within_block = λ n d l.
       let ds = a.documents.now in
-      let fs = a.frequencies.now in
+      let fs = (listed a.frequencies) in
       let es = stored reading a in
       let inside : n < length ds = omega (arith, length-stored reading ds fs a.positions.now) in
       let b = n / a.block_len in
@@ -98,12 +99,12 @@ module _ (reading : FreqReadingOption) (a : TermArrays) (h : AreArrays reading a
 
 -- no document has a length id below the least of its block, by the ids that the bounds are of
 module _ (reading : FreqReadingOption) (a : TermArrays) (h : AreArrays reading a) (ids : List ℕ)
-    (are : a.blocks.now ≡ all_infos a.block_len ids a.documents.now a.frequencies.now) where
+    (are : a.blocks.now ≡ all_infos a.block_len ids a.documents.now (listed a.frequencies)) where
   block_least : (b : ℕ) → b < length a.blocks.now →
       (get_or (map (block_read reading) a.blocks.now) b no_block).least_id ≡ least_id ids (piece a.block_len b a.documents.now)
   unfolding all_infos
   block_least b l =
-      let own = block_info a.block_len ids a.documents.now a.frequencies.now in
+      let own = block_info a.block_len ids a.documents.now (listed a.frequencies) in
       ap (λ (x : Block). x.least_id) (get_or-map (block_read reading) a.blocks.now b (own b) no_block l
       ∙ ap (block_read reading) (ap (λ xs. get_or xs b (own b)) are ∙ get_or-map-range_with_len own 0
       (block_count a.block_len (length a.documents.now)) b b (own b) (omega (arith, infos_count reading a h)) (omega arith)))
@@ -112,11 +113,11 @@ module _ (reading : FreqReadingOption) (a : TermArrays) (h : AreArrays reading a
   within_ids = λ n d l.
       let ds = a.documents.now in
       let es = stored reading a in
-      let inside : n < length ds = omega (arith, length-stored reading ds a.frequencies.now a.positions.now) in
+      let inside : n < length ds = omega (arith, length-stored reading ds (listed a.frequencies) a.positions.now) in
       let b = n / a.block_len in
       let small : b < length a.blocks.now = omega (arith, infos_count reading a h, block_of_place n (length ds) a.block_len h.block_len inside) in
       let document : (get_or es n d).document ≡ get_or ds n 0 = sym (get_or-map (λ (e : Entry). e.document) es n d 0 l)
-      ∙ ap (λ xs. get_or xs n 0) (documents-stored reading ds a.frequencies.now a.positions.now) in
+      ∙ ap (λ xs. get_or xs n 0) (documents-stored reading ds (listed a.frequencies) a.positions.now) in
       let at : max 0 (get_or ds n 0) ≡ (get_or es n d).document = omega (arith, document) in
       let found = ap (λ x. block_at x (map (block_read reading) a.blocks.now)) (sym at) ∙ block_here reading a h n no_block inside in
       let least = ap (λ (x : Block). x.least_id) found ∙ block_least b small in

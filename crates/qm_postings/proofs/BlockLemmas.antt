@@ -1,4 +1,5 @@
 -- The blocks of a list of documents: which one has a document, and where it ends.
+use Rattle.qm_postings.specs.Frequencies.{listed}
 use Rattle.std.proofs.Common.{◌≡◌, ℕ, zero, suc, ◌+◌, ◌-◌, ◌*◌, ◌/◌, ◌<◌, ◌≤◌, true, false, List, [], ◌∷◌, length, map, get_or, max, sum, take, sym, ap, refl}
 use Rattle.std.proofs.Common.{subst, ◌∙◌, arith, inl, inr}
 use Rattle.std.specs.Prelude.{nat_eq, nat_le, nat_lt}
@@ -116,14 +117,14 @@ module _ (reading : FreqReadingOption) (a : TermArrays) (h : AreArrays reading a
   pub infos_count : length a.blocks.now ≡ block_count a.block_len (length a.documents.now)
   unfolding all_infos
   infos_count = ap length h.blocks
-      ∙ length-map-range_with_len (block_info a.block_len h.ids a.documents.now a.frequencies.now) 0 (block_count a.block_len (length a.documents.now))
+      ∙ length-map-range_with_len (block_info a.block_len h.ids a.documents.now (listed a.frequencies)) 0 (block_count a.block_len (length a.documents.now))
 
   -- how many positions come before a block
-  pub block_starts : (b : ℕ) (d : BlockInfo) → b * a.block_len < length a.frequencies.now → (b < length a.blocks.now) ×
-      ((get_or a.blocks.now b d).positions_start ≡ sum (take (b * a.block_len) a.frequencies.now))
+  pub block_starts : (b : ℕ) (d : BlockInfo) → b * a.block_len < length (listed a.frequencies) → (b < length a.blocks.now) ×
+      ((get_or a.blocks.now b d).positions_start ≡ sum (take (b * a.block_len) (listed a.frequencies)))
   unfolding all_infos
   block_starts b d l =
-      let own = block_info a.block_len h.ids a.documents.now a.frequencies.now in
+      let own = block_info a.block_len h.ids a.documents.now (listed a.frequencies) in
       let inside : b < block_count a.block_len (length a.documents.now) =
       block_of_start b (length a.documents.now) a.block_len h.block_len (omega (arith, h.frequencies)) in (
         omega (arith, infos_count, inside),
@@ -138,7 +139,7 @@ module _ (reading : FreqReadingOption) (a : TermArrays) (h : AreArrays reading a
       (get_or (map (block_read reading) a.blocks.now) b d).last ≡ end_of a.block_len a.documents.now b
   unfolding all_infos
   block_last b d l =
-      let own = block_info a.block_len h.ids a.documents.now a.frequencies.now in
+      let own = block_info a.block_len h.ids a.documents.now (listed a.frequencies) in
       ap (λ (x : Block). x.last) (get_or-map (block_read reading) a.blocks.now b (own b) d l
       ∙ ap (block_read reading) (ap (λ xs. get_or xs b (own b)) h.blocks
       ∙ get_or-map-range_with_len own 0 (block_count a.block_len (length a.documents.now)) b b (own b) (omega (arith, infos_count)) (omega arith)))

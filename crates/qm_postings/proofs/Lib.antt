@@ -26,4 +26,5 @@ pub mod BlocksOfTerms
 pub mod BlockFrequencies
 pub mod GroupedPostings
 pub mod TermHeads
+pub mod FrequencyParts
 pub mod ShortTerms

@@ -8,6 +8,7 @@ pub mod Reading
 pub mod FieldIndex
 pub mod Stored
 pub mod StoredFacts
+pub mod Frequencies
 pub mod TermArrays
 pub mod SegmentPostings
 pub mod Statistics

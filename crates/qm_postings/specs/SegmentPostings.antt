@@ -1,4 +1,5 @@
 -- What a cursor over the postings of a term shows.
+use Rattle.qm_postings.specs.Frequencies.{listed}
 use Rattle.std.specs.Prelude.{◌≡◌, ℕ, ◌+◌, ◌-◌, ◌*◌, ◌/◌, ◌≤◌, ◌<◌, List, cond, length, drop, map, nat_eq, nat_lt, slice_index, slice_index_or, sum, take}
 use Rattle.qm_docset.specs.Entry.{Entry, Limits, head_document}
 use Rattle.qm_postings.specs.Blocks.{Block, block_read, looked_at, no_block}
@@ -47,7 +48,7 @@ pub record IsPostings (s : SegmentPostings) : Type 0 where
   pub arrays : AreArrays s.reading s.arrays
   pub place : s.cursor ≤ length s.arrays.documents.now
   pub mark : s.mark ≤ s.cursor
-  pub mark_start : 0 < length s.arrays.positions.now → s.mark_start ≡ sum (take s.mark s.arrays.frequencies.now)
+  pub mark_start : 0 < length s.arrays.positions.now → s.mark_start ≡ sum (take s.mark (listed s.arrays.frequencies))
   pub block : s.block * s.arrays.block_len ≤ s.cursor
   pub block_end : (s.block_end ≤ (s.block + 1) * s.arrays.block_len) × (s.block_end ≤ length s.arrays.documents.now)
   pub last_doc : s.cursor < s.block_end → s.block_end < length s.arrays.documents.now → s.last_doc ≤ slice_index s.arrays.documents.now (s.block_end - 1)

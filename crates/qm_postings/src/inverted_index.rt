@@ -2,6 +2,7 @@
 
 ghost use Rattle.std.specs.Prelude.{◌≡◌, ◌≤◌, ◌+◌, [], if◌then◌else◌, drop, take, length, IsSome, IfSome, ◌↔◌};
 ghost use Rattle.qm_schema.specs.Term.{TermKey, term_cmp};
+ghost use Rattle.qm_postings.specs.Frequencies.{listed};
 ghost use Rattle.qm_postings.specs.FieldIndex.{AreCounted, IsHeld, IsInfoOf, ListsInfo, ListsPostings, reading, shown};
 ghost use Rattle.qm_postings.specs.Kept.{in_range, positions_in};
 ghost use Rattle.std.specs.Option.{option_copied};
@@ -14,10 +15,11 @@ mod term_order;
 mod term_range;
 
 use crate::freq_reading_option::FreqReadingOption;
+use crate::frequencies::{Frequencies, FrequencyPart};
 use crate::segment_postings::SegmentPostings;
 use crate::segment_reader::{SegmentReader, TermEntry};
 use crate::term_arrays::{BlockInfo, TermArrays};
-use qm_docset::DocSet;
+use qm_docset::{DocId, DocSet};
 use qm_schema::{Field, IndexRecordOption, Term};
 use sought_term::SoughtTerm;
 use term_order::terms_before;
@@ -112,8 +114,8 @@ impl<'a> InvertedIndex<'a> {
         let reader = self.reader;
         let entry = &reader.terms[info.ordinal];
         let arrays = TermArrays {
-            documents: postings_part(&reader.documents, entry),
-            frequencies: postings_part(&reader.frequencies, entry),
+            documents: documents_part(&reader.documents, entry),
+            frequencies: frequencies_part(&reader.frequencies, entry),
             positions: positions_asked(&reader.positions, entry, option.has_positions()),
             blocks: blocks_from(
                 &reader.blocks,
@@ -162,13 +164,21 @@ impl<'a> InvertedIndex<'a> {
     }
 }
 
-// What an array of all postings has of a term.
-fn postings_part<'a>(array: &'a [u32], entry: &TermEntry) -> &'a [u32]
-    requires { entry.now.start + entry.now.count ≤ length array.now }
-    ensures { result.now ≡ in_range entry.now array.now }
+// The documents of a term, of those of all postings.
+fn documents_part<'a>(documents: &'a [DocId], entry: &TermEntry) -> &'a [DocId]
+    requires { entry.now.start + entry.now.count ≤ length documents.now }
+    ensures { result.now ≡ in_range entry.now documents.now }
 {
     let end = entry.start + entry.doc_freq as usize;
-    &array[entry.start..end]
+    &documents[entry.start..end]
+}
+
+// The frequencies of a term, of those of all postings.
+fn frequencies_part<'a>(frequencies: &'a Frequencies, entry: &TermEntry) -> FrequencyPart<'a>
+    requires { entry.now.start + entry.now.count ≤ length frequencies.now }
+    ensures { listed result ≡ in_range entry.now frequencies.now }
+{
+    frequencies.part(entry.start, entry.doc_freq as usize)
 }
 
 // So many blocks from a place on.

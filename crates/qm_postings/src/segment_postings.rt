@@ -298,7 +298,7 @@ impl<'a> SegmentPostings<'a> {
         let start = arrays.positions_start(self.cursor, self.mark, self.mark_start);
         self.mark = self.cursor;
         self.mark_start = start;
-        let end = start + arrays.frequencies[self.cursor] as usize;
+        let end = start + arrays.frequencies.at(self.cursor) as usize;
         &arrays.positions[start..end]
     }
 }
@@ -413,7 +413,7 @@ impl<'a> DocSet for SegmentPostings<'a> {
 impl<'a> Postings for SegmentPostings<'a> {
     fn term_freq(&self) -> u32 {
         match self.reading {
-            FreqReadingOption::ReadFreq => self.arrays.frequencies[self.cursor],
+            FreqReadingOption::ReadFreq => self.arrays.frequencies.at(self.cursor),
             FreqReadingOption::NoFreq | FreqReadingOption::SkipFreq => 1,
         }
     }

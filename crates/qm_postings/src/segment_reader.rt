@@ -10,6 +10,7 @@ ghost use Rattle.qm_postings.specs.Reading.{deleting};
 ghost use Rattle.qm_postings.specs.Segment.{alive_documents, is_alive, keeps_lengths, length_id};
 
 use crate::fieldnorm::FieldNormReader;
+use crate::frequencies::Frequencies;
 use crate::inverted_index::InvertedIndex;
 use crate::term_arrays::BlockInfo;
 use qm_docset::{AliveBitSet, BitSet, DocId, TERMINATED};
@@ -53,8 +54,8 @@ impl Model for TermEntry {
 /// A segment, to be read: a list of documents, numbered from 0 up.
 ///
 /// It keeps its terms in their order, and for each a range of two arrays of all postings, one of
-/// documents and one of frequencies: 8 bytes a posting. Where a field keeps positions, its terms have
-/// a range of an array of positions too, 4 bytes a position. The postings of a term are cut into blocks
+/// documents and one of frequencies: 5 bytes a posting, or 8 where some frequency is over 255. Where a field
+/// keeps positions, its terms have a range of an array of positions too, 4 bytes a position. The postings of a term are cut into blocks
 /// of `block_len`, and each has 24 bytes more: where it ends, what bounds its postings, and where its
 /// positions begin. Where documents were deleted it keeps a bit for each document.
 ///
@@ -66,7 +67,7 @@ pub struct SegmentReader {
     pub(crate) block_len: u32,
     pub(crate) terms: Vec<TermEntry>,
     pub(crate) documents: Vec<DocId>,
-    pub(crate) frequencies: Vec<u32>,
+    pub(crate) frequencies: Frequencies,
     pub(crate) positions: Vec<u32>,
     pub(crate) block_starts: Vec<usize>,
     pub(crate) blocks: Vec<BlockInfo>,
@@ -87,12 +88,12 @@ impl Model for SegmentReader {
     ghost coded = { reader_code };
 
     ghost view = { λ r. record {
-      segment = without (left_out r.alive r.max_doc) (segment_from r.schema r.block_len (posted_of r.terms.items r.documents.items r.frequencies.items r.positions.items) (map (λ c. c.items) r.lengths.items) r.max_doc);
+      segment = without (left_out r.alive r.max_doc) (segment_from r.schema r.block_len (posted_of r.terms.items r.documents.items r.frequencies r.positions.items) (map (λ c. c.items) r.lengths.items) r.max_doc);
       terms = map (λ e. e.term) r.terms.items;
     } };
 
     ghost invariant = { λ r.
-        IsKept r.schema r.block_len r.max_doc r.terms.items r.documents.items r.frequencies.items r.positions.items (map (λ c. c.items) r.lengths.items) r.block_starts.items r.blocks.items
+        IsKept r.schema r.block_len r.max_doc r.terms.items r.documents.items r.frequencies r.positions.items (map (λ c. c.items) r.lengths.items) r.block_starts.items r.blocks.items
         × IsAliveSet r.max_doc r.alive };
 }
 

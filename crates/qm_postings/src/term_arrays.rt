@@ -1,9 +1,11 @@
 //! What a segment keeps of the postings of a term.
 
 ghost use Rattle.std.specs.Prelude.{◌≡◌, ◌≤◌, ◌<◌, length, sum, take};
+ghost use Rattle.qm_postings.specs.Frequencies.{listed};
 ghost use Rattle.qm_postings.specs.TermArrays.{AreArrays};
 ghost use Rattle.qm_postings.specs.declared.freq_reading_option.FreqReadingOption.{FreqReadingOption};
 
+use crate::frequencies::FrequencyPart;
 use qm_docset::DocId;
 
 /// What a segment knows of a block of a term's postings. A block has `block_len` of them, the last
@@ -25,7 +27,7 @@ pub(crate) struct BlockInfo {
 #[derive(Clone, Copy, Debug)]
 pub(crate) struct TermArrays<'a> {
     pub(crate) documents: &'a [DocId],
-    pub(crate) frequencies: &'a [u32],
+    pub(crate) frequencies: FrequencyPart<'a>,
     pub(crate) positions: &'a [u32],
     pub(crate) blocks: &'a [BlockInfo],
     pub(crate) block_len: usize,
@@ -38,17 +40,17 @@ impl<'a> TermArrays<'a> {
     pub(crate) fn positions_start(&self, place: usize, mark: usize, mark_start: usize) -> usize
         requires arrays { (reading : FreqReadingOption) × AreArrays reading self.now }
         requires some { 0 < length self.now.positions.now }
-        requires within { place < length self.now.frequencies.now }
+        requires within { place < length (listed self.now.frequencies) }
         requires mark { mark ≤ place }
-        requires start { mark_start ≡ sum (take mark self.now.frequencies.now) }
-        ensures { result ≡ sum (take place self.now.frequencies.now) }
+        requires start { mark_start ≡ sum (take mark (listed self.now.frequencies)) }
+        ensures { result ≡ sum (take place (listed self.now.frequencies)) }
     {
         let block = place / self.block_len;
         let block_start = block * self.block_len;
         if mark < block_start {
-            self.blocks[block].positions_start + sum_of(&self.frequencies[block_start..place])
+            self.blocks[block].positions_start + self.frequencies.part(block_start, place).sum()
         } else {
-            mark_start + sum_of(&self.frequencies[mark..place])
+            mark_start + self.frequencies.part(mark, place).sum()
         }
     }
 }

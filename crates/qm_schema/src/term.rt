@@ -8,6 +8,10 @@ use std::alloc::Global;
 use std::cmp::Ordering;
 use std::marker::Model;
 
+mod term_bytes;
+
+use term_bytes::TermBytes;
+
 /// A term: a field and the bytes of a text, one word as a rule.
 ///
 /// Terms are ordered by field, then by bytes, each byte as a number, and a text comes before every
@@ -15,7 +19,7 @@ use std::marker::Model;
 #[derive(Debug, Drop)]
 pub struct Term {
     field: Field,
-    bytes: Vec<u8>,
+    bytes: TermBytes,
 }
 
 impl Model for Term {
@@ -25,19 +29,19 @@ impl Model for Term {
 
     ghost coded = { term_code };
 
-    ghost view = { λ t. record { field = t.field; bytes = t.bytes.items } };
+    ghost view = { λ t. record { field = t.field; bytes = t.bytes } };
 }
 
 impl Term {
     /// The term of that field whose bytes are those of `text`, which may be empty; costs a copy of
-    /// it.
+    /// it, which takes no memory where it has at most 22 bytes.
     ///
     /// Refused with [`QueryError::Memory`] alone.
     pub fn from_field_text(alloc: Global, field: Field, text: &str) -> Result<Term, QueryError>
         ensures ok { IfOk result (λ term. term ≡ record { field = field; bytes = text.now }) }
         ensures refused { IsOkUnless result QueryError.Memory }
     {
-        let bytes = Vec::from_slice(alloc, text.as_bytes())?;
+        let bytes = TermBytes::from_slice(alloc, text.as_bytes())?;
         Ok(Term { field, bytes })
     }
 
@@ -55,14 +59,15 @@ impl Term {
         self.bytes.as_slice()
     }
 
-    /// The same term again, in memory of its own from `alloc`; costs a copy of its bytes.
+    /// The same term again, in memory of its own from `alloc`; costs a copy of its bytes, which takes none where
+    /// they are at most 22.
     ///
     /// Refused with [`QueryError::Memory`] alone.
     pub fn clone(&self, alloc: Global) -> Result<Term, QueryError>
         ensures ok { IfOk result (λ term. term ≡ self.now) }
         ensures refused { IsOkUnless result QueryError.Memory }
     {
-        let bytes = Vec::from_slice(alloc, self.bytes.as_slice())?;
+        let bytes = TermBytes::from_slice(alloc, self.bytes.as_slice())?;
         Ok(Term {
             field: self.field,
             bytes,
@@ -81,7 +86,7 @@ impl PartialEq for Term {
 
     #[tactic(auto, using(crate::specs::Term::term_parts))]
     fn eq(&self, other: &Term) -> bool {
-        self.field == other.field && self.bytes == other.bytes
+        self.field == other.field && self.bytes.as_slice() == other.bytes.as_slice()
     }
 }
 
@@ -121,7 +126,7 @@ impl Ord for Term {
     fn cmp(&self, other: &Term) -> Ordering {
         let by_field = self.field.field_id().cmp(&other.field.field_id());
         match by_field {
-            Ordering::Equal => self.bytes.cmp(&other.bytes),
+            Ordering::Equal => self.bytes.as_slice().cmp(other.bytes.as_slice()),
             Ordering::Less | Ordering::Greater => by_field,
         }
     }

@@ -33,7 +33,7 @@ pub(super) fn cut_into_blocks(
     ensures refused { IsOkUnless result QueryError.Memory }
 {
     let mut starts = Vec::with_capacity(alloc, terms.len())?;
-    let mut infos = Vec::new(alloc);
+    let mut infos = Vec::with_capacity(alloc, count_blocks(terms, block_len))?;
     for entry in terms {
         starts.push(infos.len())?;
         let end = entry.start + entry.doc_freq as usize;
@@ -46,6 +46,17 @@ pub(super) fn cut_into_blocks(
         )?;
     }
     Ok(TermBlocks { starts, infos })
+}
+
+// How many blocks the terms have in all: what room they take, and no more hangs on it.
+fn count_blocks(terms: &[TermEntry], block_len: u32) -> usize
+    requires { 0 < block_len }
+{
+    let mut count: usize = 0;
+    for entry in terms {
+        count = count.saturating_add(entry.doc_freq.div_ceil(block_len) as usize);
+    }
+    count
 }
 
 // The length ids of a field; none where it keeps no lengths, or isn't there.

@@ -1,4 +1,5 @@
 -- The range of the info's term is a range of the arrays of all postings.
+use Rattle.qm_postings.specs.Frequencies.{listed}
 use Rattle.std.proofs.Common.{ℕ, [], List, ◌<◌, ◌≤◌, cond, sum, length, ◌≡◌, ◌+◌, Some, get_or, map, true, drop, sym, subst, ap, ◌∙◌, arith}
 use Rattle.std.specs.Prelude.{All, take}
 use Rattle.std.specs.Int.{div_ceil}
@@ -33,8 +34,8 @@ index-entry-requires c =
     let within = placed_within terms c.requires.0 place (subst Placed (sym c.reader.view_is) c.requires.1.place) in
     omega (arith, within, inside.terms.ok.0)
 
-pub postings_part-requires : goal.postings_part-requires
-postings_part-requires c =
+pub documents_part-requires : goal.documents_part-requires
+documents_part-requires c =
     let inside = c.reader.inside in
     let terms = inside.terms.items in
     let place = c.args.info.now.ordinal in
@@ -45,8 +46,8 @@ postings_part-requires c =
     (sym c.index-entry.ensures) (c.reader.invariant.0.index.within place r within) in
     omega (arith, known, ap length c.deref.ensures.value)
 
-pub postings_part-requires-2 : goal.postings_part-requires-2
-postings_part-requires-2 c =
+pub frequencies_part-requires : goal.frequencies_part-requires
+frequencies_part-requires c =
     let inside = c.reader.inside in
     let terms = inside.terms.items in
     let place = c.args.info.now.ordinal in
@@ -55,7 +56,7 @@ postings_part-requires-2 c =
     let r : PostingsRange = c.index-entry.result.now in
     let known = subst (λ (y : PostingsRange). y.start + y.count ≤ length inside.documents.items)
     (sym c.index-entry.ensures) (c.reader.invariant.0.index.within place r within) in
-    omega (arith, known, c.reader.invariant.0.index.paired, ap length c.deref-2.ensures.value)
+    omega (arith, known, c.reader.invariant.0.index.paired)
 
 pub positions_asked-requires : goal.positions_asked-requires
 positions_asked-requires c =
@@ -67,7 +68,7 @@ positions_asked-requires c =
     let r : PostingsRange = c.index-entry.result.now in
     let known = subst (λ (y : PostingsRange). y.positions_start + y.positions_count ≤ length inside.positions.items)
     (sym c.index-entry.ensures) (c.reader.invariant.0.positions.within place r within) in
-    omega (arith, known, ap length c.deref-3.ensures.value)
+    omega (arith, known, ap length c.deref-2.ensures.value)
 
 pub new-requires : goal.new-requires
 new-requires c =
@@ -79,25 +80,25 @@ new-requires c =
     let r : PostingsRange = c.index-entry.result.now in
     let here = c.index-entry.ensures in
     let documents = inside.documents.items in
-    let frequencies = inside.frequencies.items in
+    let frequencies = inside.frequencies in
     let places = inside.positions.items in
     let asked = has_positions c.args.option in
     let index = c.reader.invariant.0.index in
     let Documents : PostingsRange → Type 0 = λ y. AreDocuments (in_range y documents) in
     let Most : PostingsRange → Type 0 = λ y. y.most ≡ greatest (in_range y frequencies) in
-    let documents_are : c.postings_part.result.now ≡ in_range r documents = c.postings_part.ensures ∙ ap (in_range r) c.deref.ensures.value in
-    let frequencies_are : c.postings_part-2.result.now ≡ in_range r frequencies = c.postings_part-2.ensures ∙ ap (in_range r) c.deref-2.ensures.value in
+    let documents_are : c.documents_part.result.now ≡ in_range r documents = c.documents_part.ensures ∙ ap (in_range r) c.deref.ensures.value in
+    let frequencies_are : (listed c.frequencies_part.result) ≡ in_range r frequencies = c.frequencies_part.ensures in
     let positions_are : c.positions_asked.result.now ≡ cond asked (positions_in r places) [] = c.positions_asked.ensures
-    ∙ (λ i. cond (c.has_positions.ensures i) (positions_in r (c.deref-3.ensures.value i)) []) in
+    ∙ (λ i. cond (c.has_positions.ensures i) (positions_in r (c.deref-2.ensures.value i)) []) in
     let known : r.start + r.count ≤ length documents =
     subst (λ (y : PostingsRange). y.start + y.count ≤ length documents) (sym here) (index.within place r within) in
-    let long : length c.postings_part-2.result.now ≡ length c.postings_part.result.now =
+    let long : length (listed c.frequencies_part.result) ≡ length c.documents_part.result.now =
     ap length frequencies_are ∙ in_range-length r frequencies (omega (arith, known, index.paired))
     ∙ sym (in_range-length r documents known) ∙ sym (ap length documents_are) in
     let ArePlaced : List ℕ → List ℕ → List ℕ → Type 0 = λ xs ys zs. All (λ e. ArePositions e.positions) (stored_entries c.freq_reading.result xs ys zs) in
     let placed : ArePlaced (in_range r documents) (in_range r frequencies) (cond asked (positions_in r places) []) =
     asked_ascend inside.schema terms documents frequencies places place r c.reader.invariant.0.positions within here c.freq_reading.result asked in
-    let most : c.entry.inside.max_term_freq ≡ greatest c.postings_part-2.result.now = ap (λ (y : PostingsRange). y.most) c.entry.view_is
+    let most : c.entry.inside.max_term_freq ≡ greatest (listed c.frequencies_part.result) = ap (λ (y : PostingsRange). y.most) c.entry.view_is
     ∙ subst Most (sym here) (index.most place r within) ∙ ap greatest (sym frequencies_are) in
     let columns = map (λ c. c.items) inside.lengths.items in
     let count : c.div_ceil.result ≡ div_ceil r.count inside.block_len = c.div_ceil.ensures
@@ -110,8 +111,8 @@ new-requires c =
           terms documents frequencies inside.block_starts.items inside.blocks.items c.reader.invariant.0.blocks,
     )) c.index.ensures 0 in
     let blocks_are : c.blocks_from.result.now
-    ≡ all_infos inside.block_len (get_or columns r.term.field []) c.postings_part.result.now c.postings_part-2.result.now =
-    c.blocks_from.ensures ∙ (λ i. take (count i) (drop (starts_at i) (c.deref-4.ensures.value i)))
+    ≡ all_infos inside.block_len (get_or columns r.term.field []) c.documents_part.result.now (listed c.frequencies_part.result) =
+    c.blocks_from.ensures ∙ (λ i. take (count i) (drop (starts_at i) (c.deref-3.ensures.value i)))
     ∙ infos_at inside.block_len columns terms documents frequencies inside.block_starts.items
     inside.blocks.items place r c.reader.invariant.0.blocks within here (in_range-length r documents known)
     ∙ (λ i. all_infos inside.block_len (get_or columns r.term.field []) (sym documents_are i) (sym frequencies_are i)) in
@@ -122,8 +123,8 @@ new-requires c =
       ids = get_or columns r.term.field [];
       blocks = blocks_are;
       room = room-greatest c.entry.inside.max_term_freq c.freq_reading.result
-          c.postings_part.result.now c.postings_part-2.result.now c.positions_asked.result.now most;
-      positions = subst (λ xs. ArePlaced xs c.postings_part-2.result.now c.positions_asked.result.now) (sym documents_are)
+          c.documents_part.result.now (listed c.frequencies_part.result) c.positions_asked.result.now most;
+      positions = subst (λ xs. ArePlaced xs (listed c.frequencies_part.result) c.positions_asked.result.now) (sym documents_are)
           (subst (λ ys. ArePlaced (in_range r documents) ys c.positions_asked.result.now) (sym frequencies_are)
           (subst (ArePlaced (in_range r documents) (in_range r frequencies)) (sym positions_are) placed));
       enough = λ some.
@@ -145,7 +146,7 @@ returns-clause-lists c =
     let within = placed_within terms term place placed in
     let own = placed_term terms term place r here placed in
     let documents = inside.documents.items in
-    let frequencies = inside.frequencies.items in
+    let frequencies = inside.frequencies in
     let places = inside.positions.items in
     let option = c.args.option in
     let schema = sym (ap (λ v. v.segment.schema) c.reader.view_is) in
@@ -157,10 +158,10 @@ returns-clause-lists c =
     Type 0 = λ t. cond (reads_positions inside.schema option t.field) (positions_in r places) [] ≡ cond (has_positions option) (positions_in r places) [] in
     let read_too : Read term =
     subst Read own (asked_read inside.schema terms documents frequencies places place r c.reader.invariant.0.positions within here option) in
-    let documents_are : c.postings_part.result.now ≡ in_range r documents = c.postings_part.ensures ∙ ap (in_range r) c.deref.ensures.value in
-    let frequencies_are : c.postings_part-2.result.now ≡ in_range r frequencies = c.postings_part-2.ensures ∙ ap (in_range r) c.deref-2.ensures.value in
+    let documents_are : c.documents_part.result.now ≡ in_range r documents = c.documents_part.ensures ∙ ap (in_range r) c.deref.ensures.value in
+    let frequencies_are : (listed c.frequencies_part.result) ≡ in_range r frequencies = c.frequencies_part.ensures in
     let positions_are : c.positions_asked.result.now ≡ cond (reads_positions inside.schema option term.field) (positions_in r places) [] =
-    c.positions_asked.ensures ∙ (λ i. cond (c.has_positions.ensures i) (positions_in r (c.deref-3.ensures.value i)) []) ∙ sym read_too in
+    c.positions_asked.ensures ∙ (λ i. cond (c.has_positions.ensures i) (positions_in r (c.deref-2.ensures.value i)) []) ∙ sym read_too in
     let postings =
     postings_of-place inside.schema inside.block_len columns inside.max_doc terms documents frequencies places place r term option index within here own in
     let most =
@@ -188,7 +189,7 @@ returns-clause-counted c = λ reads.
     let placed = subst Placed (sym c.reader.view_is) info.place in
     let within = placed_within terms term place placed in
     let documents = inside.documents.items in
-    let frequencies = inside.frequencies.items in
+    let frequencies = inside.frequencies in
     let places = inside.positions.items in
     let option = c.args.option in
     let schema = ap (λ v. v.segment.schema) c.reader.view_is in
@@ -196,10 +197,10 @@ returns-clause-counted c = λ reads.
     let asked : reads_positions inside.schema option r.term.field ≡ true = (λ i. reads_positions (schema i) option (field i)) ∙ reads in
     let read : c.freq_reading.result ≡ reading inside.schema option r.term.field = c.freq_reading.ensures
     ∙ (λ i. reading (sym schema i) option (sym field i)) in
-    let documents_are : c.postings_part.result.now ≡ in_range r documents = c.postings_part.ensures ∙ ap (in_range r) c.deref.ensures.value in
-    let frequencies_are : c.postings_part-2.result.now ≡ in_range r frequencies = c.postings_part-2.ensures ∙ ap (in_range r) c.deref-2.ensures.value in
+    let documents_are : c.documents_part.result.now ≡ in_range r documents = c.documents_part.ensures ∙ ap (in_range r) c.deref.ensures.value in
+    let frequencies_are : (listed c.frequencies_part.result) ≡ in_range r frequencies = c.frequencies_part.ensures in
     let positions_are : c.positions_asked.result.now ≡ cond (has_positions option) (positions_in r places) [] = c.positions_asked.ensures
-    ∙ (λ i. cond (c.has_positions.ensures i) (positions_in r (c.deref-3.ensures.value i)) []) in
+    ∙ (λ i. cond (c.has_positions.ensures i) (positions_in r (c.deref-2.ensures.value i)) []) in
     let known : r.start + r.count ≤ length documents =
     subst (λ (y : PostingsRange). y.start + y.count ≤ length documents) (sym here) (c.reader.invariant.0.index.within place r within) in
     let paired = in_range-length r frequencies (omega (arith, known, c.reader.invariant.0.index.paired)) ∙ sym (in_range-length r documents known) in
@@ -222,7 +223,7 @@ index-requires c =
       within,
       inside.block_starts.ok.0,
       starts_each inside.block_len (map (λ c. c.items) inside.lengths.items) terms
-          inside.documents.items inside.frequencies.items inside.block_starts.items inside.blocks.items c.reader.invariant.0.blocks,
+          inside.documents.items inside.frequencies inside.block_starts.items inside.blocks.items c.reader.invariant.0.blocks,
     )
 
 pub blocks_from-requires : goal.blocks_from-requires
@@ -235,7 +236,7 @@ blocks_from-requires c =
     let r : PostingsRange = c.index-entry.result.now in
     let here = c.index-entry.ensures in
     let documents = inside.documents.items in
-    let frequencies = inside.frequencies.items in
+    let frequencies = inside.frequencies in
     let columns = map (λ c. c.items) inside.lengths.items in
     let known : r.start + r.count ≤ length documents =
     subst (λ (y : PostingsRange). y.start + y.count ≤ length documents) (sym here) (c.reader.invariant.0.index.within place r within) in
@@ -254,7 +255,7 @@ blocks_from-requires c =
       count,
       infos_inside inside.block_len columns terms documents frequencies inside.block_starts.items inside.blocks.items
           place r c.reader.invariant.0.blocks within here (in_range-length r documents known),
-      ap length c.deref-4.ensures.value,
+      ap length c.deref-3.ensures.value,
     )
 
 pub returns-clause-blocks : goal.returns-clause-blocks
@@ -269,7 +270,7 @@ returns-clause-blocks c = λ term info.
     let within = placed_within terms term place placed in
     let own = placed_term terms term place r here placed in
     let documents = inside.documents.items in
-    let frequencies = inside.frequencies.items in
+    let frequencies = inside.frequencies in
     let columns = map (λ c. c.items) inside.lengths.items in
     let option = c.args.option in
     let schema = sym (ap (λ v. v.segment.schema) c.reader.view_is) in
@@ -286,7 +287,7 @@ returns-clause-blocks c = λ term info.
       starts_each inside.block_len columns
           terms documents frequencies inside.block_starts.items inside.blocks.items c.reader.invariant.0.blocks,
     )) c.index.ensures 0 in
-    let blocks_are = c.blocks_from.ensures ∙ (λ i. take (count i) (drop (starts_at i) (c.deref-4.ensures.value i)))
+    let blocks_are = c.blocks_from.ensures ∙ (λ i. take (count i) (drop (starts_at i) (c.deref-3.ensures.value i)))
     ∙ infos_at inside.block_len columns terms documents frequencies inside.block_starts.items inside.blocks.items
     place r c.reader.invariant.0.blocks within here (in_range-length r documents known) in
     let segment = segment_from inside.schema inside.block_len (posted_of terms documents frequencies inside.positions.items) columns inside.max_doc in
@@ -310,12 +311,12 @@ returns-clause-ids c =
     let within = placed_within terms term place placed in
     let field : r.term.field ≡ c.args.self.now.field = ap (λ (t : TermKey). t.field) (placed_term terms term place r here placed) ∙ info.held.0 in
     let documents = inside.documents.items in
-    let frequencies = inside.frequencies.items in
+    let frequencies = inside.frequencies in
     let columns = map (λ c. c.items) inside.lengths.items in
     let known : r.start + r.count ≤ length documents =
     subst (λ (y : PostingsRange). y.start + y.count ≤ length documents) (sym here) (c.reader.invariant.0.index.within place r within) in
-    let documents_are : c.postings_part.result.now ≡ in_range r documents = c.postings_part.ensures ∙ ap (in_range r) c.deref.ensures.value in
-    let frequencies_are : c.postings_part-2.result.now ≡ in_range r frequencies = c.postings_part-2.ensures ∙ ap (in_range r) c.deref-2.ensures.value in
+    let documents_are : c.documents_part.result.now ≡ in_range r documents = c.documents_part.ensures ∙ ap (in_range r) c.deref.ensures.value in
+    let frequencies_are : (listed c.frequencies_part.result) ≡ in_range r frequencies = c.frequencies_part.ensures in
     let count : c.div_ceil.result ≡ div_ceil r.count inside.block_len = c.div_ceil.ensures
     ∙ ap (λ (y : PostingsRange). div_ceil y.count inside.block_len) c.entry.view_is in
     let starts_at : c.index.result.now ≡ get_or inside.block_starts.items place 0 =
@@ -326,14 +327,14 @@ returns-clause-ids c =
           terms documents frequencies inside.block_starts.items inside.blocks.items c.reader.invariant.0.blocks,
     )) c.index.ensures 0 in
     let blocks_are : c.blocks_from.result.now
-    ≡ all_infos inside.block_len (get_or columns r.term.field []) c.postings_part.result.now c.postings_part-2.result.now =
-    c.blocks_from.ensures ∙ (λ i. take (count i) (drop (starts_at i) (c.deref-4.ensures.value i)))
+    ≡ all_infos inside.block_len (get_or columns r.term.field []) c.documents_part.result.now (listed c.frequencies_part.result) =
+    c.blocks_from.ensures ∙ (λ i. take (count i) (drop (starts_at i) (c.deref-3.ensures.value i)))
     ∙ infos_at inside.block_len columns terms documents frequencies inside.block_starts.items
     inside.blocks.items place r c.reader.invariant.0.blocks within here (in_range-length r documents known)
     ∙ (λ i. all_infos inside.block_len (get_or columns r.term.field []) (sym documents_are i) (sym frequencies_are i)) in
     let Below : PostingsRange → Type 0 = λ y. All (λ d. d < inside.max_doc) (in_range y documents) in
     let named : documents_of (postings_left c.new.result) ≡ in_range r documents = ap documents_of c.new.ensures.lists.entries
-    ∙ documents-stored c.freq_reading.result c.postings_part.result.now c.postings_part-2.result.now c.positions_asked.result.now ∙ documents_are in
+    ∙ documents-stored c.freq_reading.result c.documents_part.result.now (listed c.frequencies_part.result) c.positions_asked.result.now ∙ documents_are in
     let below : All (λ d. d < inside.max_doc) (documents_of (postings_left c.new.result)) =
     subst (All (λ d. d < inside.max_doc)) (sym named) (subst Below (sym here) (c.reader.invariant.0.index.below place r within)) in
     let each = least_ids-column (left_out inside.alive inside.max_doc) inside.schema inside.block_len

@@ -1,4 +1,5 @@
 -- As many positions as the frequency says, from where those of the posting begin.
+use Rattle.qm_postings.specs.Frequencies.{listed}
 use Rattle.std.proofs.Common.{◌≡◌, ◌<◌, ◌≤◌, ◌+◌, ◌-◌, ℕ, length, sum, get_or, take, drop, ap, refl, sym, arith, ◌∙◌, rules}
 use Rattle.qm_docset.specs.Entry.{head_document}
 use Rattle.qm_docset.specs.declared.numbers.TheConstants.{TERMINATED}
@@ -16,17 +17,17 @@ inside s valid here = within s.cursor (stored s.reading s.arrays) s.arrays.docum
 
 -- the positions of the posting that the cursor stands on are there
 end_inside : (s : SegmentPostings) (start : ℕ) → IsPostings s → head_document (postings_left s) < TERMINATED →
-    0 < length s.arrays.positions.now → start ≡ sum (take s.cursor s.arrays.frequencies.now) →
-    start + get_or s.arrays.frequencies.now s.cursor 0 ≤ length s.arrays.positions.now
+    0 < length s.arrays.positions.now → start ≡ sum (take s.cursor (listed s.arrays.frequencies)) →
+    start + get_or (listed s.arrays.frequencies) s.cursor 0 ≤ length s.arrays.positions.now
 end_inside s start valid here some is =
-    omega (arith, is, valid.arrays.enough some, sum-past s.cursor s.arrays.frequencies.now (omega (arith, inside s valid here, valid.arrays.frequencies)))
+    omega (arith, is, valid.arrays.enough some, sum-past s.cursor (listed s.arrays.frequencies) (omega (arith, inside s valid here, valid.arrays.frequencies)))
 
 pub returns-then-is_empty-clause-positions : goal.returns-then-is_empty-clause-positions
 returns-then-is_empty-clause-positions c =
     let s = c.args.self.now in
     let a = s.arrays in
     let none : length a.positions.now ≡ 0 = search rules in
-    no_positions s.reading s.cursor a.documents.now a.frequencies.now a.positions.now none (inside s c.requires.valid c.requires.here)
+    no_positions s.reading s.cursor a.documents.now (listed a.frequencies) a.positions.now none (inside s c.requires.valid c.requires.here)
 
 pub returns-then-is_empty-clause-valid : goal.returns-then-is_empty-clause-valid
 returns-then-is_empty-clause-valid c = c.requires.valid
@@ -50,8 +51,8 @@ positions_start-start-requires c =
       start = c.requires.valid.mark_start some;
     }
 
-pub bounds-arrays-self : goal.bounds-arrays-self
-bounds-arrays-self c =
+pub at-requires : goal.at-requires
+at-requires c =
     let s = c.args.self.now in
     omega (arith, inside s c.requires.valid c.requires.here, c.requires.valid.arrays.frequencies)
 
@@ -59,6 +60,7 @@ pub overflow_add-end : goal.overflow_add-end
 overflow_add-end c = omega (
   arith,
   end_inside c.args.self.now c.positions_start-start.result c.requires.valid c.requires.here (search rules) c.positions_start-start.ensures,
+  c.at.ensures,
   c.fits-self,
 )
 
@@ -66,19 +68,22 @@ pub slice_bounds-result-count : goal.slice_bounds-result-count
 slice_bounds-result-count c = omega arith
 
 pub slice_bounds-result-end : goal.slice_bounds-result-end
-slice_bounds-result-end c =
-    end_inside c.args.self.now c.positions_start-start.result c.requires.valid c.requires.here (search rules) c.positions_start-start.ensures
+slice_bounds-result-end c = omega (
+  arith,
+  end_inside c.args.self.now c.positions_start-start.result c.requires.valid c.requires.here (search rules) c.positions_start-start.ensures,
+  c.at.ensures,
+)
 
 pub returns-clause-positions : goal.returns-clause-positions
 returns-clause-positions c =
     let s = c.args.self.now in
     let a = s.arrays in
     let start = c.positions_start-start in
-    let f = get_or a.frequencies.now s.cursor 0 in
-    let width : start.result + f - start.result ≡ f = omega arith in
+    let f = get_or (listed a.frequencies) s.cursor 0 in
+    let width : start.result + c.at.result - start.result ≡ f = omega (arith, c.at.ensures) in
     ap (λ n. take n (drop start.result a.positions.now)) width
     ∙ ap (λ n. take f (drop n a.positions.now)) start.ensures
-    ∙ sym (positions_at s.reading s.cursor a.documents.now a.frequencies.now a.positions.now (inside s c.requires.valid c.requires.here))
+    ∙ sym (positions_at s.reading s.cursor a.documents.now (listed a.frequencies) a.positions.now (inside s c.requires.valid c.requires.here))
 
 pub returns-clause-entries : goal.returns-clause-entries
 returns-clause-entries c = refl

@@ -1,4 +1,5 @@
 -- The documents up to the block's end ascend too, and the last of them is not below the target.
+use Rattle.qm_postings.specs.Frequencies.{listed}
 use Rattle.std.proofs.Common.{◌≡◌, ℕ, ◌-◌, ◌<◌, ◌≤◌, get_or, length, take, arith, inl, inr}
 use Rattle.std.proofs.lemmas.Bool.{cases_lt}
 use Rattle.std.proofs.lemmas.List.{get_or-take, length-take-le}
@@ -54,7 +55,7 @@ returns-clause-entries c =
     let found = c.gallop-place.ensures in
     let place = c.gallop-place.result in
     let long = length-take-le s.block_end a.documents.now (r.valid.block_end.1) in
-    let entries = AreEntries-stored s.reading a.max_term_freq a.documents.now a.frequencies.now a.positions.now r.valid.arrays.documents r.valid.arrays.room in
+    let entries = AreEntries-stored s.reading a.max_term_freq a.documents.now (listed a.frequencies) a.positions.now r.valid.arrays.documents r.valid.arrays.room in
     left_from c.args.target s.cursor place (postings_limits s) (stored s.reading a) a.documents.now
     (named s) entries found.from_start (omega (arith, found.within, long, r.valid.block_end))
     (below s r.valid c.args.target place r.within r.reached found.from_start found.within found.passed)

@@ -14,7 +14,7 @@ pub remove-requires : goal.remove-requires
 remove-requires c =
     let inside = c.self.inside in
     let counted = count_of_documents inside.schema inside.block_len (posted_of inside.terms.items inside.documents.items
-    inside.frequencies.items inside.positions.items) (map (λ c. c.items) inside.lengths.items) inside.max_doc in
+    inside.frequencies inside.positions.items) (map (λ c. c.items) inside.lengths.items) inside.max_doc in
     let here = ap (λ r. length r.segment.documents) c.self.view_is in
     omega (arith, c.requires.exists, counted, here, c.in_ok-alive.ensures.same.max_value)
 
@@ -22,7 +22,7 @@ pub invariant_of-self-2 : goal.invariant_of-self-2
 invariant_of-self-2 c =
     let inside = c.self.inside in
     let counted = count_of_documents inside.schema inside.block_len (posted_of inside.terms.items inside.documents.items
-    inside.frequencies.items inside.positions.items) (map (λ c. c.items) inside.lengths.items) inside.max_doc in
+    inside.frequencies inside.positions.items) (map (λ c. c.items) inside.lengths.items) inside.max_doc in
     let here = ap (λ r. length r.segment.documents) c.self.view_is in (
       c.self.invariant.0,
       removed_leaves_out c.in_ok-alive.alive c.remove.new.self inside.max_doc c.args.doc (omega (arith, c.requires.exists, counted, here))
@@ -34,7 +34,7 @@ returns-clause-deleted c =
     let inside = c.self.inside in
     let n = inside.max_doc in
     let doc = c.args.doc in
-    let posted = posted_of inside.terms.items inside.documents.items inside.frequencies.items inside.positions.items in
+    let posted = posted_of inside.terms.items inside.documents.items inside.frequencies inside.positions.items in
     let columns = map (λ c. c.items) inside.lengths.items in
     let kept = segment_from inside.schema inside.block_len posted columns n in
     let terms = map (λ e. e.term) inside.terms.items in

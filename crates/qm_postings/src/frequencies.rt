@@ -1,0 +1,130 @@
+//! The frequencies of postings.
+
+ghost use Rattle.std.specs.Prelude.{◌≡◌, ◌≤◌, ◌<◌, ◌+◌, ◌-◌, drop, length, slice_index, sum, take, IfOk, IfSome, IsOkUnless};
+ghost use Rattle.qm_postings.specs.Frequencies.{listed};
+
+use crate::term_arrays::sum_of;
+use qm_schema::QueryError;
+use std::alloc::Global;
+use std::marker::Model;
+
+/// How often terms stand in the documents of a row of postings. Where none of these numbers is over 255, as in
+/// most segments, each takes one byte, and else four.
+///
+/// Contracts see the list of them.
+#[derive(Debug, Drop)]
+pub(crate) struct Frequencies {
+    small: Vec<u8>,
+    // those behind the small ones
+    large: Vec<u32>,
+}
+
+impl Model for Frequencies {
+    ghost use Rattle.std.specs.Prelude.{ℕ, List, ◌++◌};
+    ghost use Rattle.std.specs.Coded.{coded_list, coded_ℕ};
+
+    ghost Value = { List ℕ };
+
+    ghost coded = { coded_list coded_ℕ };
+
+    ghost view = { λ f. f.small.items ++ f.large.items };
+}
+
+impl Frequencies {
+    // These frequencies: copied where all are small, and else kept as they are.
+    pub(crate) fn new(alloc: Global, frequencies: Vec<u32>) -> Result<Frequencies, QueryError>
+        ensures same { IfOk result (λ it. it ≡ frequencies.items) }
+        ensures refused { IsOkUnless result QueryError.Memory }
+    {
+        match small_of(alloc, &frequencies)? {
+            Some(small) => Ok(Frequencies {
+                small,
+                large: Vec::new(alloc),
+            }),
+            None => Ok(Frequencies {
+                small: Vec::new(alloc),
+                large: frequencies,
+            }),
+        }
+    }
+
+    // So many of them, from a place on.
+    pub(crate) fn part(&self, start: usize, count: usize) -> FrequencyPart<'_>
+        requires { start + count ≤ length self.now }
+        ensures { listed result ≡ take count (drop start self.now) }
+    {
+        let all = FrequencyPart {
+            small: &self.small,
+            large: &self.large,
+        };
+        all.part(start, start + count)
+    }
+}
+
+// These frequencies in a byte each, and none where one of them is over 255.
+fn small_of(alloc: Global, frequencies: &[u32]) -> Result<Option<Vec<u8>>, QueryError>
+    ensures same { IfOk result (λ small. IfSome small (λ it. it.items ≡ frequencies.now)) }
+    ensures refused { IsOkUnless result QueryError.Memory }
+{
+    let mut small = Vec::with_capacity(alloc, frequencies.len())?;
+    for frequency in frequencies {
+        if *frequency > 255 {
+            return Ok(None);
+        }
+        small.push(*frequency as u8)?;
+    }
+    Ok(Some(small))
+}
+
+/// The frequencies of a range of postings.
+#[derive(Clone, Copy, Debug)]
+pub(crate) struct FrequencyPart<'a> {
+    pub(crate) small: &'a [u8],
+    // those behind the small ones
+    pub(crate) large: &'a [u32],
+}
+
+impl<'a> FrequencyPart<'a> {
+    // The frequency at a place.
+    #[inline]
+    pub(crate) fn at(&self, place: usize) -> u32
+        requires { place < length (listed self.now) }
+        ensures { result ≡ slice_index (listed self.now) place }
+    {
+        match self.small.get(place) {
+            Some(frequency) => u32::from(*frequency),
+            None => self.large[place - self.small.len()],
+        }
+    }
+
+    // Those of a range of these postings.
+    pub(crate) fn part(&self, start: usize, end: usize) -> FrequencyPart<'a>
+        requires start { start ≤ end }
+        requires end { end ≤ length (listed self.now) }
+        ensures { listed result ≡ take (end - start) (drop start (listed self.now)) }
+    {
+        let count = self.small.len();
+        FrequencyPart {
+            small: &self.small[start.min(count)..end.min(count)],
+            large: &self.large[start.saturating_sub(count)..end.saturating_sub(count)],
+        }
+    }
+
+    pub(crate) fn sum(&self) -> usize
+        requires { sum (listed self.now) ≤ usize.MAX }
+        ensures { result ≡ sum (listed self.now) }
+    {
+        sum_of_small(self.small) + sum_of(self.large)
+    }
+}
+
+fn sum_of_small(frequencies: &[u8]) -> usize
+    requires { sum frequencies.now ≤ usize.MAX }
+    ensures { result ≡ sum frequencies.now }
+{
+    let mut total = 0;
+    for frequency in frequencies {
+        total += *frequency as usize;
+    }
+    total
+}
