@@ -120,10 +120,15 @@ impl Indexer {
         }
     }
 
-    // A segment takes in a little less than half of what is left, so that the making of the first takes no
-    // more room than all that stands in the end, and that of the last ones, beside the others, little.
+    // A segment takes in half of what is left, so that the making of the last ones, beside all that stands,
+    // takes little room; and the first a little less, so that its own takes no more than all in the end.
     fn begin_segment(&mut self) {
-        let part = usize::try_from(self.left / 20 * 9).unwrap_or(MOST_BYTES);
+        let part = if self.segments.is_empty() {
+            self.left / 20 * 9
+        } else {
+            self.left / 2
+        };
+        let part = usize::try_from(part).unwrap_or(MOST_BYTES);
         self.segment_bytes = part.clamp(LEAST_BYTES, MOST_BYTES);
     }
 

@@ -6,9 +6,9 @@ use Rattle.qm_schema.specs.declared.term.term_bytes.Text.TheVariants.{Short, Lon
 -- the bytes of a text: as many of those that the term holds as it says, or all that are kept beside it
 abbrev pub bytes_of : Text → List ℕ
 bytes_of (Short len bytes) = take len bytes
-bytes_of (Long bytes) = bytes.items
+bytes_of (Long bytes) = bytes.value.items
 
 -- a short text says no more than there are
 abbrev pub IsWithin : Text → Type 0
-IsWithin (Short len bytes) = len ≤ 22
+IsWithin (Short len bytes) = len ≤ 14
 IsWithin (Long bytes) = Unit {0}

@@ -34,7 +34,7 @@ impl Model for Term {
 
 impl Term {
     /// The term of that field whose bytes are those of `text`, which may be empty; costs a copy of
-    /// it, which takes no memory where it has at most 22 bytes.
+    /// it, which takes no memory where it has at most 14 bytes.
     ///
     /// Refused with [`QueryError::Memory`] alone.
     pub fn from_field_text(alloc: Global, field: Field, text: &str) -> Result<Term, QueryError>
@@ -60,7 +60,7 @@ impl Term {
     }
 
     /// The same term again, in memory of its own from `alloc`; costs a copy of its bytes, which takes none where
-    /// they are at most 22.
+    /// they are at most 14.
     ///
     /// Refused with [`QueryError::Memory`] alone.
     pub fn clone(&self, alloc: Global) -> Result<Term, QueryError>

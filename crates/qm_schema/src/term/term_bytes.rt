@@ -7,13 +7,13 @@ use crate::error::QueryError;
 use std::alloc::Global;
 use std::marker::Model;
 
-/// How many bytes a term holds in itself: as many as fit where a longer text has its place, length and room.
-const SHORT: usize = 22;
+/// How many bytes a term holds in itself: with what a term is besides, as many as three words of the machine take.
+const SHORT: usize = 14;
 
 #[derive(Debug, Drop)]
 enum Text {
     Short { len: u8, bytes: [u8; SHORT] },
-    Long(Vec<u8>),
+    Long(Box<Vec<u8>>),
 }
 
 /// The bytes of a term's text. Those of most words stand in the term, and take no memory of their own.
@@ -47,7 +47,7 @@ impl TermBytes {
         let text = if text.len() <= SHORT {
             short(text)
         } else {
-            Text::Long(Vec::from_slice(alloc, text)?)
+            Text::Long(Box::new(alloc, Vec::from_slice(alloc, text)?)?)
         };
         Ok(TermBytes { text })
     }
@@ -65,7 +65,7 @@ impl TermBytes {
 
 // A short text.
 fn short(text: &[u8]) -> Text
-    requires { length text.now ≤ 22 }
+    requires { length text.now ≤ 14 }
     ensures bytes { bytes_of result ≡ text.now }
     ensures within { IsWithin result }
 {
