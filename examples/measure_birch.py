@@ -76,7 +76,7 @@ def run(words, folder):
         for it in (text, told):
             it.seek(0)
             written.append(it.read().decode(errors="replace"))
-    return (*written, used.ru_utime + used.ru_stime, used.ru_maxrss / 1024)
+    return (*written, used.ru_utime + used.ru_stime, used.ru_maxrss * 1024 / 1_000_000)
 
 
 def queries(chance, words):
