@@ -41,7 +41,7 @@ def build(room):
     for name in ("main", "trace"):
         shutil.copy(f"{HERE}/measure_pruning/{name}.txt", f"{room}/crates/measure_pruning/src/{name}.rt")
     program = f"{room}/program"
-    subprocess.run([sys.executable, f"{room}/tests/unproved.py", "measure_pruning", program], check=True)
+    subprocess.run([sys.executable, f"{room}/tests/unproved.py", "measure_pruning", program, "--optimised"], check=True)
     return program
 
 
