@@ -1,15 +1,13 @@
 -- A slot has one term at most, and a number stays its term's as terms come.
-use Rattle.std.proofs.Common.{◌≡◌, ℕ, ◌≤◌, List, ◌++◌, All, Some, length, length-append, get_or, slice_get, refl, sym, ap, subst, ◌∙◌, arith}
+use Rattle.std.proofs.Common.{◌≡◌, List, ◌++◌, Some, length, length-append, get_or, slice_get, refl, sym, ap, ◌∙◌, arith}
 use Rattle.std.specs.Cmp.Lexicographic.{slice_cmp}
 use Rattle.std.specs.Cmp.{nat_cmp_is}
 use Rattle.std.specs.Ordering.{nat_cmp}
 use Rattle.std.specs.declared.cmp.Ordering.TheVariants.{Equal}
 use Rattle.std.proofs.lemmas.List.{get_or_append_left}
-use Rattle.std.proofs.lemmas.List.Elements.{All-set}
 use Rattle.std.proofs.lemmas.Option.{get_or_from_slice_get, slice_get_read, slice_get_within}
-use Rattle.qm_schema.specs.Term.{TermKey, term_cmp, term_cmp-bytes, term_cmp_antisymmetric}
+use Rattle.qm_schema.specs.Term.{TermKey, term_cmp-bytes, term_cmp_antisymmetric}
 use Rattle.qm_postings.specs.ShortTerms.{AreNumbersOf, IsNumbered, IsOf}
-use Rattle.qm_postings.specs.TermHead.{IsHeadOf}
 use Rattle.qm_postings.specs.declared.segment_builder.short_terms.ShortTerm.{ShortTerm}
 use Rattle.qm_postings.proofs.TermHeads.{lengths_decide}
 

@@ -1,5 +1,5 @@
 -- Short terms that were given numbers: field, head and length tell each from all others.
-use Rattle.std.specs.Prelude.{◌≡◌, ℕ, ◌≤◌, List, All, Some, length, slice_get}
+use Rattle.std.specs.Prelude.{◌≡◌, ◌≤◌, List, All, Some, length, slice_get}
 use Rattle.qm_schema.specs.Term.{TermKey}
 use Rattle.qm_postings.specs.TermHead.{IsHeadOf}
 use Rattle.qm_postings.specs.declared.segment_builder.short_terms.ShortTerm.{ShortTerm}

@@ -1,11 +1,11 @@
 -- At each term the map has what it had, or the new weight.
-use Rattle.std.proofs.Common.{◌≡◌, ℕ, ℤ, cond, Some, nat_abs, to_z, of_z, w64, sym, ap, ◌∙◌, arith}
+use Rattle.std.proofs.Common.{◌≡◌, ℕ, cond, Some, nat_abs, to_z, of_z, w64, sym, ap, ◌∙◌, arith}
 use Rattle.std.proofs.lemmas.Int.{ints, to_z-of_z}
 use Rattle.std.specs.BTreeMap as tree
 use Rattle.std.specs.BTreeMap.{is_at}
 use Rattle.std.specs.Ordering.{eq_by_cmp}
-use Rattle.std.specs.FinMap.{FinMap, from_entries, get, get-from_entries, get-insert, insert, same_map}
-use Rattle.qm_schema.specs.Term.{TermKey, term_cmp, term_cmp_total, term_cmp_antisymmetric, term_eq_laws}
+use Rattle.std.specs.FinMap.{FinMap, from_entries, get-from_entries, get-insert, insert, same_map}
+use Rattle.qm_schema.specs.Term.{term_cmp, term_cmp_total, term_cmp_antisymmetric, term_eq_laws}
 use Rattle.qm_postings.specs.Statistics.{with_weight}
 use Rattle.qm_postings.proofs.Weights.{lookup-first_of}
 use Rattle.qm_postings.proofs.searcher.Searcher.set_weight.Goals as goal

@@ -1,5 +1,5 @@
 -- One document more is left out, and nothing else of the reader changes.
-use Rattle.std.proofs.Common.{◌≡◌, ◌<◌, ◌==◌, ◌||◌, ℕ, List, Some, length, map, ap, sym, subst, ◌∙◌, arith}
+use Rattle.std.proofs.Common.{◌==◌, ◌||◌, ℕ, List, Some, length, map, ap, sym, subst, ◌∙◌, arith}
 use Rattle.std.specs.List.{list_any}
 use Rattle.qm_docset.specs.Members.{members_between}
 use Rattle.qm_postings.specs.Deletions.{HasSameAlive, is_left_out, left_out}

@@ -1,4 +1,4 @@
-use Rattle.std.proofs.Common.{◌≡◌, arith, sym, ◌∙◌}
+use Rattle.std.proofs.Common.{arith, sym, ◌∙◌}
 use Rattle.std.proofs.lemmas.List.Elements.{All-set}
 use Rattle.qm_postings.specs.ShortTerms.{IsNumbered, IsOf}
 use Rattle.qm_postings.specs.declared.segment_builder.short_terms.ShortTerm.{ShortTerm}
