@@ -1,5 +1,5 @@
 -- Short terms that were given numbers: field, head and length tell each from all others.
-use Rattle.std.specs.Prelude.{◌≡◌, ◌≤◌, List, All, Some, length, slice_get}
+use Rattle.std.specs.Prelude.{◌≡◌, ℕ, ◌≤◌, List, All, Some, length, slice_get}
 use Rattle.qm_schema.specs.Term.{TermKey}
 use Rattle.qm_postings.specs.TermHead.{IsHeadOf}
 use Rattle.qm_postings.specs.declared.segment_builder.short_terms.ShortTerm.{ShortTerm}
@@ -18,3 +18,11 @@ IsNumbered names slot = (term : TermKey) → IsOf term slot → slice_get names 
 -- so in each of some slots
 abbrev pub AreNumbersOf : List TermKey → List ShortTerm → Type 0
 AreNumbersOf names slots = All (IsNumbered names) slots
+
+-- a number is that of a term, by what stands in some slots
+abbrev pub IsNumberOf : TermKey → List ShortTerm → ℕ → Type 0
+IsNumberOf term slots number = (names : List TermKey) → AreNumbersOf names slots → slice_get names number ≡ Some term
+
+-- what stands in the slots stays true, where a term has this number
+abbrev pub KeepsNumber : TermKey → ℕ → List ShortTerm → List ShortTerm → Type 0
+KeepsNumber term number old new = (names : List TermKey) → AreNumbersOf names old → slice_get names number ≡ Some term → AreNumbersOf names new

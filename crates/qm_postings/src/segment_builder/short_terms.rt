@@ -1,8 +1,8 @@
 //! The numbers of short terms that were asked for before, found without a search.
 
-ghost use Rattle.std.specs.Prelude.{◌≡◌, List, Some, IsTrue, IfSome, OnOk, IsOkUnless, slice_get};
+ghost use Rattle.std.specs.Prelude.{List, IsTrue, IfSome, IsOkUnless};
 ghost use Rattle.qm_schema.specs.Term.{TermKey};
-ghost use Rattle.qm_postings.specs.ShortTerms.{AreNumbersOf, IsOf};
+ghost use Rattle.qm_postings.specs.ShortTerms.{AreNumbersOf, IsNumberOf, IsOf, KeepsNumber};
 
 use crate::headed_term::HeadedTerm;
 use crate::term_head::HEAD_LEN;
@@ -55,7 +55,7 @@ impl ShortTerms {
     // The number of a term, where it stands in its slot.
     #[inline]
     pub(super) fn number_of(&self, term: &HeadedTerm) -> Option<u32>
-        ensures { IfSome result (λ number. (names : List TermKey) → AreNumbersOf names self.now.slots.items → slice_get names number ≡ Some term.now) }
+        ensures { IfSome result (IsNumberOf term.now self.now.slots.items) }
     {
         let known = self.slots.get(self.place_of(term))?;
         if is_of(known, term) {
@@ -68,7 +68,7 @@ impl ShortTerms {
     // Keeps the number of a term in its slot, where the term is short and the slot is empty: words that come
     // first are the frequent ones.
     pub(super) fn keep(&mut self, term: &HeadedTerm, number: u32)
-        ensures { (names : List TermKey) → AreNumbersOf names self.old.slots.items → slice_get names number ≡ Some term.now → AreNumbersOf names self.new.slots.items }
+        ensures { KeepsNumber term.now number self.old.slots.items self.new.slots.items }
     {
         let len = term.text_len();
         if len > HEAD_LEN {

@@ -55,7 +55,8 @@ returns-clause-entries c =
     let found = c.gallop-place.ensures in
     let place = c.gallop-place.result in
     let long = length-take-le s.block_end a.documents.now (r.valid.block_end.1) in
-    let entries = AreEntries-stored s.reading a.max_term_freq a.documents.now (listed a.frequencies) a.positions.now r.valid.arrays.documents r.valid.arrays.room in
+    let kept = r.valid.arrays in
+    let entries = AreEntries-stored s.reading a.max_term_freq a.documents.now (listed a.frequencies) a.positions.now kept.documents kept.room in
     left_from c.args.target s.cursor place (postings_limits s) (stored s.reading a) a.documents.now
     (named s) entries found.from_start (omega (arith, found.within, long, r.valid.block_end))
     (below s r.valid c.args.target place r.within r.reached found.from_start found.within found.passed)
