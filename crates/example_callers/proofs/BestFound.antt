@@ -1,5 +1,5 @@
 -- What the best of some documents says of all of them, and how many there are more.
-use Rattle.std.specs.Prelude.{◌≡◌, ◌⊎◌, ℕ, zero, suc, ◌+◌, ◌≤◌, min, nat_lt, ℤ, List, [], ◌∷◌, All, Contains, IfSome, None, Option, Some, length, slice_get}
+use Rattle.std.specs.Prelude.{◌≡◌, ◌⊎◌, ℕ, zero, suc, ◌+◌, ◌≤◌, min, nat_lt, ℤ, List, [], ◌∷◌, All, Contains, IfSome, None, Option, length, slice_get}
 use Rattle.std.proofs.Common.{arith, refl, subst, sym, ◌∙◌, get_or, inl, inr}
 use Rattle.std.proofs.lemmas.Bool.{cases_lt, lt-ltb, le-ltb}
 use Rattle.std.proofs.lemmas.List.Elements.{All-head, Contains-get_or}

@@ -1,7 +1,8 @@
 //! What a caller learns of an index, from the contracts of its calls alone.
 
 ghost use Rattle.std.specs.Prelude.{◌≡◌, ◌+◌, ◌≤◌, IfOk, OnOk, length};
-ghost use Rattle.qm_index.specs.Indexed.{Deletes, Indexed, IsRefreshed, indexed, with_document_of};
+ghost use Rattle.example_callers.specs.Found.{Replaces};
+ghost use Rattle.qm_index.specs.Indexed.{IsRefreshed, indexed};
 ghost use Rattle.qm_index.specs.Texts.{texts_draft};
 
 use qm_index::Index;
@@ -16,7 +17,7 @@ pub fn replace_document(
     number: u64,
     texts: Vec<(Field, String)>,
 ) -> Result<bool, QueryError>
-    ensures replaced { IfOk result (λ existed. (s : Indexed) × Deletes number (indexed index.old) existed s × (indexed index.new ≡ with_document_of s (texts_draft texts.items))) }
+    ensures replaced { IfOk result (Replaces number (texts_draft texts.items) (indexed index.old) (indexed index.new)) }
     ensures refreshed { OnOk result (IsRefreshed index.new) }
 {
     let existed = index.delete(alloc, number)?;

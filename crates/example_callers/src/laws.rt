@@ -2,8 +2,7 @@
 //! what two weights find in a segment, the one beside the other.
 
 ghost use Rattle.std.specs.Prelude.{◌≡◌, ◌≤ℤ◌, IfOk, IsTrue, map, nat_abs, pos};
-ghost use Rattle.qm_weight.specs.BoostFacts.{RoundsNothing};
-ghost use Rattle.qm_weight.specs.Callers.{multiplied};
+ghost use Rattle.example_callers.specs.Found.{IsMultiplied};
 ghost use Rattle.qm_weight.specs.OrderFacts.{IsReordered};
 ghost use Rattle.qm_weight.specs.ScoringFacts.{unscored};
 ghost use Rattle.qm_weight.specs.Tree.{is_scoring};
@@ -28,8 +27,8 @@ pub fn collect_reordered<V: Weight, W: Weight>(
     second: &W,
     reader: &SegmentReader,
 ) -> Result<Both, QueryError>
-    ensures documents { IfOk result (λ found. IsReordered (V.tree first.now) (W.tree second.now) → map (λ p. p.0) found.0.items ≡ map (λ p. p.0) found.1.items) }
-    ensures scores { IfOk result (λ found. IsReordered (V.tree first.now) (W.tree second.now) → IsTrue (is_scoring (V.tree first.now)) → found.0.items ≡ found.1.items) }
+    ensures documents { IfOk result (λ f. IsReordered (V.tree first.now) (W.tree second.now) → map (λ p. p.0) f.0.items ≡ map (λ p. p.0) f.1.items) }
+    ensures scores { IfOk result (λ f. IsReordered (V.tree first.now) (W.tree second.now) → IsTrue (is_scoring (V.tree first.now)) → f.0.items ≡ f.1.items) }
 {
     let found = collect_matches(alloc, first, reader)?;
     Ok((found, collect_matches(alloc, second, reader)?))
@@ -71,7 +70,7 @@ pub fn collect_boosted(
 ) -> Result<Both, QueryError>
     requires { pos 0 ≤ℤ boost }
     ensures documents { IfOk result (λ found. map (λ p. p.0) found.0.items ≡ map (λ p. p.0) found.1.items) }
-    ensures scores { IfOk result (λ f. RoundsNothing (tree_of weight.value) → IsTrue (is_scoring (tree_of weight.value)) → f.1.items ≡ multiplied (nat_abs boost) f.0.items) }
+    ensures scores { IfOk result (λ f. IsMultiplied (tree_of weight.value) (nat_abs boost) f.0.items f.1.items) }
 {
     let found = collect_matches(alloc, &*weight, reader)?;
     let boosted = BoostWeight::new(weight, boost);

@@ -30,9 +30,8 @@ pub fn scored_phrase<'a, P: Postings>(
     requires valid { All (λ pair. P.valid pair.1) terms.items }
     requires offsets { All (λ pair. pair.0 ≤ 4294967295) terms.items }
     requires covered { All (λ pair. AreCovered (norm_ids length_ids) (P.entries pair.1)) terms.items }
-    ensures { let shifts = shifts_of (map (λ pair. pair.0) terms.items) in
-        let lists = map (λ pair. P.entries pair.1) terms.items in
-        IfOk result (λ found. IfSome found (λ r. r.2 ≡ count_at slop shifts lists r.0)) }
+    ensures { IfOk result (λ found. IfSome found
+        (λ r. r.2 ≡ count_at slop (shifts_of (map (λ p. p.0) terms.items)) (map (λ p. P.entries p.1) terms.items) r.0)) }
 {
     let mut scorer = PhraseScorer::new(alloc, terms, Some(weight), length_ids, slop)?;
     let doc = scorer.doc();

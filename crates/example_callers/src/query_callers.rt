@@ -1,13 +1,11 @@
 //! Callers of a query: what they find is known by the contract of one call and by those of a cursor's.
 
-ghost use Rattle.std.specs.Prelude.{◌≡◌, All, IfOk, IsTrue, slice_get};
+ghost use Rattle.std.specs.Prelude.{◌≡◌, All, IfOk, IsTrue};
+ghost use Rattle.example_callers.specs.Found.{IsBestOf};
 ghost use Rattle.qm_query.specs.EnableScoring.{is_enabled};
 ghost use Rattle.qm_query.specs.Offsets.{terms_of};
 ghost use Rattle.qm_query.specs.QueryMatches.{AreMatches, query_matching};
 ghost use Rattle.qm_query.specs.QueryTree.{query_tree};
-ghost use Rattle.qm_weight.specs.Best.{best};
-ghost use Rattle.qm_weight.specs.Callers.{pairs};
-ghost use Rattle.qm_weight.specs.Tree.{list};
 
 use crate::weight_callers::best_matches;
 use qm_combine::{EmptyScorer, scores_left};
@@ -54,8 +52,7 @@ pub fn best_document<Q: Query, P: Bm25StatisticsProvider>(
     reader: &SegmentReader,
 ) -> Result<Option<(DocId, Score)>, QueryError>
     requires scoring { IsTrue (is_enabled enable_scoring) }
-    ensures { let tree = query_tree P.Bm25StatisticsProvider enable_scoring.entry (Q.query query.now) in
-        IfOk result (λ found. found ≡ slice_get (best 1 (pairs (list tree 1 reader.now.segment))) 0) }
+    ensures { IfOk result (IsBestOf (query_tree P.Bm25StatisticsProvider enable_scoring.entry (Q.query query.now)) reader.now.segment) }
 {
     let weight = query.weight(alloc, enable_scoring)?;
     let best = best_matches(alloc, &*weight, reader, 1)?;

@@ -1,10 +1,7 @@
 //! Callers of a term's scorer and of its blocks.
 
 ghost use Rattle.std.specs.Prelude.{◌≡◌, ◌≤◌, IfOk, IfSome};
-ghost use Rattle.qm_docset.specs.Entry.{head_document};
-ghost use Rattle.qm_postings.specs.Blocks.{looked_at, term_blocks};
-ghost use Rattle.qm_postings.specs.Segment.{postings_of};
-ghost use Rattle.qm_schema.specs.declared.schema.option.IndexRecordOption.TheVariants.{WithFreqs};
+ghost use Rattle.example_callers.specs.Found.{block_looked_at};
 ghost use Rattle.qm_term.specs.TermScorer.{IsTermScorer, scored_left};
 ghost use Rattle.qm_weight.specs.Best.{best};
 ghost use Rattle.qm_weight.specs.Callers.{pairs};
@@ -44,7 +41,7 @@ pub fn best_of_term(
 /// alone; none where no document holds the term.
 pub fn end_of_block(segment: &SegmentReader, term: &Term, target: DocId) -> Option<DocId>
     requires { target ≤ TERMINATED }
-    ensures { IfSome result (λ end. end ≡ (looked_at target (head_document (postings_of segment.now.segment WithFreqs term.now)) (term_blocks segment.now.segment WithFreqs term.now)).last) }
+    ensures { IfSome result (λ end. end ≡ (block_looked_at segment.now.segment term.now target).last) }
 {
     let index = segment.inverted_index(term.field());
     let mut postings = index.read_postings(term, IndexRecordOption::WithFreqs)?;

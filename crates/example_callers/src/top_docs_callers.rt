@@ -1,10 +1,9 @@
 //! Callers of a search for the best documents: what they answer follows from its contract, and from what
 //! `TopDocsFacts` of qm_query says of every such answer.
 
-ghost use Rattle.std.specs.Prelude.{◌≡◌, ◌⊎◌, ◌<◌, IfOk, IfSome, None, [], All, nat_lt};
-ghost use Rattle.qm_query.specs.QueryTree.{query_tree};
-ghost use Rattle.qm_query.specs.Searches.{count_in, with_scores};
-ghost use Rattle.qm_query.specs.TopDocs.{AreTopDocs, StandsBefore, all_found, score_first};
+ghost use Rattle.std.specs.Prelude.{◌≡◌, ◌<◌, IfOk, IfSome, None, [], nat_lt};
+ghost use Rattle.example_callers.specs.Found.{StandsFirst, found_count};
+ghost use Rattle.qm_query.specs.TopDocs.{AreTopDocs, all_found};
 
 use qm_docset::Score;
 use qm_postings::{Bm25StatisticsProvider, DocAddress, Searcher};
@@ -21,8 +20,7 @@ pub fn best_address<Q: Query>(
     searcher: &Searcher,
 ) -> Result<Option<(Score, DocAddress)>, QueryError>
     ensures none { IfOk result (λ best. best ≡ None → all_found ⟦<Searcher as Bm25StatisticsProvider>⟧ searcher.now (Q.query query.now) ≡ []) }
-    ensures best { let all = all_found ⟦<Searcher as Bm25StatisticsProvider>⟧ searcher.now (Q.query query.now) in
-        IfOk result (λ best. IfSome best (λ b. All (λ d. (score_first d ≡ b) ⊎ StandsBefore b (score_first d)) all)) }
+    ensures best { IfOk result (λ best. IfSome best (StandsFirst (all_found ⟦<Searcher as Bm25StatisticsProvider>⟧ searcher.now (Q.query query.now)))) }
 {
     let found = TopDocs::with_limit(1).search(alloc, query, searcher)?;
     Ok(found.first().copied())
@@ -37,8 +35,7 @@ pub fn first_page<Q: Query>(
 ) -> Result<(Vec<(Score, DocAddress)>, bool), QueryError>
     requires size { size < 18446744073709551615 }
     ensures page { IfOk result (λ page. AreTopDocs ⟦<Searcher as Bm25StatisticsProvider>⟧ searcher.now (Q.query query.now) size page.0.items) }
-    ensures more { let tree = query_tree ⟦<Searcher as Bm25StatisticsProvider>⟧ (with_scores searcher.now) (Q.query query.now) in
-        IfOk result (λ page. page.1 ≡ nat_lt size (count_in tree searcher.now.segments)) }
+    ensures more { IfOk result (λ page. page.1 ≡ nat_lt size (found_count ⟦<Searcher as Bm25StatisticsProvider>⟧ searcher.now (Q.query query.now))) }
 {
     let mut found = TopDocs::with_limit(size + 1).search(alloc, query, searcher)?;
     let has_more = found.len() > size;

@@ -79,7 +79,8 @@ impl<'a> DocSet for Rated<'a> {
         self.all.size_hint()
     }
 
-    ghost ascending = { λ s h. AreEntries-rescored _ most_rated 0 all_limits _ (λ e _. rating-le s.ratings.now e.document) (AreEntries-all_from s.all.doc s.all.max_doc h.0) };
+    ghost ascending = { λ s h.
+        AreEntries-rescored _ most_rated 0 all_limits _ (λ e _. rating-le s.ratings.now e.document) (AreEntries-all_from s.all.doc s.all.max_doc h.0) };
 }
 
 #[tactic(auto, using(qm_combine::specs::RescoredFacts::rescoring))]

@@ -19,7 +19,7 @@ pub fn best_document<W: Weight>(
     weight: &W,
     reader: &SegmentReader,
 ) -> Result<Option<(DocId, Score)>, QueryError>
-    ensures { IfOk result (λ found. IsTrue (is_scoring (W.tree weight.now)) → found ≡ slice_get (best 1 (pairs (list (W.tree weight.now) 1 reader.now.segment))) 0) }
+    ensures { IfOk result (λ f. IsTrue (is_scoring (W.tree weight.now)) → f ≡ slice_get (best 1 (pairs (list (W.tree weight.now) 1 reader.now.segment))) 0) }
 {
     let mut found = None;
     weight.for_each_pruning(

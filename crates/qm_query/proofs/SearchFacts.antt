@@ -1,6 +1,7 @@
 -- What a query comes down to over a searcher depends on the searcher alone, and not on where the references
 -- to it lie; and no weight is refused with what an explanation alone is.
-use Rattle.std.proofs.Common.{◌≡◌, ◌<◌, arith, ℕ, zero, suc, ℤ, Bool, true, false, ◌==◌, if◌then◌else◌, List, [], ◌∷◌, Option, is_some, slice_get, Some, None, Result, Ok, Err, IfOk}
+use Rattle.std.proofs.Common.{◌≡◌, ◌<◌, arith, ℕ, zero, suc, ℤ, Bool, true, false, ◌==◌, if◌then◌else◌, List, [], ◌∷◌, Option, is_some, slice_get}
+use Rattle.std.proofs.Common.{Some, None, Result, Ok, Err, IfOk}
 use Rattle.std.proofs.Common.{IfErr, IsTrue, length, map, refl, sym, subst, ap, ◌∙◌, inl, inr}
 use Rattle.qm_postings.specs.Reading.{Reader}
 use Rattle.qm_postings.specs.Statistics.{Searched}

@@ -8,6 +8,7 @@ use Rattle.qm_schema.specs.declared.error.QueryError.TheVariants.{Memory}
 use Rattle.qm_query.specs.EnableScoring.{schema_of}
 use Rattle.qm_query.specs.Fields.{is_served, phrase_field_refusal, prefix_field_refusal, term_field_refusal}
 use Rattle.qm_query.specs.Offsets.{first_field, terms_of}
+use Rattle.qm_query.specs.Parts.{PrefixParts}
 use Rattle.qm_query.specs.Query.{Query, Subqueries, Disjuncts, all, none, term, phrase, phrase_prefix, boolean, boost, constant, disjunction_max, no_subquery}
 use Rattle.qm_query.specs.Query.{subquery, no_disjunct, disjunct}
 use Rattle.qm_query.specs.declared.enable_scoring.EnableScoring.{EnableScoring}
@@ -32,6 +33,10 @@ module _ {P : Type 0} (S : Ghosts P) (under : EnableScoring P) where
   -- a phrase of these terms is refused so: its field has to serve a phrase
   abbrev pub IsPhraseRefusal : ℕ → List TermKey → QueryError → Type 0
   IsPhraseRefusal field terms error = IsLeafRefusal (phrase_field_refusal (schema_of under) field) (IsByProvider S under terms) error
+
+  -- a phrase with a prefix behind its full terms is refused so, or for want of memory
+  abbrev pub IsFullPrefixRefusal : PrefixParts → QueryError → Type 0
+  IsFullPrefixRefusal parts error = (error ≡ Memory) ⊎ IsPhraseRefusal parts.prefix.1.field (terms_of parts.terms) error
 
   abbrev mutual
     -- a leaf of the query is refused so, and the fields of all leaves before it serve

@@ -47,7 +47,8 @@ impl From<Vec<(Occur, Box<AnyQuery>)>> for BooleanQuery {
 
 impl BooleanQuery {
     ghost use Rattle.qm_schema.specs.declared.occur.Occur.TheVariants.{Must, Should};
-    ghost use Rattle.qm_query.specs.Query.{boolean, boolean_of, boolean_of_clauses, clause_of, clauses_of, default_minimum, each_as, minimum_of, subqueries, subqueries_of, term_clauses};
+    ghost use Rattle.qm_query.specs.Query.{boolean, boolean_of, boolean_of_clauses, clause_of, clauses_of, default_minimum, each_as, minimum_of};
+    ghost use Rattle.qm_query.specs.Query.{subqueries, subqueries_of, term_clauses};
 
     /// The query of these clauses, in this order. Where there are Should clauses and no others, at
     /// least one of them has to match, and else none needs to. Takes no memory.

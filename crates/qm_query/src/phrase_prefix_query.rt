@@ -7,7 +7,7 @@ ghost use Rattle.qm_query.specs.EnableScoring.{schema_of};
 ghost use Rattle.qm_query.specs.Fields.{phrase_field_refusal, term_field_refusal};
 ghost use Rattle.qm_query.specs.QueryTree.{full_prefix_tree};
 ghost use Rattle.qm_query.specs.Refusals.{IsRefusedFor};
-ghost use Rattle.qm_query.specs.WeightRefusals.{IsLeafRefusal, IsPhraseRefusal};
+ghost use Rattle.qm_query.specs.WeightRefusals.{IsFullPrefixRefusal, IsLeafRefusal};
 ghost use Rattle.qm_schema.specs.declared.error.QueryError.TheVariants.{Memory};
 ghost use Rattle.qm_weight.specs.Weights.{prefix_alone, tree_of};
 
@@ -142,7 +142,7 @@ impl PhrasePrefixQuery {
         requires some { 1 ≤ length self.now.terms }
         ensures tree { IfOk result (λ weight. tree_of weight.value ≡ full_prefix_tree P.Bm25StatisticsProvider enable_scoring.entry self.now) }
         ensures served { IfOk result (λ _. phrase_field_refusal (schema_of enable_scoring.entry) self.now.prefix.1.field ≡ None) }
-        ensures refused { IfErr result (λ e. (e ≡ Memory) ⊎ IsPhraseRefusal P.Bm25StatisticsProvider enable_scoring.entry self.now.prefix.1.field (terms_of self.now.terms) e) }
+        ensures refused { IfErr result (IsFullPrefixRefusal P.Bm25StatisticsProvider enable_scoring.entry self.now) }
     {
         if let Some(refusal) = phrase_field_refusal(enable_scoring.schema(), self.field()) {
             return Err(refusal);

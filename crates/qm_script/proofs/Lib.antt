@@ -1,5 +1,6 @@
 mod LineBytes
 mod ListingTexts
+mod Written
 mod PartLemmas
 mod Ranges
 mod SegmentTexts

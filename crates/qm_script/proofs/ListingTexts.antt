@@ -1,7 +1,7 @@
 -- Texts of listings: one document more, and several.
-use Rattle.std.proofs.Common.{◌≡◌, ℕ, ℤ, ◌+◌, ◌<◌, ◌^◌, List, [], ◌∷◌, ◌++◌, Option, None, Some, length, map, ap, sym, ◌∙◌, append_assoc, arith, refl, length-append, take}
-use Rattle.std.proofs.Common.{get_or, Bool, true, false, ◌==◌, zero, suc}
-use Rattle.std.proofs.lemmas.Bool.{eqb-true, false≢true}
+use Rattle.std.proofs.Common.{◌≡◌, ℕ, ℤ, ◌+◌, ◌<◌, ◌^◌, List, [], ◌∷◌, ◌++◌, Option, None, Some, length, map, ap, sym, ◌∙◌, append_assoc, arith}
+use Rattle.std.proofs.Common.{refl, length-append, take}
+use Rattle.std.proofs.Common.{get_or}
 use Rattle.std.specs.List.{join_with_byte}
 use Rattle.std.specs.Fmt.{decimal, signed_decimal}
 use Rattle.std.proofs.lemmas.Fmt.{decimal_nonempty}
@@ -20,11 +20,6 @@ join_with_byte-push c x (z ∷ zs) y =
 -- the text of a document with a small number isn't empty
 some_text : (item : Item) → item.0 < 2 ^ 64 → 0 < length (item_text item)
 some_text item small = omega (arith, decimal_nonempty item.0 small, length-append (decimal item.0) (score_text item.1))
-
--- no document as yet
-pub IsListing-none : (text : List ℕ) → length text ≡ 0 → IsListing [] text
-IsListing-none [] none = record { listed = refl; begun = λ h. refl }
-IsListing-none (x ∷ text) none = absurd (omega arith)
 
 -- the first document stands alone
 pub IsListing-first : (items : List Item) (text new : List ℕ) (item : Item) → IsListing items text →
@@ -83,11 +78,3 @@ listing-append make items first done more =
     append_assoc items (numbered first (map make done)) (numbered first (map make more))
     ∙ ap (λ l. items ++ l)
     (sym (ap (numbered first) (map-append make done more) ∙ map-append (λ (item : Item). (first + item.0, item.1)) (map make done) (map make more)))
-
--- a test whether a length is 0
-pub none-by_test : (n : ℕ) (empty : Bool) → empty ≡ (n == 0) → empty ≡ true → n ≡ 0
-none-by_test n empty is holds = eqb-true n 0 (sym is ∙ holds)
-
-pub some-by_test : (n : ℕ) (empty : Bool) → empty ≡ (n == 0) → empty ≡ false → 0 < n
-some-by_test zero empty is fails = absurd (false≢true (sym fails ∙ is))
-some-by_test (suc n) empty is fails = omega arith

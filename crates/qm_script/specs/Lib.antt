@@ -7,6 +7,7 @@ pub mod PrefixFree
 pub mod Under
 pub mod Found
 pub mod Text
+pub mod Written
 pub mod Answers
 pub mod Runs
 pub mod Fields

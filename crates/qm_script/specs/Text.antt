@@ -29,13 +29,3 @@ pub record IsListing (items : List (ℕ × Option ℤ)) (text : List ℕ) : Type
 -- Where the call succeeds, the text lists these.
 abbrev pub WritesListing : {T E : Type 0} → Result T E → List (ℕ × Option ℤ) → String Global → Type 0
 WritesListing result items text = OnOk result (IsListing items (string_bytes text))
-
--- Where the call succeeds, what the text listed before has these behind it.
-abbrev pub AddsToListing : {T E : Type 0} → Result T E → List (ℕ × Option ℤ) → String Global → String Global → Type 0
-AddsToListing result more before after =
-    (items : List (ℕ × Option ℤ)) → IsListing items (string_bytes before) → OnOk result (IsListing (items ++ more) (string_bytes after))
-
--- what the text listed before has these behind it
-abbrev pub ListsMore : List (ℕ × Option ℤ) → String Global → String Global → Type 0
-ListsMore more before after =
-    (items : List (ℕ × Option ℤ)) → IsListing items (string_bytes before) → IsListing (items ++ more) (string_bytes after)

@@ -1,7 +1,8 @@
 //! What the program answers to a line.
 
 ghost use Rattle.std.specs.Prelude.{◌≡◌, IfOk, OnOk, length, string_bytes};
-ghost use Rattle.qm_script.specs.Answers.{CountsMatches, DeletesDocument, IsChangeAnswer, IsListingAnswer, ListsAbove, ListsBest, ListsDocuments, ListsScores, Step, answer_text, status_of};
+ghost use Rattle.qm_script.specs.Answers.{CountsMatches, DeletesDocument, IsChangeAnswer, IsListingAnswer, ListsAbove, ListsBest, ListsDocuments};
+ghost use Rattle.qm_script.specs.Answers.{ListsScores, Step, answer_text, status_of};
 ghost use Rattle.qm_script.specs.Spelled.{query_of};
 ghost use Rattle.qm_script.specs.State.{state};
 

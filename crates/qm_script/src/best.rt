@@ -9,10 +9,11 @@ ghost use Rattle.qm_index.specs.Parts.{segments_of};
 ghost use Rattle.qm_script.specs.Found.{found_best};
 ghost use Rattle.qm_script.specs.Parts.{document_count};
 ghost use Rattle.qm_script.specs.ProgramNumbers.{most_segments};
-ghost use Rattle.qm_script.specs.Text.{AddsToListing, WritesListing};
+ghost use Rattle.qm_script.specs.Text.{WritesListing};
 ghost use Rattle.qm_script.specs.Under.{IsBestRefusal, IsWithinBest};
+ghost use Rattle.qm_script.specs.Written.{AddsToListing};
 
-use crate::listing::{reserve_line_end, write_score};
+use crate::item_writer::ItemWriter;
 use qm_docset::Score;
 use qm_postings::{DocAddress, Searcher, SegmentReader};
 use qm_query::{AnyQuery, TopDocs};
@@ -38,8 +39,9 @@ pub(crate) fn write_best(
 {
     let found = TopDocs::with_limit(count as usize).search(alloc, query, searcher)?;
     let firsts = first_numbers(alloc, searcher.segment_readers())?;
-    write_found(text, firsts.as_slice(), found.as_slice())?;
-    reserve_line_end(text)
+    let mut writer = ItemWriter::new(alloc, text);
+    write_found(&mut writer, firsts.as_slice(), found.as_slice())?;
+    writer.finish(text)
 }
 
 // The number of each segment's first document.
@@ -61,17 +63,17 @@ fn first_numbers(alloc: Global, segments: &[SegmentReader]) -> Result<Vec<u64>, 
 
 // Writes each with its number, by those of the segments' first documents.
 fn write_found(
-    text: &mut String,
+    writer: &mut ItemWriter,
     firsts: &[u64],
     found: &[(Score, DocAddress)],
 ) -> Result<(), AllocError>
     requires there { All (λ f. f.1.segment_ord < length firsts.now) found.now }
     requires few { All (λ n. n ≤ most_segments * TERMINATED) firsts.now }
-    ensures { AddsToListing result (map (found_item firsts.now) found.now) text.old text.new }
+    ensures { AddsToListing result (map (found_item firsts.now) found.now) writer.old writer.new }
 {
     for (score, address) in found {
         let first = firsts[address.segment_ord as usize];
-        write_score(text, first + u64::from(address.doc_id), *score)?;
+        writer.write_score(first + u64::from(address.doc_id), *score)?;
     }
     Ok(())
 }

@@ -7,7 +7,7 @@ ghost use Rattle.qm_index.specs.Parts.{segments_of};
 ghost use Rattle.qm_script.specs.Found.{AddsNumber, found_alive};
 ghost use Rattle.qm_script.specs.Under.{IsListingRefusal, IsWithinScores};
 
-use crate::listing::reserve_line_end;
+use crate::item_writer::reserve_line_end;
 use qm_postings::Searcher;
 use qm_query::{AnyQuery, Query};
 use qm_schema::QueryError;

@@ -13,6 +13,7 @@ mod counting;
 mod document_line;
 mod form;
 mod has_prefix;
+mod item_writer;
 mod lines;
 mod listing;
 mod non_negative_score;

@@ -52,11 +52,11 @@ impl Lines {
     ) -> Result<bool, RunError>
         // what is said of an input whose bytes are known
         ensures answer { IfSome (pending self.old (R.remaining input.old))
-            (λ bytes. IfOk result (λ is_line. IsTrue is_line ↔ (0 < length bytes))) }
+            (λ bs. IfOk result (λ is_line. IsTrue is_line ↔ (0 < length bs))) }
         ensures line { IfSome (pending self.old (R.remaining input.old))
-            (λ bytes. OnOk result (line.new.items ≡ first_line bytes)) }
+            (λ bs. OnOk result (line.new.items ≡ first_line bs)) }
         ensures left { IfSome (pending self.old (R.remaining input.old))
-            (λ bytes. OnOk result (pending self.new (R.remaining input.new) ≡ Some (drop_through 10 bytes))) }
+            (λ bs. OnOk result (pending self.new (R.remaining input.new) ≡ Some (drop_through 10 bs))) }
     {
         line.clear();
         for _ in 0..u64::MAX {

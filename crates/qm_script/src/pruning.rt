@@ -11,13 +11,15 @@ ghost use Rattle.qm_script.specs.Found.{found_above_in_parts};
 ghost use Rattle.qm_script.specs.Parts.{document_count};
 ghost use Rattle.qm_script.specs.ProgramNumbers.{most_segments};
 ghost use Rattle.qm_script.specs.Pruned.{all_pruned, entry_item, parts_pruned, rising, threshold_after};
-ghost use Rattle.qm_script.specs.Text.{AddsToListing, WritesListing};
+ghost use Rattle.qm_script.specs.Text.{WritesListing};
 ghost use Rattle.qm_script.specs.Under.{IsListingRefusal, IsWithinScores};
+ghost use Rattle.qm_script.specs.Written.{AddsToListing, HasListed};
 ghost use Rattle.qm_weight.specs.Scorers.{IsRefusalOf};
 ghost use Rattle.qm_weight.specs.Tree.{is_scoring, list};
 ghost use Rattle.qm_weight.specs.Weights.{tree_of};
 
-use crate::listing::{reserve_line_end, write_scores};
+use crate::item_writer::ItemWriter;
+use crate::listing::write_scores;
 use qm_docset::{DocId, Score};
 use qm_postings::{Searcher, SegmentReader};
 use qm_query::{AnyQuery, EnableScoring, fitting_weight};
@@ -50,9 +52,17 @@ pub(crate) fn write_pruned(
     ensures refused { IfErr result (IsListingRefusal enable_scoring.entry (query_of query.now)) }
 {
     let weight = fitting_weight(query, alloc, enable_scoring)?;
-    let first = write_runs(alloc, &segments[..ended], &weight, threshold, text)?;
-    write_parts(alloc, &segments[ended..], &weight, threshold, first, text)?;
-    reserve_line_end(text)
+    let mut writer = ItemWriter::new(alloc, text);
+    let first = write_runs(alloc, &segments[..ended], &weight, threshold, &mut writer)?;
+    write_parts(
+        alloc,
+        &segments[ended..],
+        &weight,
+        threshold,
+        first,
+        &mut writer,
+    )?;
+    writer.finish(text)
 }
 
 // Writes what the runs of the weight call for in the segments, and answers how many documents these have.
@@ -61,18 +71,18 @@ fn write_runs(
     segments: &[SegmentReader],
     weight: &AnyWeight,
     threshold: Score,
-    text: &mut String,
+    writer: &mut ItemWriter,
 ) -> Result<u64, QueryError>
     requires few { document_count (map (λ r. r.segment) segments.now) ≤ most_segments * TERMINATED }
-    requires empty { length (string_bytes text.old) ≡ 0 }
+    requires empty { HasListed [] writer.old }
     requires scoring { IsTrue (is_scoring (tree_of weight.now)) }
     ensures counted { IfOk result (λ number. number ≡ document_count (map (λ r. r.segment) segments.now)) }
-    ensures listed { WritesListing result (all_pruned threshold (tree_of weight.now) (map (λ r. r.segment) segments.now)) text.new }
+    ensures listed { OnOk result (HasListed (all_pruned threshold (tree_of weight.now) (map (λ r. r.segment) segments.now)) writer.new) }
     ensures refused { IfErr result (IsRefusalOf (tree_of weight.now) 1) }
 {
     let mut first: u64 = 0;
     for segment in segments {
-        write_run(alloc, segment, weight, threshold, first, text)?;
+        write_run(alloc, segment, weight, threshold, first, writer)?;
         first += u64::from(segment.max_doc());
     }
     Ok(first)
@@ -86,17 +96,17 @@ fn write_parts(
     weight: &AnyWeight,
     threshold: Score,
     first: u64,
-    text: &mut String,
+    writer: &mut ItemWriter,
 ) -> Result<(), QueryError>
     requires few { first + document_count (map (λ r. r.segment) parts.now) ≤ most_segments * TERMINATED }
     requires scoring { IsTrue (is_scoring (tree_of weight.now)) }
-    ensures listed { AddsToListing result (parts_pruned threshold (tree_of weight.now) first (map (λ r. r.segment) parts.now)) text.old text.new }
+    ensures listed { AddsToListing result (parts_pruned threshold (tree_of weight.now) first (map (λ r. r.segment) parts.now)) writer.old writer.new }
     ensures refused { IfErr result (IsRefusalOf (tree_of weight.now) 1) }
 {
     let mut next = first;
     let mut left = threshold;
     for part in parts {
-        left = write_run(alloc, part, weight, left, next, text)?;
+        left = write_run(alloc, part, weight, left, next, writer)?;
         next += u64::from(part.max_doc());
     }
     Ok(())
@@ -110,16 +120,16 @@ fn write_run(
     weight: &AnyWeight,
     threshold: Score,
     first: u64,
-    text: &mut String,
+    writer: &mut ItemWriter,
 ) -> Result<Score, QueryError>
     requires few { first ≤ most_segments * TERMINATED }
     requires scoring { IsTrue (is_scoring (tree_of weight.now)) }
     ensures left { IfOk result (λ left. left ≡ threshold_after threshold (rising threshold (listed true (tree_of weight.now) first segment.now.segment))) }
-    ensures listed { AddsToListing result (rising threshold (listed true (tree_of weight.now) first segment.now.segment)) text.old text.new }
+    ensures listed { AddsToListing result (rising threshold (listed true (tree_of weight.now) first segment.now.segment)) writer.old writer.new }
     ensures refused { IfErr result (IsRefusalOf (tree_of weight.now) 1) }
 {
     let found = rising_scores(alloc, segment, weight, threshold)?;
-    write_scores(text, first, found.as_slice())?;
+    write_scores(writer, first, found.as_slice())?;
     match found.as_slice().last() {
         Some((_, score)) => Ok(*score),
         None => Ok(threshold),

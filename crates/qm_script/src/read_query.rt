@@ -2,7 +2,8 @@
 
 ghost use Rattle.std.specs.Prelude.{◌≡◌, map};
 ghost use Rattle.qm_script.specs.Cursor.{words_left};
-ghost use Rattle.qm_script.specs.Script.{behind_form, boolean_at, boost_at, clause_at, constant_at, disjunction_max_at, form_at, many_at, phrase_at, phrase_prefix_at, query_at, term_at};
+ghost use Rattle.qm_script.specs.Script.{behind_form, boolean_at, boost_at, clause_at, constant_at, disjunction_max_at, form_at, many_at, phrase_at};
+ghost use Rattle.qm_script.specs.Script.{phrase_prefix_at, query_at, term_at};
 ghost use Rattle.qm_script.specs.Spelled.{Reads, clause_of, query_of};
 
 use crate::form::{QueryForm, query_form};

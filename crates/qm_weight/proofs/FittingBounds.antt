@@ -8,7 +8,8 @@ use Rattle.qm_schema.specs.declared.error.QueryError.TheVariants.{ScoreBound}
 use Rattle.qm_schema.specs.declared.occur.Occur.{Occur}
 use Rattle.qm_schema.specs.declared.occur.Occur.TheVariants.{Should, Must, MustNot}
 use Rattle.qm_term.specs.Bm25.{Weighing}
-use Rattle.qm_weight.specs.Tree.{AreScores, Clauses, ClausesFit, Combiner, Fits, Tree, all, boolean, boost, bound, clause, clause_bounds, constant, leaf_boost, leaf_bound, no_clause, none, phrase, phrase_prefix}
+use Rattle.qm_weight.specs.Tree.{AreScores, Clauses, ClausesFit, Combiner, Fits, Tree, all, boolean, boost, bound, clause, clause_bounds, constant}
+use Rattle.qm_weight.specs.Tree.{leaf_boost, leaf_bound, no_clause, none, phrase, phrase_prefix}
 use Rattle.qm_weight.specs.Tree.{term}
 use Rattle.qm_weight.specs.ClauseScorers.{bound_added}
 use Rattle.qm_weight.specs.Weights.{clauses_from, tree_of}

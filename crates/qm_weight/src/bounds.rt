@@ -6,7 +6,7 @@ ghost use Rattle.std.specs.Prelude.{◌≡◌, ◌≤◌, Some, SomeIff};
 ghost use Rattle.qm_docset.specs.Entry.{greatest_score};
 ghost use Rattle.qm_term.specs.Bm25Weight.{weighing};
 ghost use Rattle.qm_weight.specs.ClauseScorers.{bound_added};
-ghost use Rattle.qm_weight.specs.Tree.{AreScores, Fits, bound, leaf_boost, leaf_bound};
+ghost use Rattle.qm_weight.specs.Tree.{Fits, IsLeafBound, bound};
 ghost use Rattle.qm_weight.specs.Weights.{boolean_tree, boost_tree, const_tree, phrase_prefix_tree, phrase_tree, term_tree, tree_of, weighing_of};
 
 use crate::any_weight::AnyWeight;
@@ -126,7 +126,7 @@ pub(crate) fn bound_of_phrase_prefix(weight: &PhrasePrefixWeight, boost: u64) ->
 // That of a leaf that has a weight, or none.
 fn bound_of_leaf(weight: &Option<Bm25Weight>, boost: u64) -> Option<u64>
     requires boost { boost ≤ greatest_score }
-    ensures { SomeIff result (AreScores (leaf_bound (weighing_of weight.now) boost) (leaf_boost (weighing_of weight.now) boost)) (leaf_bound (weighing_of weight.now) boost) }
+    ensures { IsLeafBound (weighing_of weight.now) boost result }
 {
     match weight {
         Some(weight) => bound_of_weighed(weight, boost),
@@ -137,7 +137,7 @@ fn bound_of_leaf(weight: &Option<Bm25Weight>, boost: u64) -> Option<u64>
 // That of a leaf with this weight, whose boost is multiplied too.
 fn bound_of_weighed(weight: &Bm25Weight, boost: u64) -> Option<u64>
     requires boost { boost ≤ greatest_score }
-    ensures { SomeIff result (AreScores (leaf_bound (Some (weighing weight.now)) boost) (leaf_boost (Some (weighing weight.now)) boost)) (leaf_bound (Some (weighing weight.now)) boost) }
+    ensures { IsLeafBound (Some (weighing weight.now)) boost result }
 {
     score_product(boost, weight.boost() as u64)?;
     let greatest = score_product(boost, weight.max_score() as u64)?;

@@ -1,8 +1,8 @@
 //! Pruned runs over a scorer of their own, which pass over what they can.
 
-ghost use Rattle.std.specs.Prelude.{ℤ, List};
 ghost use Rattle.qm_docset.specs.Lists.{IsPlaced};
-ghost use Rattle.qm_term.specs.Runs.{InRange, MayPrune, Plain};
+ghost use Rattle.qm_term.specs.Runs.{InRange, MayPrune};
+ghost use Rattle.qm_weight.specs.TreeRuns.{Prunes};
 
 use crate::weight::turn;
 use qm_combine::Scorer;
@@ -19,8 +19,7 @@ pub(crate) fn prune_scorer<'a, S: Scorer, F: FnMut(DocId, Score) -> Score>(
 )
     requires placed { IsPlaced ⟦<AnyScorer<'a, S> as DocSet>⟧ scorer }
     requires allowed { MayPrune (InRange F.step) F.pre threshold callback.old (⟦<AnyScorer<'a, S> as DocSet>⟧.entries scorer) }
-    ensures calls { (ths : List ℤ) × (last : ℤ) × Plain (InRange F.step) threshold callback.old
-        (⟦<AnyScorer<'a, S> as DocSet>⟧.entries scorer.entry) ths last callback.new }
+    ensures calls { Prunes F.step (⟦<AnyScorer<'a, S> as DocSet>⟧.entries scorer.entry) threshold callback.old callback.new }
 {
     match scorer {
         AnyScorer::Term(term) => {
@@ -39,7 +38,7 @@ pub(crate) fn prune_to_bound<S: Scorer, F: FnMut(DocId, Score) -> Score>(
 )
     requires placed { IsPlaced S.DocSet scorer }
     requires allowed { MayPrune (InRange F.step) F.pre threshold callback.old (S.entries scorer) }
-    ensures calls { (ths : List ℤ) × (last : ℤ) × Plain (InRange F.step) threshold callback.old (S.entries scorer) ths last callback.new }
+    ensures calls { Prunes F.step (S.entries scorer) threshold callback.old callback.new }
 {
     let most = scorer.max_score();
     let mut doc = scorer.doc();

@@ -1,5 +1,5 @@
 -- The offset is kept, and the sums of all that is left fit as before.
-use Rattle.std.proofs.Common.{◌≡◌, ◌+◌, ◌≤◌, ℕ, All, List, [], ◌∷◌, arith, refl, sym, subst, ap, ◌∙◌}
+use Rattle.std.proofs.Common.{◌+◌, ◌≤◌, ℕ, All, List, [], ◌∷◌, refl, sym, subst, ap, ◌∙◌}
 use Rattle.std.proofs.lemmas.List.Elements.{All-drop, All-head, All-nil}
 use Rattle.qm_docset.specs.Entry.{Entry, head_positions}
 use Rattle.qm_phrase.specs.PostingsWithOffset.{offset_of, postings_of}

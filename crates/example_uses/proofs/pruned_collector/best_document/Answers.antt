@@ -1,5 +1,6 @@
 -- What is kept is the best of the documents that the run has passed, whether it called for them or not.
-use Rattle.std.proofs.Common.{◌≡◌, ◌<ℤ◌, ℕ, ℤ, pos, true, if◌then◌else◌, List, [], ◌∷◌, Option, None, Some, slice_get, take, ap, sym, subst, ◌∙◌, refl, rules, arith}
+use Rattle.std.proofs.Common.{◌≡◌, ◌<ℤ◌, ℕ, ℤ, pos, true, if◌then◌else◌, List, [], ◌∷◌, Option, None, Some, slice_get, take, ap, sym, subst}
+use Rattle.std.proofs.Common.{◌∙◌, refl, rules, arith}
 use Rattle.std.proofs.lemmas.Int.{ints}
 use Rattle.std.specs.Int.Signed.{lt_z}
 use Rattle.qm_term.specs.RunsFacts.{MayPrune-always, Plain-enters}

@@ -48,7 +48,9 @@ returns-in_ok-build_segments-in-Ok-clause-answer c =
         weights = subst (λ w. IsWeighedBy w searcher) (ap (λ s. s.weights) c.build_segments.ensures.weights) c.searcher.ensures.weights;
       },
       listing-answer (best_text c.args.count enable s) (IsWithinBest c.args.count enable) q text query (IsBestRefusal c.args.count enable query) c.in-Ok.ensures
-          (best-refusal enable q query (fields ∙ c.args.corpus.now.fields) c.in-Ok.ensures c.args.count) (found_best c.args.count enable query (segments_of readers))
+          (best-refusal enable q query (fields ∙ c.args.corpus.now.fields) c.in-Ok.ensures c.args.count)
+          (found_best c.args.count enable query (segments_of readers))
           c.write_best-written.result c.answer_listing.result
-          (ap listing_text listed) c.write_best-written.ensures.listed c.write_best-written.ensures.within c.write_best-written.ensures.refused c.answer_listing.ensures,
+          (ap listing_text listed) c.write_best-written.ensures.listed c.write_best-written.ensures.within
+          c.write_best-written.ensures.refused c.answer_listing.ensures,
     )

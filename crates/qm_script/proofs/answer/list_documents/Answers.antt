@@ -44,5 +44,6 @@ returns-in_ok-build_segments-in-Ok-clause-answer c =
           (score-refusal enable q query (fields ∙ c.args.corpus.now.fields) c.in-Ok.ensures)
           (all_listed (is_enabled enable) (tree_of enable query) (segments_of c.segment_readers.result.now))
           c.write_matches-written.result c.answer_listing.result
-          (all ∙ ap listing_text listed) c.write_matches-written.ensures.listed c.write_matches-written.ensures.within c.write_matches-written.ensures.refused c.answer_listing.ensures,
+          (all ∙ ap listing_text listed) c.write_matches-written.ensures.listed c.write_matches-written.ensures.within
+          c.write_matches-written.ensures.refused c.answer_listing.ensures,
     )

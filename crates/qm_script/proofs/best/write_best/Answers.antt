@@ -5,10 +5,10 @@ use Rattle.qm_query.specs.TopDocs.{alive_matches_from, score_first}
 use Rattle.qm_script.specs.BestListed.{best_listed, firsts_from, found_item}
 use Rattle.qm_index.specs.Parts.{segments_of}
 use Rattle.qm_script.specs.Text.{IsListing}
+use Rattle.qm_script.specs.Written.{HasListed}
 use Rattle.qm_script.specs.Under.{tree_of}
 use Rattle.qm_weight.specs.Best.{best}
 use Rattle.qm_script.proofs.BestListings.{best-there, found-listed}
-use Rattle.qm_script.proofs.ListingTexts.{IsListing-none}
 use Rattle.qm_script.proofs.best.write_best.Goals as goal
 
 pub write_found-requires-clause-there : goal.write_found-requires-clause-there
@@ -32,8 +32,7 @@ returns-clause-listed c =
     let listed : map (found_item c.as_slice.result.now) c.as_slice-2.result.now ≡ best_listed c.args.count tree (segments_of readers) =
     ap (λ ns. map (found_item ns) c.as_slice-2.result.now) firsts ∙ ap (map (found_item (firsts_from 0 (segments_of readers)))) found
     ∙ found-listed tree c.args.count readers in
-    let written = c.in_ok-write_found.ensures [] (IsListing-none (string_bytes c.args.text.now) c.requires.empty) in
-    let all : IsListing (best_listed c.args.count tree (segments_of readers)) (string_bytes c.reserve_line_end.new.text) =
-    subst (λ t. IsListing (best_listed c.args.count tree (segments_of readers)) t) (sym c.reserve_line_end.ensures.text)
-    (subst (λ l. IsListing l (string_bytes c.write_found.new.text)) listed written) in
+    let written = c.in_ok-write_found.ensures [] c.new-writer.ensures in
+    let all : IsListing (best_listed c.args.count tree (segments_of readers)) (string_bytes c.finish.new.text) =
+    c.finish.ensures.listed _ (subst (λ l. HasListed l c.write_found.new.writer) listed written) in
     search (rules, all)

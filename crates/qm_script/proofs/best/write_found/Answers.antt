@@ -1,11 +1,11 @@
-use Rattle.std.proofs.Common.{◌≡◌, ◌+◌, ◌++◌, ◌∷◌, [], ◌∙◌, ℤ, Some, append_assoc, ap, map, take, get_or, string_bytes, pos, slice_index_or, subst, sym, to_z}
+use Rattle.std.proofs.Common.{◌≡◌, ◌+◌, ◌++◌, ◌∷◌, [], ◌∙◌, ℤ, Some, append_assoc, ap, map, take, get_or, pos, slice_index_or, subst, sym, to_z}
 use Rattle.std.proofs.Common.{of_z, w64, rules, arith}
 use mir.ValLaws.{to_z-of_z}
 use Rattle.std.proofs.lemmas.Grind.{common_steps}
 use Rattle.std.proofs.lemmas.List.{map-append, take_more}
 use Rattle.qm_postings.specs.declared.address.DocAddress.{DocAddress}
 use Rattle.qm_script.specs.BestListed.{found_item}
-use Rattle.qm_script.specs.Text.{IsListing}
+use Rattle.qm_script.specs.Written.{HasListed}
 use Rattle.qm_script.proofs.best.write_found.Goals as goal
 
 pub loop-score-preserved : goal.loop-score-preserved
@@ -17,12 +17,12 @@ loop-score-preserved c = λ items is.
     let first = slice_index_or c.args.firsts.now f.1.segment_ord 0 in
     let so_far = items ++ map item before in
     let same : to_z w64 (of_z w64 f.0) ≡ f.0 = first_of (search rules, search (rules, to_z-of_z w64), grind (arith, common_steps)) in
-    let done : IsListing (so_far ++ (first + c.from.result, Some (to_z w64 (of_z w64 f.0))) ∷ []) (string_bytes c.write_score.new.text) =
+    let done : HasListed (so_far ++ (first + c.from.result, Some (to_z w64 (of_z w64 f.0))) ∷ []) c.write_score.new.self =
     c.in_ok-write_score.ensures so_far (c.loop-score.invariant items is) in
     let number : first + c.from.result ≡ first + f.1.doc_id = ap (λ n. first + n) c.from.ensures in
     let more : so_far ++ item f ∷ [] ≡ items ++ map item (take (c.loop-score.score-index + 1) c.args.found.now) =
     append_assoc items (map item before) (item f ∷ [])
     ∙ ap (λ l. items ++ l) (sym (ap (map item) (take_more c.args.found.now c.loop-score.score-index nothing c.loop-score-test.true)
     ∙ map-append item before (f ∷ []))) in
-    subst (λ l. IsListing l (string_bytes c.write_score.new.text))
+    subst (λ l. HasListed l c.write_score.new.self)
     (ap (λ z. so_far ++ (first + c.from.result, Some z) ∷ []) same ∙ ap (λ n. so_far ++ (n, Some f.0) ∷ []) number ∙ more) done

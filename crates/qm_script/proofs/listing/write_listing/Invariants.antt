@@ -1,13 +1,13 @@
 use Rattle.std.proofs.Common.{◌≡◌, ◌+◌, ℕ, ℤ, List, ◌++◌, drop, map, string_bytes, Option}
 use Rattle.qm_script.specs.AllSegments.{all_listed, listed_from}
 use Rattle.qm_script.specs.Parts.{document_count}
-use Rattle.qm_script.specs.Text.{IsListing}
+use Rattle.qm_script.specs.Written.{HasListed}
 use Rattle.qm_weight.specs.Weights.{tree_of}
 use Rattle.qm_script.proofs.listing.write_listing.Given as goal
 
 abbrev pub invariant-loop-segment : goal.invariant-loop-segment
 invariant-loop-segment l = record {
   room : l.first + document_count (map (λ r. r.segment) (drop l.segment-index l.segments)) ≡ document_count (map (λ r. r.segment) l.segments);
-  listed : (items : List (ℕ × Option ℤ)) × IsListing items (string_bytes l.text) × (items ++ listed_from l.is_scored (tree_of l.weight) l.first
+  listed : (items : List (ℕ × Option ℤ)) × HasListed items l.writer × (items ++ listed_from l.is_scored (tree_of l.weight) l.first
       (map (λ r. r.segment) (drop l.segment-index l.segments)) ≡ all_listed l.is_scored (tree_of l.weight) (map (λ r. r.segment) l.segments));
 }

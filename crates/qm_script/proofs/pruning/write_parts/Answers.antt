@@ -1,10 +1,10 @@
-use Rattle.std.proofs.Common.{◌≡◌, ◌∙◌, ◌+◌, ◌++◌, ap, map, drop, true, of_z, to_z, w64, append_assoc, subst, string_bytes, rules, arith}
+use Rattle.std.proofs.Common.{◌≡◌, ◌∙◌, ◌+◌, ◌++◌, ap, map, drop, true, of_z, to_z, w64, append_assoc, subst, rules, arith}
 use mir.ValLaws.{to_z-of_z}
 use Rattle.std.proofs.lemmas.Grind.{common_steps}
 use Rattle.qm_script.specs.AllSegments.{listed}
 use Rattle.qm_script.specs.Parts.{document_count}
 use Rattle.qm_script.specs.Pruned.{parts_pruned, rising}
-use Rattle.qm_script.specs.Text.{IsListing}
+use Rattle.qm_script.specs.Written.{HasListed}
 use Rattle.qm_weight.specs.Weights.{tree_of}
 use Rattle.qm_script.proofs.OverParts.{count-on}
 use Rattle.qm_script.proofs.PrunedParts.{part-next}
@@ -29,7 +29,7 @@ loop-part-preserved c =
           (c.args.first + document_count (map (λ r. r.segment) readers)) number c.loop-part.invariant.room;
       listed = (
         so_far.0 ++ here,
-        λ items is. subst (λ l. IsListing l (string_bytes c.write_run.new.text))
+        λ items is. subst (λ l. HasListed l c.write_run.new.writer)
             (append_assoc items so_far.0 here) (told.listed (items ++ so_far.0) (so_far.1 items is)),
         ap (λ t. (so_far.0 ++ here) ++ parts_pruned t tree (first + c.from-next.result) (map (λ r. r.segment) (drop (i + 1) readers))) (same ∙ told.left)
             ∙ part-next threshold tree readers i item c.loop-part-test.true c.part-item.is so_far.0

@@ -1,4 +1,4 @@
-use Rattle.std.proofs.Common.{◌++◌, IsTrue, rules, ◌∙◌, ap, sym, arith, take, of_z, to_z, w64, subst, string_bytes}
+use Rattle.std.proofs.Common.{◌++◌, IsTrue, rules, ◌∙◌, ap, sym, arith, take, of_z, to_z, w64, subst}
 use mir.ValLaws.{to_z-of_z}
 use Rattle.std.proofs.lemmas.List.{drop-map, take-map}
 use Rattle.qm_postings.specs.Reading.{Reader}
@@ -6,7 +6,7 @@ use Rattle.qm_query.specs.Query.{query_of}
 use Rattle.qm_index.specs.Parts.{segments_of}
 use Rattle.qm_script.specs.Parts.{document_count}
 use Rattle.qm_script.specs.Pruned.{all_pruned, parts_pruned}
-use Rattle.qm_script.specs.Text.{IsListing}
+use Rattle.qm_script.specs.Written.{HasListed}
 use Rattle.qm_weight.specs.Tree.{is_scoring}
 use Rattle.qm_weight.specs.Weights.{tree_of}
 use Rattle.qm_script.proofs.PartLemmas.{count-split, count-taken}
@@ -43,6 +43,7 @@ returns-clause-listed c =
     let back = ap segments_of (rest-taken ended readers) ∙ sym (drop-map (λ (r : Reader). r.segment) ended readers) in
     let items = all_pruned (to_z w64 (of_z w64 c.args.threshold)) (tree_of c.deref.result.now) (segments_of (take ended readers)) in
     let listed = c.in_ok-write_parts.ensures.listed items c.in_ok-first.ensures.listed in
-    let written = subst (λ l. IsListing l (string_bytes c.write_parts.new.text))
+    let written = subst (λ l. HasListed l c.write_parts.new.writer)
     (λ i. all_pruned (same i) (one i) (front i) ++ parts_pruned (same i) (other i) (number i) (back i)) listed in
-    grind (arith, written)
+    let whole = c.finish.ensures.listed _ written in
+    search (rules, whole)

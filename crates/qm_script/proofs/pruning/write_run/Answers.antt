@@ -1,9 +1,9 @@
-use Rattle.std.proofs.Common.{◌≡◌, ◌∙◌, ◌++◌, ◌-◌, ap, sym, subst, length, map, string_bytes, w64, Some, rules, arith, of_z, to_z}
+use Rattle.std.proofs.Common.{◌≡◌, ◌∙◌, ◌++◌, ◌-◌, ap, sym, subst, length, map, w64, Some, rules, arith, of_z, to_z}
 use mir.ValLaws.{to_z-of_z}
 use Rattle.std.proofs.lemmas.Grind.{common_steps}
 use Rattle.std.specs.List.{slice_get}
 use Rattle.qm_script.specs.Pruned.{entry_item, rising}
-use Rattle.qm_script.specs.Text.{IsListing}
+use Rattle.qm_script.specs.Written.{HasListed}
 use Rattle.qm_weight.specs.Tree.{list}
 use Rattle.qm_weight.specs.Weights.{tree_of}
 use Rattle.qm_script.proofs.ListedSegments.{pair_item}
@@ -30,7 +30,7 @@ returns-in-Some-clause-listed c = λ items is.
     let threshold = c.args.threshold in
     let lines = run-listed threshold tree c.args.first s c.as_slice.result.now (ap (map pair_item) c.as_slice.ensures.value
     ∙ c.in_ok-found.ensures.found ∙ ap (λ t. rising t (map entry_item (list tree 1 s))) (to_z-of_z w64 threshold c.ranges.threshold)) in
-    subst (λ l. IsListing (items ++ l) (string_bytes c.write_scores.new.text)) lines (c.in_ok-write_scores.ensures items is)
+    subst (λ l. HasListed (items ++ l) c.write_scores.new.writer) lines (c.in_ok-write_scores.ensures items is)
 
 pub returns-clause-left : goal.returns-clause-left
 returns-clause-left c =
@@ -50,4 +50,4 @@ returns-clause-listed c = λ items is.
     let threshold = c.args.threshold in
     let lines = run-listed threshold tree c.args.first s c.as_slice.result.now (ap (map pair_item) c.as_slice.ensures.value
     ∙ c.in_ok-found.ensures.found ∙ ap (λ t. rising t (map entry_item (list tree 1 s))) (to_z-of_z w64 threshold c.ranges.threshold)) in
-    subst (λ l. IsListing (items ++ l) (string_bytes c.write_scores.new.text)) lines (c.in_ok-write_scores.ensures items is)
+    subst (λ l. HasListed (items ++ l) c.write_scores.new.writer) lines (c.in_ok-write_scores.ensures items is)

@@ -1,13 +1,13 @@
-use Rattle.std.proofs.Common.{◌≡◌, ◌+◌, ℕ, ℤ, List, ◌++◌, drop, map, string_bytes, Option}
+use Rattle.std.proofs.Common.{◌≡◌, ◌+◌, ℕ, ℤ, List, ◌++◌, drop, map, Option}
 use Rattle.qm_script.specs.Parts.{document_count}
 use Rattle.qm_script.specs.Pruned.{all_pruned, pruned_from}
-use Rattle.qm_script.specs.Text.{IsListing}
+use Rattle.qm_script.specs.Written.{HasListed}
 use Rattle.qm_weight.specs.Weights.{tree_of}
 use Rattle.qm_script.proofs.pruning.write_runs.Given as goal
 
 abbrev pub invariant-loop-segment : goal.invariant-loop-segment
 invariant-loop-segment l = record {
   room : l.first + document_count (map (λ r. r.segment) (drop l.segment-index l.segments)) ≡ document_count (map (λ r. r.segment) l.segments);
-  listed : (items : List (ℕ × Option ℤ)) × IsListing items (string_bytes l.text) × (items ++ pruned_from l.threshold (tree_of l.weight) l.first
+  listed : (items : List (ℕ × Option ℤ)) × HasListed items l.writer × (items ++ pruned_from l.threshold (tree_of l.weight) l.first
       (map (λ r. r.segment) (drop l.segment-index l.segments)) ≡ all_pruned l.threshold (tree_of l.weight) (map (λ r. r.segment) l.segments));
 }

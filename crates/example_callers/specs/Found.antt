@@ -1,0 +1,45 @@
+-- What callers find, and what they do.
+use Rattle.std.specs.Prelude.{◌≡◌, ℕ, ℤ, ◌⊎◌, All, Bool, IsTrue, List, Option, slice_get}
+use Rattle.qm_docset.specs.Entry.{head_document}
+use Rattle.qm_index.specs.Indexed.{Deletes, Indexed, with_document_of}
+use Rattle.qm_postings.specs.Blocks.{Block, looked_at, term_blocks}
+use Rattle.qm_postings.specs.Document.{Draft}
+use Rattle.qm_postings.specs.Segment.{Segment, postings_of}
+use Rattle.qm_postings.specs.Statistics.{Searched}
+use Rattle.qm_postings.specs.declared.address.DocAddress.{DocAddress}
+use Rattle.qm_postings.specs.declared.statistics.Bm25StatisticsProvider.{Ghosts}
+use Rattle.qm_query.specs.Query.{Query}
+use Rattle.qm_query.specs.QueryTree.{query_tree}
+use Rattle.qm_query.specs.Searches.{count_in, with_scores}
+use Rattle.qm_query.specs.TopDocs.{StandsBefore, score_first}
+use Rattle.qm_schema.specs.Term.{TermKey}
+use Rattle.qm_schema.specs.declared.schema.option.IndexRecordOption.TheVariants.{WithFreqs}
+use Rattle.qm_weight.specs.Best.{best}
+use Rattle.qm_weight.specs.BoostFacts.{RoundsNothing}
+use Rattle.qm_weight.specs.Callers.{multiplied, pairs}
+use Rattle.qm_weight.specs.Tree.{Tree, is_scoring, list}
+
+-- the best of the documents that a tree matches in a segment, and none where it matches none
+abbrev pub IsBestOf : Tree → Segment → Option (ℕ × ℤ) → Type 0
+IsBestOf tree segment found = found ≡ slice_get (best 1 (pairs (list tree 1 segment))) 0
+
+-- where no score of a tree is rounded or open, a boost multiplies what is found
+abbrev pub IsMultiplied : Tree → ℕ → List (ℕ × ℤ) → List (ℕ × ℤ) → Type 0
+IsMultiplied tree k found boosted = RoundsNothing tree → IsTrue (is_scoring tree) → boosted ≡ multiplied k found
+
+-- the block of a term's postings that is looked at with a target
+abbrev pub block_looked_at : Segment → TermKey → ℕ → Block
+block_looked_at segment term target =
+    looked_at target (head_document (postings_of segment WithFreqs term)) (term_blocks segment WithFreqs term)
+
+-- the document of a number, where there is one, is deleted, and then one is added
+abbrev pub Replaces : ℕ → Draft → Indexed → Indexed → Bool → Type 0
+Replaces number draft before after existed = (s : Indexed) × Deletes number before existed s × (after ≡ with_document_of s draft)
+
+-- every other one of all that is found stands behind it
+abbrev pub StandsFirst : List (DocAddress × ℤ) → ℤ × DocAddress → Type 0
+StandsFirst all first = All (λ d. (score_first d ≡ first) ⊎ StandsBefore first (score_first d)) all
+
+-- how many documents a query finds in all segments of a searcher that were not deleted
+abbrev pub found_count : Ghosts Searched → Searched → Query → ℕ
+found_count S searcher query = count_in (query_tree S (with_scores searcher) query) searcher.segments
