@@ -12,6 +12,7 @@ mod Booleans
 mod Joins
 mod TermRuns
 mod ClauseSteps
+mod TermUnions
 mod Nodes
 mod AliveCounts
 mod OneClauses

@@ -14,9 +14,9 @@ ghost use Rattle.qm_weight.specs.Weights.{boolean_tree, clauses_from, combiner_o
 use crate::any_weight::{AnyWeight, count_any, prune_any};
 use crate::bounds::bound_of_boolean;
 use crate::counts::count_alive;
-use crate::shared_runs::{StandsFor, check_document, run_node_slices, score_in_node};
+use crate::shared_runs::{StandsFor, check_document, run_node, run_node_slices, score_in_node};
 use crate::weight::Weight;
-use clauses::{ClauseScorers, build_clauses};
+use clauses::build_clauses;
 use explained::explain_clauses;
 use joined::{join_clauses, keeps_one_score};
 use pruned::prune_clauses;
@@ -27,11 +27,13 @@ use qm_schema::{Occur, QueryError};
 use qm_scorer::{AnyCombiner, AnyScorer};
 use qm_term::Explanation;
 use std::alloc::Global;
+use term_union::{is_union_of_terms, run_union, unscored_union};
 
 mod clauses;
 mod explained;
 mod joined;
 mod pruned;
+mod term_union;
 
 /// Matches the documents that every Must clause matches, no MustNot clause, and at least so many of
 /// the Should clauses, each counted once; and some Must or Should clause matches it.
@@ -111,22 +113,44 @@ impl Weight for BooleanWeight {
         explain_boolean(self, alloc, reader, doc, 1)
     }
 
+    /// Where the clauses are terms, one of which is enough, the run goes over the union of their own scorers.
+    fn for_each<F: FnMut(DocId, Score)>(
+        &self,
+        alloc: Global,
+        reader: &SegmentReader,
+        callback: &mut F,
+    ) -> Result<(), QueryError> {
+        if is_union_of_terms(self) {
+            return run_union(self, alloc, reader, callback);
+        }
+        let scorer: AnyScorer<EmptyScorer> = build_boolean(self, alloc, reader, 1)?;
+        run_node(self, reader, scorer, callback);
+        Ok(())
+    }
+
+    /// Where the clauses are terms, one of which is enough, and scoring is off, the run goes over the union of their
+    /// postings.
     fn for_each_no_score<F: FnMut(&[DocId])>(
         &self,
         alloc: Global,
         reader: &SegmentReader,
         callback: &mut F,
     ) -> Result<(), QueryError> {
+        if !self.scoring_enabled && is_union_of_terms(self) {
+            let union = unscored_union(self, alloc, reader, 1)?;
+            run_node_slices(self, reader, union, callback);
+            return Ok(());
+        }
         let scorer: AnyScorer<EmptyScorer> = build_boolean(self, alloc, reader, 1)?;
         run_node_slices(self, reader, scorer, callback);
         Ok(())
     }
 
     /// Passes over blocks whose documents cannot score above the threshold, where scoring is on, the
-    /// combiner is the sum or the greatest score, no clause must match or must not, one Should clause is
-    /// enough, and of at most 16 clauses, all of them terms, two or more are there, or one scorer is left
-    /// and is that of a term. For more of them the plain loop is faster. Where one clause alone decides
-    /// what matches and scores, the run is that clause's. It takes memory before the first call alone.
+    /// combiner is the sum or the greatest score, and the clauses are 2 to 16 terms, one of which is
+    /// enough, or one scorer is left and is that of a term. For more of them the plain loop is faster.
+    /// Where one clause alone decides what matches and scores, the run is that clause's. It takes memory
+    /// before the first call alone.
     fn for_each_pruning<F: FnMut(DocId, Score) -> Score>(
         &self,
         alloc: Global,
@@ -154,8 +178,8 @@ pub(crate) fn build_boolean<'a, S: Scorer>(
     join_clauses(weight, alloc, reader, scorers)
 }
 
-// What one clause alone matches, which decides, is counted as the clause counts it; and else what the
-// scorer lists.
+// What one clause alone matches, which decides, is counted as the clause counts it; what some of several terms have,
+// where scoring is off, by the union of their postings; and else what the scorer lists.
 #[cycle(count)]
 pub(crate) fn count_boolean(
     weight: &BooleanWeight,
@@ -171,6 +195,10 @@ pub(crate) fn count_boolean(
         && decides(*occur, weight.minimum_number_should_match)
     {
         return count_any(inside, alloc, reader, boost);
+    }
+    if !weight.scoring_enabled && is_union_of_terms(weight) {
+        let mut union = unscored_union(weight, alloc, reader, boost)?;
+        return Ok(count_alive(&mut union, reader));
     }
     let mut scorer: AnyScorer<EmptyScorer> = build_boolean(weight, alloc, reader, boost)?;
     Ok(count_alive(&mut scorer, reader))
@@ -207,8 +235,7 @@ pub(crate) fn explain_boolean(
     explain_clauses(&weight.weights, alloc, reader, doc, boost, score)
 }
 
-// The pruned run of one clause that decides alone, and else that of what the scorers of the clauses list
-// together.
+// The pruned run of one clause that decides alone, and else that of what the clauses list together.
 #[cycle(prune)]
 pub(crate) fn prune_boolean<F: FnMut(DocId, Score) -> Score>(
     weight: &BooleanWeight,
@@ -229,8 +256,7 @@ pub(crate) fn prune_boolean<F: FnMut(DocId, Score) -> Score>(
     {
         return prune_any(inside, alloc, reader, boost, threshold, callback);
     }
-    let scorers: ClauseScorers<EmptyScorer> = build_clauses(&weight.weights, alloc, reader, boost)?;
-    prune_clauses(weight, alloc, reader, scorers, boost, threshold, callback)
+    prune_clauses(weight, alloc, reader, boost, threshold, callback)
 }
 
 // Whether a clause that occurs so decides alone what the Boolean matches and scores.

@@ -77,6 +77,20 @@ pub(crate) fn run_leaf_slices<W: StandsFor, L: Scorer, F: FnMut(&[DocId])>(
     }
 }
 
+// A call for each document of a node's scorer, with its score.
+pub(crate) fn run_node<W: StandsFor, S: Scorer, F: FnMut(DocId, Score)>(
+    weight: &W,
+    reader: &SegmentReader,
+    mut scorer: S,
+    callback: &mut F,
+)
+    requires scorer { IsScorerOf S.DocSet (W.tree weight.now) 1 reader.now.segment scorer }
+    requires allowed { MayCallTree F.step F.pre (W.tree weight.now) reader.now.segment callback.old }
+    ensures calls { CallsTree F.step (W.tree weight.now) reader.now.segment callback.old callback.new }
+{
+    for_each_scorer(&mut scorer, callback);
+}
+
 // The calls with the slices of the documents that a node's scorer has.
 pub(crate) fn run_node_slices<W: StandsFor, S: Scorer, F: FnMut(&[DocId])>(
     weight: &W,

@@ -81,7 +81,7 @@ impl TermWeight {
     }
 
     // The term's own scorer at a boost, and none where no document holds the term.
-    fn term_scorer<'a>(
+    pub(crate) fn term_scorer<'a>(
         &self,
         reader: &'a SegmentReader,
         boost: u64,

@@ -397,9 +397,8 @@ fn make_states<C: ScoreCombiner>(states: &mut Vec<C>, cleared: C, place: usize)
     ensures same { (x : ℕ) → slice_index_or states.new.items x cleared ≡ slice_index_or states.old.items x cleared }
     ensures room { 4096 ≤ vec_capacity states.new }
 {
-    // what was made stays as it is, and the others are cleared
-    while states.len() <= place {
-        states.push(cleared).unwrap();
+    if states.len() <= place {
+        states.resize(place + 1, cleared).unwrap();
     }
 }
 
