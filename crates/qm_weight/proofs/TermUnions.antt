@@ -1,5 +1,6 @@
 -- The union of the cursors of terms, one of which is enough, is a scorer of the Boolean.
-use Rattle.std.specs.Prelude.{◌≡◌, ℕ, ◌+◌, ◌<◌, ◌≤◌, max, nat_le, true, false, if◌then◌else◌, IsTrue, List, [], ◌∷◌, ◌++◌, Option, None, Some, length, map, sum, take}
+use Rattle.std.specs.Prelude.{◌≡◌, ℕ, ◌+◌, ◌<◌, ◌≤◌, max, nat_le, true, false, if◌then◌else◌, IsTrue}
+use Rattle.std.specs.Prelude.{List, [], ◌∷◌, ◌++◌, Option, None, Some, length, map, sum, take}
 use Rattle.std.proofs.Common.{Box, Global, Result, Ok, Err, IfErr, IsErrOf, arith, refl, sym, ap, subst, ◌∙◌, get_or, inl, inr}
 use Rattle.std.proofs.lemmas.Bool.{cases_Bool, cases_eq, leb-true}
 use Rattle.std.proofs.lemmas.List.{take_more}
@@ -101,7 +102,8 @@ module _ {S : Type 0} (D : Ghosts S) (gives_scores : Type 0) (b : ℕ) (segment 
       (λ d. sym (scores_at-cons d [] (lists D (there found)) ∙ ap (λ r. map (λ e. e.score) r ++ scores_at d (lists D (there found))) (entries_of-nil d)))
       (AreSaid-cons n (matches t segment) (gives_scores × IsTrue (is_scoring t)) (gives_scores × IsTrue (trees_scoring trees)) _ (score t b segment) []
       nothing (tree_scores trees b segment) (lists D (there found)) (said-found trees found h.1)
-      (λ both. (both.0, (both_true (is_scoring t) (trees_scoring trees) both.1).0)) (λ both. (both.0, (both_true (is_scoring t) (trees_scoring trees) both.1).1)))
+      (λ both. (both.0, (both_true (is_scoring t) (trees_scoring trees) both.1).0))
+      (λ both. (both.0, (both_true (is_scoring t) (trees_scoring trees) both.1).1)))
   said-found (t ∷ trees) (Some s ∷ found) h =
       let n = length segment.documents in
       let own : IsListing n (matches t segment) (gives_scores × IsTrue (is_scoring t)) (score t b segment) (bare (D.entries s)) = record {
@@ -113,7 +115,8 @@ module _ {S : Type 0} (D : Ghosts S) (gives_scores : Type 0) (b : ℕ) (segment 
       ∙ sym (scores_at-cons d (bare (D.entries s)) (lists D (there found))))
       (AreSaid-cons n (matches t segment) (gives_scores × IsTrue (is_scoring t)) (gives_scores × IsTrue (trees_scoring trees)) _ (score t b segment)
       (bare (D.entries s)) own (tree_scores trees b segment) (lists D (there found)) (said-found trees found h.1)
-      (λ both. (both.0, (both_true (is_scoring t) (trees_scoring trees) both.1).0)) (λ both. (both.0, (both_true (is_scoring t) (trees_scoring trees) both.1).1)))
+      (λ both. (both.0, (both_true (is_scoring t) (trees_scoring trees) both.1).0))
+      (λ both. (both.0, (both_true (is_scoring t) (trees_scoring trees) both.1).1)))
 
   tops-found : (trees : List Tree) (found : List (Option S)) → AreFound D gives_scores b segment trees found →
       total_top (bounds D (there found)) ≤ tree_bounds trees b
