@@ -1,14 +1,13 @@
 -- The words of a line, and of a text.
 use Rattle.std.proofs.Common.{◌≡◌, ℕ, ◌<◌, ◌==◌, Bool, true, false, not, cond, zero, suc, ◌+◌, ◌≤◌, None, map, drop, get_or, length-drop, List, [], ◌∷◌, ◌++◌}
-use Rattle.std.proofs.Common.{◌-◌, ◌⊎◌, inl, inr, take}
 use Rattle.std.proofs.Common.{length, refl, ap, sym, ◌∙◌, subst, arith, append_assoc}
 use Rattle.std.proofs.lemmas.Bool.{ne_eqb}
-use Rattle.std.proofs.lemmas.List.{append-nil, drop_more, get_or-drop, length-map, take_more}
-use Rattle.std.proofs.lemmas.List.Splits.{length-slice_split, slice_split-cons_no, slice_split_at, slice_split_none}
+use Rattle.std.proofs.lemmas.List.{append-nil, drop_more, length-map, map-append}
+use Rattle.std.proofs.lemmas.List.Splits.{slice_split_at, slice_split_none}
 use Rattle.std.specs.List.{drop-map}
-use Rattle.std.proofs.lemmas.Grind.{common_steps}
-use Rattle.std.proofs.lemmas.List.Elements.{All-append, All-cons, All-head, All-nil, All-tail, filter-append}
-use Rattle.std.specs.List.{All, AllByRecursion, flat_map, onto_first, slice_range, slice_split}
+use Rattle.std.proofs.lemmas.Grind.{common_steps, flat_map-append}
+use Rattle.std.proofs.lemmas.List.Elements.{filter-append}
+use Rattle.std.specs.List.{All, AllByRecursion, flat_map, onto_first, slice_split}
 use Rattle.qm_script.specs.Script.{AreWords, IsWord, cut_at_tabs, line_words, non_empty, whole}
 use Rattle.qm_postings.specs.Document.{words_of}
 
@@ -71,69 +70,6 @@ pub line-words : (line : List ℕ) → AreWords (line_words line)
 line-words line =
     non_empty-words (flat_map cut_at_tabs (slice_split (λ b. b == 32) line)) (pieces-lack (slice_split (λ b. b == 32) line) (parts-lack (λ b. b == 32) line))
 
--- ---- the words of a line, from byte to byte
-
-split-behind : (p : ℕ → Bool) (xs ys q : List ℕ) (qs : List (List ℕ)) → All (λ x. p x ≡ false) xs → slice_split p ys ≡ q ∷ qs →
-    slice_split p (xs ++ ys) ≡ (xs ++ q) ∷ qs
-split-behind p [] ys q qs lack is = is
-split-behind p (x ∷ xs) ys q qs lack is =
-    slice_split-cons_no p x (xs ++ ys) (All-head (λ y. p y ≡ false) x xs lack)
-    ∙ ap (onto_first x) (split-behind p xs ys q qs (All-tail (λ y. p y ≡ false) x xs lack) is)
-
--- a part without spaces and tabs that one of these ends is a piece
-module _ (part : List ℕ) (spaces : All (λ b. (b == 32) ≡ false) part) (tabs : All (λ b. (b == 9) ≡ false) part) where
-  cut-space : (rest : List ℕ) → flat_map cut_at_tabs (slice_split (λ b. b == 32) (part ++ 32 ∷ rest))
-      ≡ part ∷ flat_map cut_at_tabs (slice_split (λ b. b == 32) rest)
-  cut-space rest =
-      ap (flat_map cut_at_tabs) (slice_split_at (λ b. b == 32) part 32 rest spaces refl)
-      ∙ ap (λ ps. ps ++ flat_map cut_at_tabs (slice_split (λ b. b == 32) rest)) (slice_split_none (λ b. b == 9) part tabs)
-
-  cut-tab : (rest : List ℕ) (pieces : List (List ℕ)) → slice_split (λ b. b == 32) rest ≡ pieces →
-      flat_map cut_at_tabs (slice_split (λ b. b == 32) (part ++ 9 ∷ rest)) ≡ part ∷ flat_map cut_at_tabs pieces
-  cut-tab rest [] is = absurd (omega (arith, ap length is, length-slice_split (λ b. b == 32) rest))
-  cut-tab rest (q ∷ qs) is =
-      ap (flat_map cut_at_tabs) (split-behind (λ b. b == 32) part (9 ∷ rest) (9 ∷ q) qs spaces
-      (slice_split-cons_no (λ b. b == 32) 9 rest refl ∙ ap (onto_first 9) is))
-      ∙ ap (λ ps. ps ++ flat_map cut_at_tabs qs) (slice_split_at (λ b. b == 9) part 9 q tabs refl)
-
-  words-behind : (pieces : List (List ℕ)) → non_empty (part ∷ pieces) ≡ non_empty (part ∷ []) ++ non_empty pieces
-  words-behind pieces = filter-append (λ w. not (length w == 0)) (part ∷ []) pieces
-
-  pub words-cut : (rest : List ℕ) (b : ℕ) → (b ≡ 32) ⊎ (b ≡ 9) → line_words (part ++ b ∷ rest) ≡ non_empty (part ∷ []) ++ line_words rest
-  words-cut rest b (inl is) =
-      ap (λ x. line_words (part ++ x ∷ rest)) is ∙ ap non_empty (cut-space rest)
-      ∙ words-behind (flat_map cut_at_tabs (slice_split (λ b. b == 32) rest))
-  words-cut rest b (inr is) =
-      ap (λ x. line_words (part ++ x ∷ rest)) is ∙ ap non_empty (cut-tab rest (slice_split (λ b. b == 32) rest) refl)
-      ∙ words-behind (flat_map cut_at_tabs (slice_split (λ b. b == 32) rest))
-
-  -- and one that the line ends with
-  pub words-last : line_words part ≡ non_empty (part ∷ [])
-  words-last =
-      ap (λ ps. non_empty (flat_map cut_at_tabs ps)) (slice_split_none (λ b. b == 32) part spaces)
-      ∙ ap (λ ps. non_empty (ps ++ [])) (slice_split_none (λ b. b == 9) part tabs)
-
--- a part with one byte more
-pub range-more : (xs : List ℕ) (a b : ℕ) → a ≤ b → b < length xs → slice_range xs a (b + 1) ≡ slice_range xs a b ++ get_or xs b 0 ∷ []
-range-more xs a b order below =
-    let one : b + 1 - a ≡ b - a + 1 = omega arith in
-    let whole : a + (b - a) ≡ b = omega arith in
-    ap (λ n. take n (drop a xs)) one ∙ take_more (drop a xs) (b - a) 0 (omega (arith, length-drop a xs))
-    ∙ ap (λ y. take (b - a) (drop a xs) ++ y ∷ []) (get_or-drop a xs (b - a) 0 ∙ ap (λ i. get_or xs i 0) whole)
-
-pub lacks-more : (cut : ℕ → Bool) (xs : List ℕ) (a b : ℕ) → a ≤ b → b < length xs → All (λ x. cut x ≡ false) (slice_range xs a b) →
-    cut (get_or xs b 0) ≡ false → All (λ x. cut x ≡ false) (slice_range xs a (b + 1))
-lacks-more cut xs a b order below lack one =
-    let P : ℕ → Type 0 = λ x. cut x ≡ false in
-    subst (All P) (sym (range-more xs a b order below))
-    (All-append P (slice_range xs a b) (get_or xs b 0 ∷ []) lack (All-cons P (get_or xs b 0) [] one (All-nil P)))
-
--- no byte is in an empty part
-pub lacks-none : (cut : ℕ → Bool) (xs : List ℕ) (a : ℕ) → All (λ x. cut x ≡ false) (slice_range xs a a)
-lacks-none cut xs a =
-    let none : 0 ≡ a - a = omega arith in
-    subst (λ n. All (λ x. cut x ≡ false) (take n (drop a xs))) none (All-nil (λ x. cut x ≡ false))
-
 -- ---- a text without tabs
 
 pub no-tabs : (text : List ℕ) → ((k : ℕ) → k < length text → get_or text k 0 ≡ 9 → ⊥) → AllByRecursion (λ b. (b == 9) ≡ false) text
@@ -159,8 +95,7 @@ pub drop_mapped : {A B : Type 0} (bytes : A → B) (xs : List A) (i : ℕ) (x d 
 drop_mapped bytes xs i x d below is = drop-map bytes i xs ∙ ap (map bytes) (drop_more xs i d below)
     ∙ (λ j. bytes (sym is j) ∷ sym (drop-map bytes (i + 1) xs) j)
 
--- past the end nothing is left
-pub drop_past : {A : Type 0} (xs : List A) (i : ℕ) → length xs ≤ i → drop i xs ≡ []
+drop_past : {A : Type 0} (xs : List A) (i : ℕ) → length xs ≤ i → drop i xs ≡ []
 drop_past [] zero h = refl
 drop_past [] (suc i) h = refl
 drop_past (x ∷ xs) zero h = absurd (omega arith)
@@ -209,3 +144,15 @@ spaced-more bytes xs i x d text whole below is kept =
 pub spaced-done : {A : Type 0} (bytes : A → List ℕ) (xs : List A) (i : ℕ) (text whole : List ℕ) →
     length xs ≤ i → text ++ spaced (drop i (map bytes xs)) ≡ whole → text ≡ whole
 spaced-done bytes xs i text whole past kept = sym (append-nil text) ∙ ap (λ l. text ++ spaced l) (sym (none_left bytes xs i past)) ∙ kept
+
+-- ---- cutting
+
+pub pieces-more : {A : Type 0} (bytes : A → List ℕ) (pieces : List A) (piece : A) (before after found : List (List ℕ)) →
+    before ≡ non_empty (flat_map cut_at_tabs (map bytes pieces)) → after ≡ before ++ non_empty found →
+    found ≡ cut_at_tabs (bytes piece) → after ≡ non_empty (flat_map cut_at_tabs (map bytes (pieces ++ piece ∷ [])))
+pieces-more bytes pieces piece before after found kept grown cut =
+    grown
+    ∙ (λ i. kept i ++ non_empty (cut i))
+    ∙ sym (filter-append (λ w. not (length w == 0)) (flat_map cut_at_tabs (map bytes pieces)) (cut_at_tabs (bytes piece)))
+    ∙ ap non_empty (ap (λ l. flat_map cut_at_tabs (map bytes pieces) ++ l) (sym (append-nil (cut_at_tabs (bytes piece))))
+    ∙ sym (flat_map-append cut_at_tabs (map bytes pieces) (bytes piece ∷ [])) ∙ ap (flat_map cut_at_tabs) (sym (map-append bytes pieces (piece ∷ []))))

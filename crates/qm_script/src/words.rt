@@ -1,10 +1,8 @@
 //! The words of a line, read one after another.
 
-ghost use Rattle.std.specs.Prelude.{IfSome, IsOkUnless, OnOk, ◌≤ℤ◌, ◌≤◌, ◌≡◌, ◌++◌, [], ◌∷◌, ℕ, Some, slice_range};
-ghost use Rattle.std.specs.Prelude.{◌^◌, ◌<◌, ◌==◌, IfOk, SomeIff, length, option_map, map, pos, string_bytes};
-ghost use Rattle.std.specs.Str.{IsCharBoundary};
+ghost use Rattle.std.specs.Prelude.{IfSome, IsOkUnless, ◌≤ℤ◌, ◌≡◌, ℕ, Some, ◌^◌, ◌<◌, ◌==◌, IfOk, SomeIff, length, option_map, map, pos, string_bytes};
 ghost use Rattle.std.specs.Str.Parse.{IsNumeral, digits_value};
-ghost use Rattle.qm_script.specs.Script.{line_words, non_empty, number_below, threshold_of};
+ghost use Rattle.qm_script.specs.Script.{line_words, number_below, threshold_of};
 
 use crate::form::occur_of;
 use crate::non_negative_score::NonNegativeScore;
@@ -13,42 +11,19 @@ use qm_docset::Score;
 use qm_schema::Occur;
 use std::alloc::{AllocError, Global};
 
-/// The words of the line, which is cut at spaces and tabs. Looks at each byte once.
+/// The words of the line, which is cut at spaces and tabs.
 pub(crate) fn cut_words<'a>(alloc: Global, line: &'a str) -> Result<Vec<&'a str>, AllocError>
     ensures { IfOk result (λ words. map (λ w. w.now) words.items ≡ line_words line.now) }
 {
     let mut words = Vec::with_capacity(alloc, 16)?;
-    let bytes = line.as_bytes();
-    let mut start = 0;
-    // the words before `start` are taken, and from there on nothing parts words
-    for at in 0..bytes.len() {
-        if bytes[at] == b' ' || bytes[at] == b'\t' {
-            push_word(&mut words, line, start, at)?;
-            start = at + 1;
+    for piece in line.split(' ') {
+        for word in piece.split('\t') {
+            if !word.is_empty() {
+                words.push(word)?;
+            }
         }
     }
-    push_word(&mut words, line, start, bytes.len())?;
     Ok(words)
-}
-
-// Takes in the part of the line from a byte up to another, where it isn't empty.
-#[inline]
-fn push_word<'a>(
-    words: &mut Vec<&'a str>,
-    line: &'a str,
-    start: usize,
-    end: usize,
-) -> Result<(), AllocError>
-    requires order { start ≤ end }
-    requires within { end ≤ length line.now }
-    requires from { IsCharBoundary line.now start }
-    requires to { IsCharBoundary line.now end }
-    ensures { OnOk result (map (λ w. w.now) words.new.items ≡ map (λ w. w.now) words.old.items ++ non_empty (slice_range line.now start end ∷ [])) }
-{
-    if start < end {
-        words.push(&line[start..end])?;
-    }
-    Ok(())
 }
 
 /// Reads the words of a line, from the first on.
