@@ -3,9 +3,10 @@ use Rattle.std.proofs.Common.{◌≡◌, inl, inr, ℕ, ◌+◌, ◌-◌, ◌<�
 use Rattle.std.proofs.Common.{length-drop, zero, suc}
 use Rattle.std.proofs.lemmas.Bool.{cases_lt}
 use Rattle.std.proofs.lemmas.List.{length-map, take_all, drop_all, drop-map, drop-drop, take-map, get_or-drop}
+use Rattle.qm_docset.specs.BelowFacts.{length-below-cut, length-below-least}
 use Rattle.qm_docset.specs.Documents.{AreDocuments}
 use Rattle.qm_docset.specs.DocumentsFacts.{AreEntries-documents}
-use Rattle.qm_docset.specs.Entry.{AreEntries, Entry, Limits, documents, from, head_document, no_limits, plain}
+use Rattle.qm_docset.specs.Entry.{AreEntries, Entry, Limits, below, documents, from, head_document, no_limits, plain}
 use Rattle.qm_docset.specs.EntryFacts.{AreEntries-drop, from-cut, length-entries}
 use Rattle.qm_docset.specs.declared.numbers.TheConstants.{TERMINATED}
 
@@ -54,6 +55,31 @@ left_from t i j limits es ds names a ordered inside passed reached =
     (λ k l. let e = here k in let p = passed (i + k) (omega arith) (omega arith) in omega arith) (λ l. let e = here (j - i) in
     let Q : ℕ → Type 0 = λ n. get_or (documents left) (j - i) 0 ≡ get_or ds n 0 in let f = subst Q on e in let r = reached (omega arith) in omega arith) in
     subst P on (left_on (j - i) i es) ∙ sym cut
+
+-- the documents from a place on up to another are below a bound
+module _ (b i j : ℕ) (es : List Entry) (ds : List ℕ) (names : documents es ≡ ds) (ordered : i ≤ j) (inside : j ≤ length ds)
+    (passed : (k : ℕ) → i ≤ k → k < j → get_or ds k 0 < b) where
+  named_left : documents (drop i es) ≡ drop i ds
+  named_left = sym (drop-map (λ e. e.document) i es) ∙ ap (drop i) names
+
+  long_left : length (drop i es) ≡ length ds - i
+  long_left = sym (length-map (drop i es) (λ e. e.document)) ∙ ap length named_left ∙ length-drop i ds
+
+  there : (k : ℕ) → get_or (documents (drop i es)) k 0 ≡ get_or ds (i + k) 0
+  there k = ap (λ xs. get_or xs k 0) named_left ∙ get_or-drop i ds k 0
+
+  before : (k : ℕ) → k < j - i → get_or (documents (drop i es)) k 0 < b
+  before k l = omega (arith, there k, passed (i + k) (omega arith) (omega arith))
+
+  pub below_least : j - i ≤ length (below b (drop i es))
+  below_least = length-below-least b no_limits (j - i) (drop i es) (omega (arith, long_left)) before
+
+  -- .. and the next is not
+  pub below_up_to : (limits : Limits) → AreEntries 0 limits es → (j < length ds → b ≤ get_or ds j 0) → length (below b (drop i es)) ≡ j - i
+  below_up_to limits a reached =
+      let on : i + (j - i) ≡ j = omega arith in
+      length-below-cut b limits (j - i) 0 (drop i es) (AreEntries-drop i 0 limits es a) (omega (arith, long_left)) before
+      (λ l. omega (arith, there (j - i), ap (λ n. get_or ds n 0) on, reached (omega (arith, long_left))))
 
 -- what is left behind the next n entries, or all where fewer are left
 pub left_behind : (n i count : ℕ) (es : List Entry) → count ≡ min n (length es - i) → drop (i + count) es ≡ drop n (drop i es)

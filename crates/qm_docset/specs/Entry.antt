@@ -1,5 +1,5 @@
 -- The documents that a cursor has left, and what is known of each of them.
-use Rattle.std.specs.Prelude.{ℕ, ◌+◌, ◌<◌, ◌≤◌, nat_le, List, [], ◌∷◌, length, filter, map}
+use Rattle.std.specs.Prelude.{ℕ, ◌+◌, ◌<◌, ◌≤◌, nat_le, nat_lt, List, [], ◌∷◌, length, filter, map}
 use Rattle.qm_docset.specs.declared.numbers.TheConstants.{TERMINATED}
 
 -- A document of a cursor, with its score, its frequency and its positions. What a cursor does not
@@ -55,6 +55,10 @@ head_positions (e ∷ es) = e.positions
 -- the entries at or past a target
 unfoldable pub from : ℕ → List Entry → List Entry
 from target es = filter (λ e. nat_le target e.document) es
+
+-- the entries before a bound
+unfoldable pub below : ℕ → List Entry → List Entry
+below bound es = filter (λ e. nat_lt e.document bound) es
 
 -- an entry of a cursor: from `low` on, below TERMINATED, and within the limits
 pub record IsEntry (low : ℕ) (limits : Limits) (e : Entry) : Type 0 where

@@ -1,5 +1,6 @@
 pub mod Entry
 pub mod EntryFacts
+pub mod BelowFacts
 pub mod Gather
 pub mod GatherFacts
 pub mod Cursor

@@ -37,6 +37,14 @@ impl<T: DocSet> DocSet for Box<T> {
         self.as_mut().fill_buffer(buffer)
     }
 
+    fn fill_buffer_below(
+        &mut self,
+        bound: DocId,
+        buffer: &mut [DocId; COLLECT_BLOCK_BUFFER_LEN],
+    ) -> usize {
+        self.as_mut().fill_buffer_below(bound, buffer)
+    }
+
     fn size_hint(&self) -> u32 {
         self.as_ref().size_hint()
     }

@@ -3,7 +3,7 @@
 ghost use Rattle.std.specs.Prelude.{◌≡◌, ◌≤◌, List, [], length, take, drop, min};
 ghost use Rattle.qm_docset.specs.AliveBitSet.{alive_entries};
 ghost use Rattle.qm_docset.specs.Cursor.{IsSeekAnswer, OnFound};
-ghost use Rattle.qm_docset.specs.Entry.{Entry, Limits, no_limits, documents, head_document, from, AreEntries};
+ghost use Rattle.qm_docset.specs.Entry.{Entry, Limits, no_limits, below, documents, head_document, from, AreEntries};
 
 use crate::alive_bitset::AliveBitSet;
 use crate::numbers::{COLLECT_BLOCK_BUFFER_LEN, DocId, TERMINATED};
@@ -106,6 +106,39 @@ pub trait DocSet: Drop {
         // so many documents were taken, and the cursor stands behind them
         for (taken, place) in buffer.iter_mut().enumerate() {
             if doc == TERMINATED {
+                return taken;
+            }
+            *place = doc;
+            doc = self.advance();
+        }
+        COLLECT_BLOCK_BUFFER_LEN
+    }
+
+    /// Takes the next documents below `bound`, at most [`COLLECT_BLOCK_BUFFER_LEN`], into the front of the
+    /// buffer, and answers how many they are: fewer than the buffer has room for only where all of them
+    /// were taken. Takes every bound. A union fills its window so.
+    ///
+    /// By default it steps.
+    fn fill_buffer_below(
+        &mut self,
+        bound: DocId,
+        buffer: &mut [DocId; COLLECT_BLOCK_BUFFER_LEN],
+    ) -> usize
+        requires valid { valid self.old }
+        requires placed { placed self.old }
+        ensures count { result ≡ min COLLECT_BLOCK_BUFFER_LEN (length (below bound (entries self.old))) }
+        ensures documents { take result buffer.new ≡ documents (take result (entries self.old)) }
+        ensures entries { entries self.new ≡ drop result (entries self.old) }
+        ensures limits { limits self.new ≡ limits self.old }
+        ensures kept { (s : Self) → keeps s self.old → keeps s self.new }
+        ensures valid { valid self.new }
+        ensures placed { placed self.new }
+    {
+        let end = bound.min(TERMINATED);
+        let mut doc = self.doc();
+        // so many documents below the bound were taken, and the cursor stands behind them
+        for (taken, place) in buffer.iter_mut().enumerate() {
+            if doc >= end {
                 return taken;
             }
             *place = doc;

@@ -4,7 +4,7 @@ ghost use Rattle.std.specs.Prelude.{ℕ, ◌≡◌, ◌+◌, ◌*◌, ◌/◌, �
 ghost use Rattle.std.specs.Prelude.{All, slice_index, slice_index_or, vec_capacity, vec_len};
 ghost use Rattle.std.specs.Option.{option_map_or};
 ghost use Rattle.qm_docset.specs.Cursor.{IsSeekAnswer, OnFound};
-ghost use Rattle.qm_docset.specs.Entry.{documents, from, head_document, head_frequency, head_positions};
+ghost use Rattle.qm_docset.specs.Entry.{below, documents, from, head_document, head_frequency, head_positions};
 ghost use Rattle.qm_docset.specs.Lists.{Lists};
 ghost use Rattle.qm_postings.specs.Blocks.{AreAboveLeast, Block, EndBelow, block_at, block_read, looked_at, no_block};
 ghost use Rattle.qm_postings.specs.Positions.{HasAdded, shifted};
@@ -281,6 +281,21 @@ impl<'a> SegmentPostings<'a> {
                 .min(self.arrays.documents.len() - start)
     }
 
+    // The place behind the next documents that are below a bound, at most as many as a buffer has room for.
+    fn end_below(&self, bound: DocId) -> usize
+        requires valid { IsPostings self.now }
+        ensures count { result ≡ self.now.cursor + min COLLECT_BLOCK_BUFFER_LEN (length (below bound (postings_left self.now))) }
+        ensures within { result ≤ length self.now.arrays.documents.now }
+    {
+        let documents = self.arrays.documents;
+        let most = COLLECT_BLOCK_BUFFER_LEN.min(documents.len() - self.cursor);
+        let end = self.cursor + most;
+        if most == 0 || documents[end - 1] < bound {
+            return end;
+        }
+        gallop(&documents[..end], self.cursor, bound)
+    }
+
     // The positions of the posting that the cursor stands on; the mark comes along.
     fn positions_here(&mut self) -> &'a [u32]
         requires valid { IsPostings self.old }
@@ -392,6 +407,19 @@ impl<'a> DocSet for SegmentPostings<'a> {
         let documents = self.arrays.documents;
         let count = COLLECT_BLOCK_BUFFER_LEN.min(documents.len() - self.cursor);
         let end = self.cursor + count;
+        buffer[..count].copy_from_slice(&documents[self.cursor..end]);
+        self.cursor = end;
+        count
+    }
+
+    fn fill_buffer_below(
+        &mut self,
+        bound: DocId,
+        buffer: &mut [DocId; COLLECT_BLOCK_BUFFER_LEN],
+    ) -> usize {
+        let documents = self.arrays.documents;
+        let end = self.end_below(bound);
+        let count = end - self.cursor;
         buffer[..count].copy_from_slice(&documents[self.cursor..end]);
         self.cursor = end;
         count

@@ -1,9 +1,8 @@
 -- A number that is there is taken out of its word, and counted no more.
-use Rattle.std.proofs.Common.{◌≡◌, ◌+◌, ◌<◌, ◌/◌, ◌==◌, ◌&&◌, ◌||◌, ℕ, Bool, true, false, not, length, slice_set, refl, ap, sym, ◌∙◌, inl, inr, arith, eq-eqb}
+use Rattle.std.proofs.Common.{◌≡◌, ◌<◌, ◌/◌, ◌==◌, ◌&&◌, ◌||◌, ℕ, Bool, true, false, not, length, slice_set, refl, sym, ◌∙◌, inl, inr, arith, eq-eqb}
 use Rattle.std.proofs.Common.{ne_eqb}
 use Rattle.std.proofs.lemmas.Bool.{cases_eq}
 use Rattle.qm_docset.specs.BitSet.{set_has}
-use Rattle.qm_docset.specs.Members.{members_between}
 use Rattle.qm_docset.specs.Words.{words_have}
 use Rattle.qm_docset.proofs.BitSetLemmas.{words_have-remove, remove_within}
 use Rattle.qm_docset.proofs.MembersLemmas.{and_true, length-members_between_insert}
