@@ -62,6 +62,12 @@ module _ (has : ℕ → Bool) (score : ℕ → ℕ) (doc ahead : ℕ) (combined 
         },
       )
 
+  -- .. and to any that the window has
+  pub stands_on : (next : ℕ) → doc ≤ next → has next ≡ true
+      → (windowed has score next combined ess ≡ from next (windowed has score doc combined ess)) × IsWindowed has score next ahead combined limits ess
+  stands_on next low there = goes_next next next (next + 1) low
+      (record { above = omega arith; below = omega arith; member = there; none_before = λ d past before. absurd (omega (arith, past, before)) })
+
   -- It may go past its own document, and further, if not past the members' first.
   pub next_reaches : min (doc + 1) TERMINATED ≤ ahead
   next_reaches = elim (cases_lt doc TERMINATED) [

@@ -36,4 +36,4 @@ pub use reqopt_scorer::RequiredOptionalScorer;
 pub use score_combiner::ScoreCombiner;
 pub use scorer::Scorer;
 pub use sum_combiner::SumCombiner;
-pub use union::{BufferedUnionScorer, FIRST_SPAN, HORIZON, SEEK_SPAN, Window};
+pub use union::{BufferedUnionScorer, FIRST_SPAN, HORIZON, SEEK_SPAN, Window, WindowedUnion};

@@ -1,8 +1,8 @@
 -- Facts on the entries before a bound: they are the first of a cursor's, and those at or past it the others.
 use Rattle.std.specs.Prelude.{◌≡◌, ℕ, ◌+◌, ◌<◌, ◌≤◌, List, [], ◌∷◌, All, length, drop, min, slice_index, take}
-use Rattle.std.proofs.Common.{zero, suc, arith, ap, refl, ◌∙◌, inl, inr}
+use Rattle.std.proofs.Common.{zero, suc, arith, ap, refl, sym, ◌∙◌, inl, inr}
 use Rattle.std.proofs.lemmas.Bool.{cases_lt, le-ltb, lt-ltb}
-use Rattle.std.proofs.lemmas.List.Elements.{All-cons, All-nil}
+use Rattle.std.proofs.lemmas.List.Elements.{All-cons, All-nil, All-weaker}
 use Rattle.qm_docset.specs.Entry.{Entry, Limits, AreEntries, below, documents, from, head_document}
 use Rattle.qm_docset.specs.EntryFacts.{from-all, from-nil, from-skip}
 use Rattle.qm_docset.specs.declared.numbers.TheConstants.{TERMINATED}
@@ -15,7 +15,7 @@ pub below-keep : (b : ℕ) (e : Entry) (es : List Entry) → e.document < b → 
 unfolding below
 below-keep b e es h = rw (lt-ltb e.document b h) refl
 
-below-skip : (b : ℕ) (e : Entry) (es : List Entry) → b ≤ e.document → below b (e ∷ es) ≡ below b es
+pub below-skip : (b : ℕ) (e : Entry) (es : List Entry) → b ≤ e.document → below b (e ∷ es) ≡ below b es
 unfolding below
 below-skip b e es h = rw (le-ltb e.document b h) refl
 
@@ -68,13 +68,26 @@ module _ (b : ℕ) (limits : Limits) where
   ]
 
   -- .. all of which are before it
-  pub documents-below : (n low : ℕ) (es : List Entry) → AreEntries low limits es → n ≤ length (below b es) → All (λ d. d < b) (documents (take n es))
-  documents-below zero low es a h = All-nil (λ d. d < b)
-  documents-below (suc n) low [] a h = All-nil (λ d. d < b)
+  pub documents-below : (n low : ℕ) (es : List Entry) → AreEntries low limits es → n ≤ length (below b es) →
+      All (λ d. (low ≤ d) × (d < b)) (documents (take n es))
+  documents-below zero low es a h = All-nil (λ d. (low ≤ d) × (d < b))
+  documents-below (suc n) low [] a h = All-nil (λ d. (low ≤ d) × (d < b))
   documents-below (suc n) low (e ∷ es) a h = elim (cases_lt e.document b) [
     | inl before ↦
-        All-cons (λ d. d < b) e.document (documents (take n es)) before
-        (documents-below n (e.document + 1) es a.others (omega (arith, h, ap length (below-keep b e es before))))
+        let Within : ℕ → Type 0 = λ d. (low ≤ d) × (d < b) in
+        let others = documents-below n (e.document + 1) es a.others (omega (arith, h, ap length (below-keep b e es before))) in
+        All-cons Within e.document (documents (take n es)) (a.here.from_low, before)
+        (All-weaker (λ d. (e.document + 1 ≤ d) × (d < b)) Within (λ d l. (omega (arith, l.0, a.here.from_low), l.1)) (documents (take n es)) others)
+    | inr past ↦ absurd (omega (arith, h, ap length (below-first low e es a past)))
+  ]
+
+  -- .. and without which the same are left at or past it
+  pub from-dropped : (n low : ℕ) (es : List Entry) → AreEntries low limits es → n ≤ length (below b es) → from b (drop n es) ≡ from b es
+  from-dropped zero low es a h = refl
+  from-dropped (suc n) low [] a h = refl
+  from-dropped (suc n) low (e ∷ es) a h = elim (cases_lt e.document b) [
+    | inl before ↦
+        from-dropped n (e.document + 1) es a.others (omega (arith, h, ap length (below-keep b e es before))) ∙ sym (from-skip b e es before)
     | inr past ↦ absurd (omega (arith, h, ap length (below-first low e es a past)))
   ]
 

@@ -15,10 +15,8 @@ use Rattle.qm_combine.specs.AllDocuments.{IsOverAll, all_left}
 use Rattle.qm_combine.specs.Constant.{IsConstant, IsConstantPlaced, constant_left, constant_limits}
 use Rattle.qm_combine.specs.HeldSum.{held_sum}
 use Rattle.qm_combine.specs.Rescored.{rescored, with_optional}
-use Rattle.qm_combine.specs.Combiner.{IsCleared}
-use Rattle.qm_combine.specs.Union.{least_head, total_top, united_limits}
-use Rattle.qm_combine.specs.Window.{IsUntil, window_combiner, window_has, window_state}
-use Rattle.qm_combine.specs.Windowed.{IsWindowed, windowed}
+use Rattle.qm_combine.specs.Union.{least_head}
+use Rattle.qm_combine.specs.United.{HasParts as HasPartsBy, IsUnited as IsUnitedBy, kept_score as kept_by, united as united_by}
 use Rattle.qm_combine.specs.declared.union.window.Window.{Window}
 use Rattle.qm_combine.specs.Without.{without}
 use Rattle.qm_combine.specs.WithoutFacts.{IsKept}
@@ -71,24 +69,20 @@ pub record AreHeads (heads : LeastDocs) (ess : List (List Entry)) : Type 0 where
 
 -- the score that a window keeps of a document
 abbrev pub kept_score : Window AnyCombiner → ℕ → ℕ
-kept_score w d = any_value (window_state w d)
+kept_score = kept_by any_combined any_value
 
 -- what a union lists from a document on of what its window keeps and its members have left
 abbrev pub united : Window AnyCombiner → ℕ → List (List Entry) → List Entry
-united w doc ess = windowed (window_has w) (kept_score w) doc (any_combined (window_combiner w)) ess
+united = united_by any_combined any_value
 
 -- a window with a combiner that was cleared and has room for all scores of the members, and the bound on
 -- what it makes of them
-pub record HasParts (w : Window AnyCombiner) (top : ℕ) (limits : List Limits) : Type 0 where
-  pub fits : total_top limits ≤ greatest_score
-  pub bound : top ≡ max 1 (total_top limits)
-  pub start : IsCleared any_cleared (window_combiner w)
-  pub until : IsUntil w
+abbrev pub HasParts : Window AnyCombiner → ℕ → List Limits → Type 0
+HasParts = HasPartsBy any_cleared
 
 -- a union that stands on its first document
-pub record IsUnited (w : Window AnyCombiner) (doc ahead top : ℕ) (limits : List Limits) (ess : List (List Entry)) : Type 0 where
-  pub parts : HasParts w top limits
-  pub standing : IsWindowed (window_has w) (kept_score w) doc ahead (any_combined (window_combiner w)) (united_limits limits) ess
+abbrev pub IsUnited : Window AnyCombiner → ℕ → ℕ → ℕ → List Limits → List (List Entry) → Type 0
+IsUnited = IsUnitedBy any_combined any_value any_cleared
 
 -- ---- trees
 

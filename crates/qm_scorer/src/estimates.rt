@@ -99,5 +99,5 @@ fn estimate_union<'a, S: Scorer>(node: &UnionNode<'a, S>, estimate: Estimate) ->
     for member in &node.members {
         sum = join_estimates(sum, estimate_tree(member, estimate), estimate);
     }
-    sum.saturating_add(u64::from(node.window.len()))
+    sum.saturating_add(u64::from(node.window.len_from(node.doc)))
 }

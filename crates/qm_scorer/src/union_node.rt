@@ -1,24 +1,26 @@
 //! A node over several scorers, any of which has each document, with a window that is filled from them.
 
-ghost use Rattle.std.specs.Prelude.{◌≡◌, ◌<◌, ◌≤◌, ◌+◌, ℕ, [], drop, length, map, min, take, true};
+ghost use Rattle.std.specs.Prelude.{◌≡◌, ◌<◌, ◌≤◌, ℕ, map, true};
 ghost use Rattle.qm_docset.specs.Cursor.{IsSeekAnswer};
-ghost use Rattle.qm_docset.specs.Entry.{documents, from, greatest_score, head_document, head_score};
+ghost use Rattle.qm_docset.specs.Entry.{from, greatest_score, head_document, head_score};
 ghost use Rattle.qm_docset.specs.Gather.{gather};
 ghost use Rattle.qm_combine.specs.Combiner.{HasRoomFor, IsCleared};
 ghost use Rattle.qm_combine.specs.Union.{least_head, total_top};
 ghost use Rattle.qm_combine.specs.Window.{IsUntil, window_combiner, window_end, window_has, window_start, window_state};
 ghost use Rattle.qm_scorer.specs.AnyCombiner.{any_cleared, any_combined, any_step};
 ghost use Rattle.qm_scorer.specs.Moves.{Swept};
-ghost use Rattle.qm_scorer.specs.Tree.{HasParts, IsTree, IsTreePlaced, tree_entries, tree_top};
-ghost use Rattle.qm_scorer.specs.United.{AreMembersStanding, IsAdded, IsUnionNode, union_limits, union_list, union_lists};
+ghost use Rattle.qm_docset.specs.GatherFacts.{AreMembers-map};
+ghost use Rattle.qm_scorer.specs.Tree.{HasParts, IsTree, IsTreePlaced, tree_entries, tree_limits, tree_top};
+ghost use Rattle.qm_scorer.specs.TreeFacts.{tree-ascends};
+ghost use Rattle.qm_scorer.specs.United.{AreMembersStanding, IsAdded, IsUnionNode, union_limits, union_list, union_lists, union_shown};
 ghost use Rattle.qm_scorer.specs.declared.any_scorer.AnyScorer.{size-AnyScorer};
 ghost use Rattle.qm_scorer.specs.declared.union_node.UnionNode.{size-UnionNode};
 
 use crate::any_combiner::AnyCombiner;
 use crate::any_scorer::{AnyScorer, doc_tree, reach_tree, score_tree, seek_tree};
 use crate::leaves::{is_leaf, take_leaf};
-use qm_combine::{SEEK_SPAN, Scorer, Window};
-use qm_docset::{COLLECT_BLOCK_BUFFER_LEN, DocId, Score, SeekDangerResult, TERMINATED};
+use qm_combine::{SEEK_SPAN, Scorer, Window, WindowedUnion};
+use qm_docset::{DocId, Score, SeekDangerResult, TERMINATED};
 
 /// The documents that any of its members has, each with what a combiner makes of the members' scores
 /// there.
@@ -289,89 +291,34 @@ pub(crate) fn score_union<'a, S: Scorer>(node: &mut UnionNode<'a, S>) -> u64
     node.window.score(node.doc) as u64
 }
 
-// Goes to the first document at or past a target, which lies past the node's document and is not past
-// the members' first.
-fn go_to<'a, S: Scorer>(node: &mut UnionNode<'a, S>, target: DocId) -> DocId
-    requires valid { IsUnionNode S.DocSet node.old }
-    requires target { (node.old.doc < target) × (min target TERMINATED ≤ node.old.ahead) }
-    ensures head { result ≡ head_document (union_list S.DocSet node.new) }
-    ensures entries { union_list S.DocSet node.new ≡ from target (union_list S.DocSet node.old) }
-    ensures valid { IsUnionNode S.DocSet node.new }
-    ensures top { node.new.top ≡ node.old.top }
-{
-    if let Some(doc) = node.window.next_until_last(target) {
-        node.doc = doc;
-        return doc;
+impl<'a, S: Scorer> WindowedUnion<AnyCombiner> for UnionNode<'a, S> {
+    ghost shown = { λ node. union_shown S.DocSet node };
+
+    ghost standing = { λ node. IsUnionNode S.DocSet node };
+
+    fn window(&self) -> &Window<AnyCombiner> {
+        &self.window
     }
-    let span = node.window.next_span(node.span);
-    go_on(node, span)
-}
 
-// Goes to the node's next document.
-pub(crate) fn advance_union<'a, S: Scorer>(node: &mut UnionNode<'a, S>) -> DocId
-    requires valid { IsUnionNode S.DocSet node.old }
-    ensures head { result ≡ head_document (union_list S.DocSet node.new) }
-    ensures entries { union_list S.DocSet node.new ≡ drop 1 (union_list S.DocSet node.old) }
-    ensures valid { IsUnionNode S.DocSet node.new }
-    ensures top { node.new.top ≡ node.old.top }
-{
-    let next = node.doc + 1;
-    go_to(node, next)
-}
-
-// Takes documents of the window, from the node's own on, as many as there is room for, and goes past
-// them.
-fn take_window<'a, S: Scorer>(node: &mut UnionNode<'a, S>, places: &mut [DocId]) -> usize
-    requires valid { IsUnionNode S.DocSet node.old }
-    requires here { node.old.doc < TERMINATED }
-    requires places { 1 ≤ length places.old }
-    ensures some { (1 ≤ result) × (result ≤ length places.old) }
-    ensures within { result ≤ length (union_list S.DocSet node.old) }
-    ensures documents { take result places.new ≡ documents (take result (union_list S.DocSet node.old)) }
-    ensures entries { union_list S.DocSet node.new ≡ drop result (union_list S.DocSet node.old) }
-    ensures valid { IsUnionNode S.DocSet node.new }
-    ensures top { node.new.top ≡ node.old.top }
-{
-    let count = node.window.fill(node.doc, places);
-    go_to(node, places[count - 1] + 1);
-    count
-}
-
-// Takes the next documents, as many as the buffer has room for.
-pub(crate) fn fill_union<'a, S: Scorer>(
-    node: &mut UnionNode<'a, S>,
-    buffer: &mut [DocId; COLLECT_BLOCK_BUFFER_LEN],
-) -> usize
-    requires valid { IsUnionNode S.DocSet node.old }
-    ensures count { result ≡ min COLLECT_BLOCK_BUFFER_LEN (length (union_list S.DocSet node.old)) }
-    ensures documents { take result buffer.new ≡ documents (take COLLECT_BLOCK_BUFFER_LEN (union_list S.DocSet node.old)) }
-    ensures entries { union_list S.DocSet node.new ≡ drop COLLECT_BLOCK_BUFFER_LEN (union_list S.DocSet node.old) }
-    ensures valid { IsUnionNode S.DocSet node.new }
-    ensures top { node.new.top ≡ node.old.top }
-{
-    let mut taken = 0;
-    // so many documents were taken, and the node stands behind them
-    while taken < COLLECT_BLOCK_BUFFER_LEN && node.doc < TERMINATED {
-        taken += take_window(node, &mut buffer[taken..]);
+    fn document(&self) -> DocId {
+        self.doc
     }
-    taken
-}
 
-// The number of documents; leaves none.
-pub(crate) fn total_union<'a, S: Scorer>(node: &mut UnionNode<'a, S>) -> u32
-    requires valid { IsUnionNode S.DocSet node.old }
-    ensures count { result ≡ length (union_list S.DocSet node.old) }
-    ensures entries { union_list S.DocSet node.new ≡ [] }
-    ensures valid { IsUnionNode S.DocSet node.new }
-    ensures top { node.new.top ≡ node.old.top }
-{
-    let mut count = 0;
-    // with those that are left, all of them are counted
-    while node.doc < TERMINATED {
-        node.window.drop_below(node.doc);
-        count += node.window.len();
-        let span = node.window.next_span(node.span);
-        go_on(node, span);
+    fn next_span(&self) -> u32 {
+        self.window.next_span(self.span)
     }
-    count
+
+    fn stand_on(&mut self, doc: DocId) {
+        self.doc = doc;
+    }
+
+    fn go_on(&mut self, span: u32) -> DocId {
+        go_on(self, span)
+    }
+
+    ghost going = { λ node h. record {
+        until = h.own.parts.until;
+        standing = h.own.standing;
+        members = AreMembers-map (tree_limits S.DocSet) (tree_entries S.DocSet) node.members.items (λ k d inside. tree-ascends S.DocSet S.ascending _ (h.members.valid k d inside));
+    } };
 }

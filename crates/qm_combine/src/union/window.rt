@@ -1,19 +1,20 @@
 //! A window of documents, each with what a combiner makes of the scores that were added to it.
 
-ghost use Rattle.std.specs.Prelude.{◌≡◌, ℕ, ◌+◌, ◌*◌, ◌<◌, ◌≤◌, ◌≢◌, ◌==◌, ◌||◌, ◌++◌};
+ghost use Rattle.std.specs.Prelude.{◌≡◌, ℕ, ◌+◌, ◌-◌, ◌*◌, ◌<◌, ◌≤◌, ◌≢◌, ◌==◌, ◌||◌, ◌++◌, All};
 ghost use Rattle.std.specs.Prelude.{length, map, min, not, slice_index_or, take, vec_capacity, vec_len};
 ghost use Rattle.qm_docset.specs.Entry.{head_document, head_score};
 ghost use Rattle.qm_docset.specs.Lists.{IsPlaced, Lists};
 ghost use Rattle.qm_docset.specs.TinySet.{tiny_members};
 ghost use Rattle.qm_docset.specs.Words.{words_have};
 ghost use Rattle.qm_docset.specs.declared.numbers.TheConstants.{TERMINATED};
-ghost use Rattle.qm_combine.specs.WindowStates.{state_of_place};
+ghost use Rattle.std.specs.List.{list_any};
+ghost use Rattle.qm_combine.specs.WindowStates.{last_or, state_of_place};
 
 use crate::all_scorer::AllScorer;
 use crate::const_scorer::ConstScorer;
 use crate::score_combiner::ScoreCombiner;
 use crate::scorer::Scorer;
-use qm_docset::{DocId, DocSet, Score, TERMINATED, TinySet};
+use qm_docset::{COLLECT_BLOCK_BUFFER_LEN, DocId, DocSet, Score, TERMINATED, TinySet};
 use qm_schema::QueryError;
 use std::alloc::Global;
 
@@ -248,18 +249,18 @@ impl<C: ScoreCombiner> Window<C> {
         ensures combiner { window_combiner self.new ≡ window_combiner self.old }
     {
         let start = self.start;
-        let past = bound.min(TERMINATED);
         let buckets = self.buckets.as_mut_slice();
+        let mut buffer = [0; COLLECT_BLOCK_BUFFER_LEN];
         let mut last = start;
-        let mut doc = docset.doc();
-        // what the cursor had below the document is added, none of it past the last
-        while doc < past {
-            mark_place(buckets, (doc - start) as usize);
-            last = doc;
-            doc = docset.advance();
+        let mut taken = COLLECT_BLOCK_BUFFER_LEN;
+        // what the cursor had before its document is added, none of it past the last; all below the bound where a
+        // buffer was not filled
+        while taken == COLLECT_BLOCK_BUFFER_LEN {
+            taken = docset.fill_buffer_below(bound, &mut buffer);
+            last = mark_row(buckets, start, last, &buffer[..taken]);
         }
         self.last = self.last.max(last);
-        doc
+        docset.doc()
     }
 
     /// The first of its documents at or past `doc`, or `None` where there is none.
@@ -360,14 +361,20 @@ impl<C: ScoreCombiner> Window<C> {
         }
     }
 
-    /// How many documents it has. Looks at no word behind that of its last.
-    pub fn len(&self) -> u32
+    /// How many documents it has at or past `doc`. Looks at no word behind that of its last.
+    pub fn len_from(&self, doc: DocId) -> u32
         requires until { IsUntil self.now }
-        ensures { result ≡ length (window_from self.now 0) }
+        ensures { result ≡ length (window_from self.now doc) }
     {
-        let mut count = 0;
-        // so many have the words before the bucket
-        for bucket in 0..self.words() {
+        let from = doc.saturating_sub(self.start);
+        if from >= HORIZON {
+            return 0;
+        }
+        let first = (from / 64) as usize;
+        let word = self.buckets[first].intersect(TinySet::range_greater_or_equal(from));
+        let mut count = word.len();
+        // so many have the words before the bucket from there on
+        for bucket in first + 1..self.words() {
             count += self.buckets[bucket].len();
         }
         count
@@ -381,7 +388,7 @@ impl<C: ScoreCombiner> Window<C> {
         ensures { (1 ≤ result) × (result ≤ 4096) }
     {
         let span = span.max(1).min(HORIZON);
-        if span < HORIZON && self.len() >= span / 16 {
+        if span < HORIZON && self.len_from(self.start) >= span / 16 {
             (span * 4).min(HORIZON)
         } else {
             span
@@ -410,6 +417,24 @@ fn mark_place(buckets: &mut [TinySet], place: usize) -> bool
     ensures documents { (x : ℕ) → words_have buckets.new x ≡ (x == place || words_have buckets.old x) }
 {
     buckets[place / 64].insert_mut((place % 64) as u32)
+}
+
+/// Adds documents to the words, which begin with `start`, and answers the last of them, or `last` where there
+/// are none.
+fn mark_row(buckets: &mut [TinySet], start: DocId, last: DocId, documents: &[DocId]) -> DocId
+    requires buckets { length buckets.old ≡ 64 }
+    requires span { All (λ d. (start ≤ d) × (d < start + 4096)) documents.now }
+    ensures last { result ≡ last_or last documents.now }
+    ensures documents { (x : ℕ) → words_have buckets.new x
+        ≡ (list_any (λ d. x == d - start) documents.now || words_have buckets.old x) }
+{
+    let mut latest = last;
+    // the documents before are added
+    for doc in documents {
+        mark_place(buckets, (*doc - start) as usize);
+        latest = *doc;
+    }
+    latest
 }
 
 /// Adds a scorer's score at a place of a window; a place that is new begins cleared.

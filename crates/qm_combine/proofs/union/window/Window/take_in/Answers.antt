@@ -3,6 +3,7 @@ use Rattle.std.proofs.Common.{◌≡◌, ◌≢◌, ℕ, ◌+◌, ◌-◌, ◌<�
 use Rattle.std.proofs.lemmas.Bool.{cases_eq, cases_lt}
 use Rattle.qm_docset.specs.Entry.{Limits, from, head_document, head_score}
 use Rattle.qm_docset.specs.EntryFacts.{from-reached}
+use Rattle.qm_docset.specs.Words.{words_have}
 use Rattle.qm_combine.specs.WindowStates.{state_of_place}
 use Rattle.qm_combine.specs.Window.{window_combiner, window_has, window_state}
 use Rattle.qm_combine.specs.Windowed.{scores_of}
@@ -86,8 +87,8 @@ loop-doc-preserved g c =
       limits = c.advance-doc.ensures.limits ∙ c.put.ensures.left.limits ∙ inv.limits;
       valid = c.advance-doc.ensures.valid;
       placed = c.advance-doc.ensures.placed;
-      marks = marking-next _ es ascends w.start doc next c.loop-doc.last w.buckets.items c.loop-doc.buckets c.put.new.buckets inv.marks here below goes
-          c.put.ensures.documents;
+      marks = marking-next _ es ascends w.start doc next c.loop-doc.last (words_have w.buckets.items) (words_have c.loop-doc.buckets)
+          (words_have c.put.new.buckets) inv.marks here below goes c.put.ensures.documents;
       room = c.put.ensures.room;
       states = λ x small. elim (cases_eq x (doc - w.start)) [
         | inl same ↦

@@ -1,5 +1,6 @@
 use Rattle.std.proofs.Common.{◌≡◌, ℕ, ◌+◌, ◌<◌, ◌≤◌, length, fold, min, vec_capacity}
 use Rattle.qm_docset.specs.Entry.{from, head_document}
+use Rattle.qm_docset.specs.Words.{words_have}
 use Rattle.qm_combine.specs.WindowStates.{state_of_place}
 use Rattle.qm_combine.proofs.Marking.{IsMarking}
 use Rattle.qm_combine.proofs.TakenIn.{taken}
@@ -12,7 +13,7 @@ invariant-loop-doc g l = record {
   limits : g.S.DocSet.limits l.scorer ≡ g.S.DocSet.limits l.fn.scorer;
   valid : g.S.DocSet.valid l.scorer;
   placed : g.S.DocSet.placed l.scorer;
-  marks : IsMarking l.fn.self.start l.doc l.last l.fn.self.buckets.items l.buckets (g.S.DocSet.entries l.fn.scorer);
+  marks : IsMarking l.fn.self.start l.doc l.last (words_have l.fn.self.buckets.items) (words_have l.buckets) (g.S.DocSet.entries l.fn.scorer);
   room : 4096 ≤ vec_capacity l.states;
   states : (x : ℕ) → x < 4096
       → state_of_place l.buckets l.states.items l.fn.self.combiner x ≡ fold g.C.ScoreCombiner.step
