@@ -68,13 +68,6 @@ module _ (has : ℕ → Bool) (score : ℕ → ℕ) (doc ahead : ℕ) (combined 
   stands_on next low there = goes_next next next (next + 1) low
       (record { above = omega arith; below = omega arith; member = there; none_before = λ d past before. absurd (omega (arith, past, before)) })
 
-  -- It may go past its own document, and further, if not past the members' first.
-  pub next_reaches : min (doc + 1) TERMINATED ≤ ahead
-  next_reaches = elim (cases_lt doc TERMINATED) [
-    | inl stands ↦ let before = w.behind doc (w.here stands) in omega arith
-    | inr ended ↦ omega (arith, w.before)
-  ]
-
   -- From there on the members have all that is left, where the window has nothing there.
   pub goes_on : (t : ℕ) → doc ≤ t → min t TERMINATED ≤ ahead → ((d : ℕ) → t ≤ d → has d ≡ false)
       → gather 1 combined ess ≡ from t (windowed has score doc combined ess)

@@ -3,7 +3,7 @@ use Rattle.std.proofs.Common.{◌≡◌, ◌≢◌, ℕ, zero, suc, ◌∷◌, �
 use Rattle.std.proofs.Common.{List, [], length, slice_get, Some, None, get_or, set, eq-eqb, ne_eqb, lt-ltb, refl, ap, sym, ◌∙◌, inl, inr, arith, true≢false}
 use Rattle.std.proofs.Common.{vec_len}
 use Rattle.std.proofs.lemmas.Bool.{cases_Bool, cases_lt, cases_eq, le-leb, lt-leb, leb-true, and_right}
-use Rattle.std.proofs.lemmas.List.{get_or-set_same, get_or-set_other, get_or_read, length-map}
+use Rattle.std.proofs.lemmas.List.{get_or-set_same, get_or-set_other, get_or_read}
 use Rattle.qm_docset.specs.declared.tiny_set.TinySet.{TinySet}
 use Rattle.qm_docset.specs.TinySet.{tiny_has, tiny_members}
 use Rattle.qm_docset.specs.Members.{members_between}
@@ -11,7 +11,7 @@ use Rattle.qm_docset.specs.Words.{words_have}
 use Rattle.qm_combine.specs.WindowStates.{state_of_place}
 use Rattle.qm_combine.specs.Window.{window_combiner, window_has, window_state}
 use Rattle.qm_combine.specs.declared.union.window.Window.{Window}
-use Rattle.qm_docset.proofs.MembersLemmas.{HasNone, IsFirst, and_true, members_between-none, members_between-same, members_between-shift, members_between-skip}
+use Rattle.qm_docset.proofs.MembersLemmas.{HasNone, IsFirst, and_true, members_between-none}
 use Rattle.qm_docset.proofs.MemberEntries.{first-from_Some, none-from_None, Some-from_first}
 use Rattle.qm_docset.proofs.BitSetLemmas.{words_have-at, words_have-past}
 
@@ -269,19 +269,6 @@ pub state_at-same : {C : Type 0} (start start' : ℕ) (words words' : List TinyS
     → start' ≡ start → states' ≡ states → combiner' ≡ combiner → has_at start' words' d ≡ has_at start words d
     → state_at start' words' states' combiner' d ≡ state_at start words states combiner d
 state_at-same start start' words words' states states' combiner combiner' d s t c h = rw (h, s, t, c) refl
-
--- ---- documents are counted
-
-pub length-has_at : (start : ℕ) (words : List TinySet) (n : ℕ)
-    → length (members_between (has_at start words) 0 (start + n)) ≡ length (members_between (words_have words) 0 n)
-length-has_at start words n =
-    let from_start = members_between-skip (has_at start words) 0 start (start + n) (omega arith) (λ x above before. has_at-before start words x before) in
-    let shifted = members_between-shift (has_at start words) start 0 n in
-    let low : start + 0 ≡ start = omega arith in
-    let place : (x : ℕ) → start + x - start ≡ x = λ x. omega arith in
-    let same = members_between-same (λ x. has_at start words (start + x)) (words_have words) 0 n
-    (λ x above below. has_at-from start words (start + x) (omega arith) ∙ ap (words_have words) (place x)) in
-    ap length (from_start ∙ rw low at shifted) ∙ length-map (members_between (λ x. has_at start words (start + x)) 0 n) (λ x. start + x) ∙ ap length same
 
 -- a place that is added, by its document
 pub has_at-put : (start doc : ℕ) (words more : List TinySet) → start ≤ doc → ((x : ℕ) → words_have more x ≡ (x == doc - start || words_have words x))

@@ -9,10 +9,9 @@ ghost use Rattle.qm_combine.specs.Union.{least_head, total_top};
 ghost use Rattle.qm_combine.specs.Window.{IsUntil, window_combiner, window_end, window_has, window_start, window_state};
 ghost use Rattle.qm_scorer.specs.AnyCombiner.{any_cleared, any_combined, any_step};
 ghost use Rattle.qm_scorer.specs.Moves.{Swept};
-ghost use Rattle.qm_docset.specs.GatherFacts.{AreMembers-map};
-ghost use Rattle.qm_scorer.specs.Tree.{HasParts, IsTree, IsTreePlaced, tree_entries, tree_limits, tree_top};
-ghost use Rattle.qm_scorer.specs.TreeFacts.{tree-ascends};
+ghost use Rattle.qm_scorer.specs.Tree.{HasParts, IsTree, IsTreePlaced, tree_entries, tree_top};
 ghost use Rattle.qm_scorer.specs.United.{AreMembersStanding, IsAdded, IsUnionNode, union_limits, union_list, union_lists, union_shown};
+ghost use Rattle.qm_scorer.specs.UnitedFacts.{union-going};
 ghost use Rattle.qm_scorer.specs.declared.any_scorer.AnyScorer.{size-AnyScorer};
 ghost use Rattle.qm_scorer.specs.declared.union_node.UnionNode.{size-UnionNode};
 
@@ -316,9 +315,5 @@ impl<'a, S: Scorer> WindowedUnion<AnyCombiner> for UnionNode<'a, S> {
         go_on(self, span)
     }
 
-    ghost going = { λ node h. record {
-        until = h.own.parts.until;
-        standing = h.own.standing;
-        members = AreMembers-map (tree_limits S.DocSet) (tree_entries S.DocSet) node.members.items (λ k d inside. tree-ascends S.DocSet S.ascending _ (h.members.valid k d inside));
-    } };
+    ghost going = { λ node h. union-going (record { entries = S.entries; limits = S.limits; keeps = S.keeps; placed = S.placed; valid = S.valid }) S.ascending node h };
 }
