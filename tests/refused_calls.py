@@ -21,7 +21,7 @@ CRATES = (
 ).split()
 # by trait the rows that name its calls, none of which takes memory
 ROWS = {
-    "DocSet": "doc advance seek seek_danger fill count total hint cost",
+    "DocSet": "doc advance seek seek_danger fill fill_below count total hint cost",
     "Scorer": "score max_score",
     "Postings": "freq max_term_freq append positions positions_with_offset",
     "ScoreCombiner": "clear update score",

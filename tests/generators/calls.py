@@ -87,7 +87,7 @@ class Player:
             return self.random.choice([self.seek, self.seek, self.seek_danger])()
         if self.random.random() < 0.02:
             return self.random.choice([self.counted, self.total, self.all_left])()
-        moves = [self.advance] * 4 + [self.seek] * 3 + [self.seek_danger] * 3 + [self.doc, self.fill]
+        moves = [self.advance] * 4 + [self.seek] * 3 + [self.seek_danger] * 3 + [self.doc, self.fill, self.fill_below]
         return self.random.choice([*moves, self.score, self.score, self.score])()
 
     def doc(self):
@@ -151,6 +151,10 @@ class Player:
 
     def fill(self):
         return row("fill", spelled.documents(self.left.fill()))
+
+    def fill_below(self):
+        bound = self.random.choice([self.target(), min(self.target() + self.random.randint(0, 100), END)])
+        return row(f"fill_below {spelled.document(bound)}", spelled.documents(self.left.fill_below(bound)))
 
     def counted(self):
         if self.deleted is None:

@@ -78,6 +78,11 @@ class Left:
         self.at += len(taken)
         return taken
 
+    def fill_below(self, bound):
+        taken = [doc for doc, _ in self.left()[:SLICE] if doc < bound]
+        self.at += len(taken)
+        return taken
+
     def take(self):
         """All that is left, after which nothing is."""
         taken = self.left()

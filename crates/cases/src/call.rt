@@ -13,6 +13,7 @@ pub enum Call {
     /// a `seek_danger` of which it is known on which document it leaves the scorer at most
     SeekWithin(DocId, DocId),
     Fill,
+    FillBelow(DocId),
     Count,
     Total,
     Score,
@@ -70,6 +71,7 @@ fn read_seek(text: &str) -> Call {
     match read_document(target) {
         Some(target) if name == "seek" => Call::Seek(target),
         Some(target) if name == "seek_danger" => Call::SeekDanger(target),
+        Some(bound) if name == "fill_below" => Call::FillBelow(bound),
         None if name == "seek_danger" => read_within(target),
         _ => Call::NotUnderstood,
     }

@@ -199,6 +199,7 @@ fn ask_placed<S: Scorer>(
         Call::Doc => Answer::Document(scorer.doc()),
         Call::Advance => Answer::Document(scorer.advance()),
         Call::Fill => Answer::Filled(scorer.fill_buffer(buffer)),
+        Call::FillBelow(bound) => Answer::Filled(scorer.fill_buffer_below(bound, buffer)),
         Call::Count => Answer::Number(u64::from(scorer.count(desk.alive))),
         Call::Total => Answer::Number(u64::from(scorer.count_including_deleted())),
         Call::Score => {

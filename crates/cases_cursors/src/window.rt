@@ -132,7 +132,6 @@ fn answer<C: ScoreCombiner>(window: &Window<C>, call: &str) -> Answer
     requires { IsUntil window.now }
 {
     match call {
-        "len" => Answer::Number(u64::from(window.len())),
         "end" => Answer::Document(window.end()),
         "last" => Answer::Document(window.last()),
         "keeps_no_states" => Answer::Truth(window.keeps_no_states()),
@@ -152,6 +151,7 @@ fn answer_of_document<C: ScoreCombiner>(window: &Window<C>, call: &str) -> Answe
     match name {
         "next" => document_or_none(window.next(doc)),
         "next_until_last" => document_or_none(window.next_until_last(doc)),
+        "len_from" => Answer::Number(u64::from(window.len_from(doc))),
         "next_span" => Answer::Number(u64::from(window.next_span(doc))),
         "score" => score_of(window, doc),
         _ => Answer::NotUnderstood,

@@ -20,6 +20,7 @@ pub enum Move {
     /// a `seek_danger` of which it is known on which document it leaves the cursor at most
     SeekWithin(DocId, DocId),
     Fill,
+    FillBelow(DocId),
     Count,
     Total,
     Hint,
@@ -72,6 +73,7 @@ fn read_seek(call: &str) -> Option<Move> {
     match name {
         "seek" => Some(Move::Seek(target)),
         "seek_danger" => Some(Move::SeekDanger(target)),
+        "fill_below" => Some(Move::FillBelow(target)),
         _ => None,
     }
 }
@@ -166,6 +168,7 @@ fn move_placed<C: DocSet>(
         Move::Doc => Moved::Document(cursor.doc()),
         Move::Advance => Moved::Document(cursor.advance()),
         Move::Fill => Moved::Filled(cursor.fill_buffer(buffer)),
+        Move::FillBelow(bound) => Moved::Filled(cursor.fill_buffer_below(bound, buffer)),
         Move::Count => Moved::Number(u64::from(cursor.count(alive))),
         Move::Total => Moved::Number(u64::from(cursor.count_including_deleted())),
         _ => Moved::NotAllowed,

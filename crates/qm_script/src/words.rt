@@ -15,7 +15,7 @@ use std::alloc::{AllocError, Global};
 pub(crate) fn cut_words<'a>(alloc: Global, line: &'a str) -> Result<Vec<&'a str>, AllocError>
     ensures { IfOk result (λ words. map (λ w. w.now) words.items ≡ line_words line.now) }
 {
-    let mut words = Vec::with_capacity(alloc, 16)?;
+    let mut words = Vec::with_capacity(alloc, 64)?;
     for piece in line.split(' ') {
         for word in piece.split('\t') {
             if !word.is_empty() {
