@@ -307,7 +307,8 @@ impl<'a, S: Scorer> DocSet for AnyScorer<'a, S> {
         total_tree(self)
     }
 
-    ghost ascending = { λ x h. tree-ascends (record { entries = S.entries; limits = S.limits; keeps = S.keeps; placed = S.placed; valid = S.valid }) S.ascending x h };
+    ghost ascending = { λ x h.
+        tree-ascends (record { entries = S.entries; limits = S.limits; keeps = S.keeps; placed = S.placed; valid = S.valid }) S.ascending x h };
 }
 
 impl<'a, S: Scorer> Scorer for AnyScorer<'a, S> {

@@ -315,5 +315,6 @@ impl<'a, S: Scorer> WindowedUnion<AnyCombiner> for UnionNode<'a, S> {
         go_on(self, span)
     }
 
-    ghost going = { λ node h. union-going (record { entries = S.entries; limits = S.limits; keeps = S.keeps; placed = S.placed; valid = S.valid }) S.ascending node h };
+    ghost going = { λ node h.
+        union-going (record { entries = S.entries; limits = S.limits; keeps = S.keeps; placed = S.placed; valid = S.valid }) S.ascending node h };
 }

@@ -70,7 +70,8 @@ loop-taken-preserved g c =
     let old = words_have c.args.self.now.buckets.items in
     let more = words_have c.mark_row-last.new.buckets in
     let marked : IsMarking start (head_document (drop n rest)) c.mark_row-last.result old more es =
-    subst (λ l. IsMarking start (head_document (drop n rest)) l old more es) (sym (c.mark_row-last.ensures.last ∙ ap (last_or c.loop-taken.last) filled.documents))
+    subst (λ l. IsMarking start (head_document (drop n rest)) l old more es)
+    (sym (c.mark_row-last.ensures.last ∙ ap (last_or c.loop-taken.last) filled.documents))
     (marking-row _ es ascends n start (head_document rest) c.loop-taken.last old (words_have c.loop-taken.buckets) more rest inv.marks inv.left refl
     (omega (arith, few g at, length-below-most c.args.bound rest))
     (λ x. c.mark_row-last.ensures.documents x

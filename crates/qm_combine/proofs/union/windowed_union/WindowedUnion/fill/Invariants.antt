@@ -8,7 +8,8 @@ invariant-loop-taken g l = record {
   long : length l.buffer ≡ 64;
   room : l.taken ≤ 64;
   within : l.taken ≤ length (shown_list g.C.ScoreCombiner.combined g.C.ScoreCombiner.value (g.Self.WindowedUnion.shown l.fn.self));
-  filled : take l.taken l.buffer ≡ documents (take l.taken (shown_list g.C.ScoreCombiner.combined g.C.ScoreCombiner.value (g.Self.WindowedUnion.shown l.fn.self)));
+  filled : take l.taken l.buffer ≡ documents
+      (take l.taken (shown_list g.C.ScoreCombiner.combined g.C.ScoreCombiner.value (g.Self.WindowedUnion.shown l.fn.self)));
   left : shown_list g.C.ScoreCombiner.combined g.C.ScoreCombiner.value (g.Self.WindowedUnion.shown l.self) ≡ drop l.taken
       (shown_list g.C.ScoreCombiner.combined g.C.ScoreCombiner.value (g.Self.WindowedUnion.shown l.fn.self));
   bounds : (g.Self.WindowedUnion.shown l.self).bounds ≡ (g.Self.WindowedUnion.shown l.fn.self).bounds;
