@@ -1,4 +1,4 @@
--- The union of the cursors of terms, one of which is enough, is a scorer of the Boolean.
+-- The union of the cursors of terms, or what several of them have, is a scorer of the Boolean.
 use Rattle.std.specs.Prelude.{◌≡◌, ℕ, ◌+◌, ◌<◌, ◌≤◌, max, nat_le, true, false, if◌then◌else◌, IsTrue}
 use Rattle.std.specs.Prelude.{List, [], ◌∷◌, ◌++◌, Option, None, Some, length, map, sum, take}
 use Rattle.std.proofs.Common.{Box, Global, Result, Ok, Err, IfErr, IsErrOf, arith, refl, sym, ap, subst, ◌∙◌, get_or, inl, inr}
@@ -12,7 +12,7 @@ use Rattle.qm_docset.specs.GatherFacts.{entries_of-here, entries_of-nil, entries
 use Rattle.qm_docset.specs.Lists.{ArePlaced, bounds, lists}
 use Rattle.qm_docset.specs.declared.docset.DocSet.{Ghosts}
 use Rattle.qm_docset.specs.declared.numbers.TheConstants.{TERMINATED}
-use Rattle.qm_combine.specs.Union.{IsBoundOrMemory, ListsGathered, total_top}
+use Rattle.qm_combine.specs.Union.{IsBoundOrMemory, IsRefusedByBounds, ListsGathered, total_top}
 use Rattle.qm_postings.specs.Segment.{Segment}
 use Rattle.qm_schema.specs.declared.error.QueryError.{QueryError}
 use Rattle.qm_schema.specs.declared.error.QueryError.TheVariants.{Memory, ScoreBound}
@@ -22,7 +22,7 @@ use Rattle.qm_scorer.specs.Bare.{bare}
 use Rattle.qm_scorer.specs.BareFacts.{bare-cons, bare-nil}
 use Rattle.qm_weight.specs.ClauseScorers.{clause_trees, without_must_not}
 use Rattle.qm_weight.specs.Scorers.{IsListOf, IsRefusalOf, IsScorerOf}
-use Rattle.qm_weight.specs.TermUnions.{AreClauseCursors, AreFound, AreTermsThatShould, CombinesAs, IsCursorIf, IsTermThatShould, IsUnionOfTerms, there}
+use Rattle.qm_weight.specs.TermUnions.{AreClauseCursors, AreFound, AreTermsThatShould, CombinesAs, IsCursorIf, IsTermThatShould, NeedsSeveralTerms, there}
 use Rattle.qm_weight.specs.Tree.{Clauses, Tree, boolean, clause, clause_bounds, is_scoring, matches, no_clause, occurs_as, score}
 use Rattle.qm_weight.specs.Weights.{boolean_tree, clauses_from, combiner_of, tree_of}
 use Rattle.qm_weight.specs.declared.any_weight.AnyWeight.{AnyWeight}
@@ -170,11 +170,12 @@ all_wanted (clause MustNot tree clauses) h = absurd (omega (arith, ap length h))
 -- ---- the union
 
 module _ {S : Type 0} (D : Ghosts S) (gives_scores : Type 0) (w : BooleanWeight) (b : ℕ) (segment : Segment)
-    (few : length segment.documents ≤ TERMINATED) (terms : IsUnionOfTerms w) (cursors : List S)
+    (few : length segment.documents ≤ TERMINATED) (terms : AreTermsThatShould w.weights.items)
+    (m : ℕ) (needed : max w.minimum_number_should_match 1 ≡ m) (cursors : List S)
     (found : AreClauseCursors D gives_scores (clauses_from w.weights.items) b segment cursors) where
-  -- what the cursors list together is the list of the Boolean, where their scores are combined as its are
+  -- what enough of the cursors list together is the list of the Boolean, where their scores are combined as its are
   pub list-united : (combined : List ℕ → ℕ) → (IsTrue w.scoring_enabled → gives_scores) → (IsTrue w.scoring_enabled → CombinesAs w.score_combiner combined) →
-      IsListOf (boolean_tree w) b segment (gather 1 combined (lists D cursors))
+      IsListOf (boolean_tree w) b segment (gather m combined (lists D cursors))
   list-united combined gives same =
       let clauses = clauses_from w.weights.items in
       let n = length segment.documents in
@@ -182,15 +183,14 @@ module _ {S : Type 0} (D : Ghosts S) (gives_scores : Type 0) (w : BooleanWeight)
       let st = clause_trees clauses Should in
       let minimum = w.minimum_number_should_match in
       let combiner = w.score_combiner in
-      let es = gather 1 combined (lists D cursors) in
-      let one : max minimum 1 ≡ 1 = omega (arith, terms.least) in
-      let none = ap length (only-should Must w.weights.items terms.terms refl) in
-      let whole = all_wanted clauses (only-should MustNot w.weights.items terms.terms refl) in
+      let es = gather m combined (lists D cursors) in
+      let none = ap length (only-should Must w.weights.items terms refl) in
+      let whole = all_wanted clauses (only-should MustNot w.weights.items terms refl) in
       let said = subst (λ ss. AreSaid n (gives_scores × IsTrue (trees_scoring st)) (tree_scores st b segment) (lists D ss)) (sym found.2)
       (said-found D gives_scores b segment st found.0 found.1) in
-      let made = IsListing-gather n (gives_scores × IsTrue (trees_scoring st)) (tree_scores st b segment) (lists D cursors) said 1 combined (omega arith) few in
-      let tests : (d : ℕ) → nat_le 1 (length (tree_scores st b segment d)) ≡ is_wanted minimum (length mt) (tree_scores mt b segment d)
-      (tree_scores st b segment d) = λ d. ap (λ k. nat_le k (length (tree_scores st b segment d))) (sym one) ∙ wanted-test minimum clauses b segment d none in
+      let made = IsListing-gather n (gives_scores × IsTrue (trees_scoring st)) (tree_scores st b segment) (lists D cursors) said m combined (omega (arith, needed)) few in
+      let tests : (d : ℕ) → nat_le m (length (tree_scores st b segment d)) ≡ is_wanted minimum (length mt) (tree_scores mt b segment d)
+      (tree_scores st b segment d) = λ d. ap (λ k. nat_le k (length (tree_scores st b segment d))) (sym needed) ∙ wanted-test minimum clauses b segment d none in
       let listed : IsListOf (boolean w.scoring_enabled minimum (combiner_of combiner) (without_must_not clauses)) b segment es =
       elim (cases_Bool w.scoring_enabled) [
         | inl on ↦
@@ -199,7 +199,7 @@ module _ {S : Type 0} (D : Ghosts S) (gives_scores : Type 0) (w : BooleanWeight)
             (λ k d below passed. omega (
               arith,
               same on (tree_scores st b segment d),
-              combined-some combiner (tree_scores st b segment d) (omega (arith, leb-true _ _ passed)),
+              combined-some combiner (tree_scores st b segment d) (omega (arith, leb-true _ _ passed, needed)),
               ap sum (none-said mt b segment d none),
             )) made)
         | inr off ↦
@@ -209,7 +209,7 @@ module _ {S : Type 0} (D : Ghosts S) (gives_scores : Type 0) (w : BooleanWeight)
       subst (λ cs. IsListOf (boolean w.scoring_enabled minimum (combiner_of combiner) cs) b segment es) whole listed
 
   pub united : {U : Type 0} (E : Ghosts U) (combined : List ℕ → ℕ) → (IsTrue w.scoring_enabled → gives_scores) →
-      (IsTrue w.scoring_enabled → CombinesAs w.score_combiner combined) → (s : U) → ListsGathered E D 1 combined cursors s →
+      (IsTrue w.scoring_enabled → CombinesAs w.score_combiner combined) → (s : U) → ListsGathered E D m combined cursors s →
       IsScorerOf E (boolean_tree w) b segment s
   united E combined gives same s made = record {
     list = subst (λ es. IsListOf (boolean_tree w) b segment es) (sym made.entries) (list-united combined gives same);
@@ -230,3 +230,23 @@ module _ {S : Type 0} (D : Ghosts S) (gives_scores : Type 0) (w : BooleanWeight)
       ))
   refused-united (Err Memory) only past = tt
   refused-united (Err e) only past = absurd only
+
+-- ---- groups
+
+module _ {S : Type 0} {D : Ghosts S} (w : BooleanWeight) (b : ℕ) (segment : Segment) (few : length segment.documents ≤ TERMINATED)
+    (needs : NeedsSeveralTerms w) (cursors : List S) (rows : AreClauseCursors D ⊥ (clauses_from w.weights.items) b segment cursors) where
+  -- a placed scorer of what several of the cursors have is one of the Boolean, where scoring is off
+  pub grouped : ¬ IsTrue w.scoring_enabled → (combined : List ℕ → ℕ) (s : S) →
+      ListsGathered D D w.minimum_number_should_match combined cursors s → IsScorerOf D (boolean_tree w) b segment s
+  grouped off combined = united D ⊥ w b segment few needs.terms w.minimum_number_should_match (omega (arith, needs.least)) cursors rows D combined
+      (λ on. absurd (off on)) (λ on. absurd (off on))
+
+  pub grouped-placed : ArePlaced D cursors
+  grouped-placed = placed-cursors D ⊥ b segment (clauses_from w.weights.items) cursors rows
+
+-- and what refuses it
+pub grouped-refused : {S X : Type 0} {D : Ghosts S} (w : BooleanWeight) (b : ℕ) (segment : Segment) → length segment.documents ≤ TERMINATED →
+    NeedsSeveralTerms w → (cursors : List S) → ArePlaced D cursors → AreClauseCursors D ⊥ (clauses_from w.weights.items) b segment cursors →
+    (r : Result X QueryError) → IfErr r IsBoundOrMemory → IsRefusedByBounds D cursors r → IfErr r (IsRefusalOf (boolean_tree w) b)
+grouped-refused {D} w b segment few needs cursors placed rows r only refused =
+    refused-united D ⊥ w b segment few needs.terms w.minimum_number_should_match (omega (arith, needs.least)) cursors rows r only refused.0

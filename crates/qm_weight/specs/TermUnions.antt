@@ -1,4 +1,4 @@
--- Clauses that are terms, one of which is enough, and the cursors of these terms.
+-- Clauses that are terms, one of which is enough or several are needed, and the cursors of these terms.
 use Rattle.std.specs.Prelude.{◌≡◌, ℕ, ◌≤◌, All, IsTrue, List, [], ◌∷◌, Option, None, Some}
 use Rattle.std.specs.declared.boxed.Box.{Box}
 use Rattle.qm_docset.specs.Entry.{documents}
@@ -31,6 +31,11 @@ AreTermsThatShould clauses = All (λ clause. IsTermThatShould clause.0 clause.1.
 -- all clauses are such terms, and one of them is enough
 pub record IsUnionOfTerms (weight : BooleanWeight) : Type 0 where
   pub least : weight.minimum_number_should_match ≤ 1
+  pub terms : AreTermsThatShould weight.weights.items
+
+-- all clauses are such terms, and several of them are needed
+pub record NeedsSeveralTerms (weight : BooleanWeight) : Type 0 where
+  pub least : 2 ≤ weight.minimum_number_should_match
   pub terms : AreTermsThatShould weight.weights.items
 
 -- scores are combined as this combiner combines them

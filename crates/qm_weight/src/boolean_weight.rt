@@ -27,7 +27,9 @@ use qm_schema::{Occur, QueryError};
 use qm_scorer::{AnyCombiner, AnyScorer};
 use qm_term::Explanation;
 use std::alloc::Global;
-use term_union::{is_union_of_terms, run_union, unscored_union};
+use term_union::{
+    is_union_of_terms, needs_several_terms, run_union, unscored_group, unscored_union,
+};
 
 mod clauses;
 mod explained;
@@ -128,8 +130,8 @@ impl Weight for BooleanWeight {
         Ok(())
     }
 
-    /// Where the clauses are terms, one of which is enough, and scoring is off, the run goes over the union of their
-    /// postings.
+    /// Where the clauses are terms and scoring is off, the run goes over the union of their postings if one of them is
+    /// enough, and over a group of these if several are needed.
     fn for_each_no_score<F: FnMut(&[DocId])>(
         &self,
         alloc: Global,
@@ -139,6 +141,11 @@ impl Weight for BooleanWeight {
         if !self.scoring_enabled && is_union_of_terms(self) {
             let union = unscored_union(self, alloc, reader, 1)?;
             run_node_slices(self, reader, union, callback);
+            return Ok(());
+        }
+        if !self.scoring_enabled && needs_several_terms(self) {
+            let group = unscored_group(self, alloc, reader, 1)?;
+            run_node_slices(self, reader, group, callback);
             return Ok(());
         }
         let scorer: AnyScorer<EmptyScorer> = build_boolean(self, alloc, reader, 1)?;
@@ -199,6 +206,10 @@ pub(crate) fn count_boolean(
     if !weight.scoring_enabled && is_union_of_terms(weight) {
         let mut union = unscored_union(weight, alloc, reader, boost)?;
         return Ok(count_alive(&mut union, reader));
+    }
+    if !weight.scoring_enabled && needs_several_terms(weight) {
+        let mut group = unscored_group(weight, alloc, reader, boost)?;
+        return Ok(count_alive(&mut group, reader));
     }
     let mut scorer: AnyScorer<EmptyScorer> = build_boolean(weight, alloc, reader, boost)?;
     Ok(count_alive(&mut scorer, reader))

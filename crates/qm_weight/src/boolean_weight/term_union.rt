@@ -1,11 +1,13 @@
 //! Clauses that are terms, one of which is enough: a union of the terms' own cursors, with no tree of scorers between
-//! them, as tantivy has it too.
+//! them, as tantivy has it too. Where several are needed and scoring is off, a group of the terms' postings, which
+//! hold no norms.
 
 ghost use Rattle.std.specs.Prelude.{◌≡◌, ◌≤◌, IfErr, IfOk, IsTrue, OnErr, OnOk, true};
 ghost use Rattle.qm_docset.specs.Entry.{greatest_score};
 ghost use Rattle.qm_weight.specs.ClauseScorers.{IsClauseRefusal};
 ghost use Rattle.qm_weight.specs.Scorers.{IsRefusalOf, IsScorerOf};
 ghost use Rattle.qm_weight.specs.TermUnions.{AreClauseCursors, AreTermsThatShould, CombinesAs, IsCursorIf, IsTermThatShould, IsUnionOfTerms};
+ghost use Rattle.qm_weight.specs.TermUnions.{NeedsSeveralTerms};
 ghost use Rattle.qm_weight.specs.TreeRuns.{CallsTree, MayCallTree};
 ghost use Rattle.qm_weight.specs.Weights.{boolean_tree, clauses_from, term_tree};
 
@@ -17,7 +19,7 @@ use qm_combine::{BufferedUnionScorer, ConstScorer, DoNothingCombiner, ScoreCombi
 use qm_docset::{DocId, DocSet, Score};
 use qm_postings::{SegmentPostings, SegmentReader};
 use qm_schema::{IndexRecordOption, Occur, QueryError};
-use qm_scorer::AnyCombiner;
+use qm_scorer::{AnyCombiner, AnyScorer, at_least};
 use qm_term::TermScorer;
 use std::alloc::Global;
 
@@ -67,6 +69,29 @@ impl<'a> TermCursor<'a> for Unscored<'a> {
             None => Ok(None),
         }
     }
+}
+
+// The same cursor as a scorer of a tree, for whom no score is asked.
+impl<'a, T: TermCursor<'a>> TermCursor<'a> for AnyScorer<'a, T> {
+    ghost gives_scores = { ⊥ };
+
+    fn of_term(
+        weight: &TermWeight,
+        reader: &'a SegmentReader,
+        boost: u64,
+    ) -> Result<Option<AnyScorer<'a, T>>, QueryError> {
+        match T::of_term(weight, reader, boost)? {
+            Some(cursor) => Ok(Some(AnyScorer::Own(cursor))),
+            None => Ok(None),
+        }
+    }
+}
+
+// Whether the clauses are terms, several of which are needed.
+pub(super) fn needs_several_terms(weight: &BooleanWeight) -> bool
+    ensures { result ≡ true → NeedsSeveralTerms weight.now }
+{
+    weight.minimum_number_should_match >= 2 && are_terms(&weight.weights)
 }
 
 // Whether the clauses are two terms or more, one of which is enough. One clause alone needs no union.
@@ -155,6 +180,26 @@ pub(super) fn unscored_union<'a>(
     ensures refused { IfErr result (IsRefusalOf (boolean_tree weight.now) boost) }
 {
     union_of_terms(weight, alloc, reader, boost, DoNothingCombiner)
+}
+
+// The documents that several of the terms have, over postings alone, where scoring is off.
+pub(super) fn unscored_group<'a>(
+    weight: &BooleanWeight,
+    alloc: Global,
+    reader: &'a SegmentReader,
+    boost: u64,
+) -> Result<AnyScorer<'a, Unscored<'a>>, QueryError>
+    requires boost { boost ≤ greatest_score }
+    requires terms { NeedsSeveralTerms weight.now }
+    requires off { ¬ IsTrue weight.now.scoring_enabled }
+    ensures scorer { IfOk result (IsScorerOf ⟦<AnyScorer<'a, Unscored<'a>> as DocSet>⟧ (boolean_tree weight.now) boost reader.now.segment) }
+    ensures refused { IfErr result (IsRefusalOf (boolean_tree weight.now) boost) }
+{
+    // the documents have numbers: on that the contract stands
+    let _max_doc = reader.max_doc();
+    let cursors = cursors_of_terms(&weight.weights, alloc, reader, boost)?;
+    let combiner = AnyCombiner::DoNothing(DoNothingCombiner);
+    at_least(alloc, cursors, combiner, weight.minimum_number_should_match)
 }
 
 // The union of the terms' cursors at a boost, which is a scorer of the Boolean. Where scoring is on the cursors give

@@ -28,7 +28,7 @@ listed : (g : Over) (c : In_ok-terms g) → IsListOf (boolean_tree c.args.weight
 listed g c =
     let segment = c.args.reader.now.segment in
     let few : length segment.documents ≤ TERMINATED = omega (arith, c.max_doc-documents.ensures.number, c.max_doc-documents.ensures.room) in
-    list-united ghosts (Unit {0}) c.args.weight.now c.args.boost segment few c.requires.terms c.in_ok-terms.terms.items (rows g c)
+    list-united ghosts (Unit {0}) c.args.weight.now c.args.boost segment few c.requires.terms.terms 1 (omega (arith, c.requires.terms.least)) c.in_ok-terms.terms.items (rows g c)
     (g.C.ScoreCombiner.combined c.args.combiner) (λ on. tt) (λ on. c.requires.combiner)
 
 pub block_wand-requires-clause-valid : goal.block_wand-requires-clause-valid
@@ -49,7 +49,7 @@ returns-in_err-block_wand-clause-refused g c =
     let few : length segment.documents ≤ TERMINATED = omega (arith, c.max_doc-documents.ensures.number, c.max_doc-documents.ensures.room) in
     let is : c.from_residual-in_err-block_wand.result ≡ Err e = search rules in
     subst (λ r. IfErr r (IsRefusalOf (boolean_tree c.args.weight.now) c.args.boost)) (sym is)
-    (refused-united ghosts (Unit {0}) c.args.weight.now c.args.boost segment few c.requires.terms terms
+    (refused-united ghosts (Unit {0}) c.args.weight.now c.args.boost segment few c.requires.terms.terms 1 (omega (arith, c.requires.terms.least)) terms
     (rows g (goal.at.returns-in_err-block_wand-clause-refused g c).In_ok-terms) {X = Unit {0}} (Err e) c.in_err-block_wand.ensures.only (λ past.
     let bound : e ≡ ScoreBound = ap (error_of e) past in
     omega (arith, c.in_err-block_wand.ensures.refused.0 (ap Err bound), tops-members terms)))
