@@ -185,8 +185,8 @@ pub(crate) fn build_boolean<'a, S: Scorer>(
     join_clauses(weight, alloc, reader, scorers)
 }
 
-// What one clause alone matches, which decides, is counted as the clause counts it; what some of several terms have,
-// where scoring is off, by the union of their postings; and else what the scorer lists.
+// What one clause alone matches, which decides, is counted as the clause counts it; what one or more of several terms
+// have, where scoring is off, over their postings alone; and else what the scorer lists.
 #[cycle(count)]
 pub(crate) fn count_boolean(
     weight: &BooleanWeight,
