@@ -188,9 +188,11 @@ module _ {S : Type 0} (D : Ghosts S) (gives_scores : Type 0) (w : BooleanWeight)
       let whole = all_wanted clauses (only-should MustNot w.weights.items terms refl) in
       let said = subst (λ ss. AreSaid n (gives_scores × IsTrue (trees_scoring st)) (tree_scores st b segment) (lists D ss)) (sym found.2)
       (said-found D gives_scores b segment st found.0 found.1) in
-      let made = IsListing-gather n (gives_scores × IsTrue (trees_scoring st)) (tree_scores st b segment) (lists D cursors) said m combined (omega (arith, needed)) few in
+      let made = IsListing-gather n (gives_scores × IsTrue (trees_scoring st)) (tree_scores st b segment) (lists D cursors) said m combined
+      (omega (arith, needed)) few in
       let tests : (d : ℕ) → nat_le m (length (tree_scores st b segment d)) ≡ is_wanted minimum (length mt) (tree_scores mt b segment d)
-      (tree_scores st b segment d) = λ d. ap (λ k. nat_le k (length (tree_scores st b segment d))) (sym needed) ∙ wanted-test minimum clauses b segment d none in
+      (tree_scores st b segment d) = λ d. ap (λ k. nat_le k (length (tree_scores st b segment d))) (sym needed)
+      ∙ wanted-test minimum clauses b segment d none in
       let listed : IsListOf (boolean w.scoring_enabled minimum (combiner_of combiner) (without_must_not clauses)) b segment es =
       elim (cases_Bool w.scoring_enabled) [
         | inl on ↦

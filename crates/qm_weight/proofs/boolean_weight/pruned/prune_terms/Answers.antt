@@ -28,7 +28,8 @@ listed : (g : Over) (c : In_ok-terms g) → IsListOf (boolean_tree c.args.weight
 listed g c =
     let segment = c.args.reader.now.segment in
     let few : length segment.documents ≤ TERMINATED = omega (arith, c.max_doc-documents.ensures.number, c.max_doc-documents.ensures.room) in
-    list-united ghosts (Unit {0}) c.args.weight.now c.args.boost segment few c.requires.terms.terms 1 (omega (arith, c.requires.terms.least)) c.in_ok-terms.terms.items (rows g c)
+    list-united ghosts (Unit {0}) c.args.weight.now c.args.boost segment few c.requires.terms.terms 1 (omega (arith, c.requires.terms.least))
+    c.in_ok-terms.terms.items (rows g c)
     (g.C.ScoreCombiner.combined c.args.combiner) (λ on. tt) (λ on. c.requires.combiner)
 
 pub block_wand-requires-clause-valid : goal.block_wand-requires-clause-valid

@@ -33,8 +33,9 @@ returns-clause-scorer g c =
     let E = ghosts g.row.T g.row.C g.T.Scorer g.T.Scorer-dict g.T.DocSet g.T.DocSet-dict g.C.ScoreCombiner g.C.ScoreCombiner-dict
     g.C.Default g.C.Default-dict g.C.Clone g.C.Clone-dict g.T.Destruct-dict in
     if_ok (ListsGathered E g.T.DocSet 1 combined cursors) (IsScorerOf E (boolean_tree c.args.weight.now) c.args.boost segment)
-    (λ s made. united g.T.DocSet g.T.TermCursor.gives_scores c.args.weight.now c.args.boost segment few c.requires.terms.terms 1 (omega (arith, c.requires.terms.least)) cursors
-    (rows g (goal.at.returns-clause-scorer g c).In_ok-cursors) E combined c.requires.scores c.requires.combiner s made)
+    (λ s made. united g.T.DocSet g.T.TermCursor.gives_scores c.args.weight.now c.args.boost segment few c.requires.terms.terms 1
+    (omega (arith, c.requires.terms.least)) cursors (rows g (goal.at.returns-clause-scorer g c).In_ok-cursors)
+    E combined c.requires.scores c.requires.combiner s made)
     c.build.result c.build.ensures.lists
 
 pub returns-clause-refused : goal.returns-clause-refused
@@ -42,5 +43,6 @@ returns-clause-refused g c =
     let segment = c.args.reader.now.segment in
     let cursors = c.in_ok-cursors.cursors.items in
     let few : length segment.documents ≤ TERMINATED = omega (arith, c.max_doc.ensures.number, c.max_doc.ensures.room) in
-    refused-united g.T.DocSet g.T.TermCursor.gives_scores c.args.weight.now c.args.boost segment few c.requires.terms.terms 1 (omega (arith, c.requires.terms.least)) cursors
-    (rows g (goal.at.returns-clause-refused g c).In_ok-cursors) c.build.result c.build.ensures.only c.build.ensures.refused.0
+    refused-united g.T.DocSet g.T.TermCursor.gives_scores c.args.weight.now c.args.boost segment few c.requires.terms.terms 1
+    (omega (arith, c.requires.terms.least)) cursors (rows g (goal.at.returns-clause-refused g c).In_ok-cursors)
+    c.build.result c.build.ensures.only c.build.ensures.refused.0
