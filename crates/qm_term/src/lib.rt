@@ -5,11 +5,15 @@
 #![tactic(auto)]
 
 mod bm25;
+mod borrowed_scorer;
+mod borrowed_weight;
 mod explanation;
 mod term_scorer;
 mod wand;
 
 pub use bm25::Bm25Weight;
+pub use borrowed_scorer::BorrowedTermScorer;
+pub use borrowed_weight::BorrowedWeight;
 pub use explanation::Explanation;
 pub use term_scorer::TermScorer;
 pub use wand::{

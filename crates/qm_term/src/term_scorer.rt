@@ -325,7 +325,7 @@ impl<'a> Scorer for TermScorer<'a> {
 }
 
 // The length id of a field in each document of a segment: 1 where the field keeps no lengths.
-fn length_ids(segment: &SegmentReader, field: Field) -> FieldNormReader<'_>
+pub(crate) fn length_ids(segment: &SegmentReader, field: Field) -> FieldNormReader<'_>
     ensures { norm_ids result ≡ length_ids segment.now.segment field }
 {
     match segment.fieldnorms(field) {
