@@ -1,8 +1,8 @@
 -- The bounds of trees that fit, node by node: each where what stands inside fits, and only there.
 use Rattle.std.specs.Prelude.{◌≡◌, ℕ, ◌+◌, ◌*◌, ◌<◌, ◌≤◌, max, Bool, Option, None, Some, SomeIff, List, [], ◌∷◌, ◌++◌, length, take}
-use Rattle.std.proofs.Common.{zero, suc, get_or, arith, refl, ap, sym, subst, ◌∙◌, Box, Global}
+use Rattle.std.proofs.Common.{zero, suc, get_or, arith, refl, ap, sym, subst, ◌∙◌, inl, inr}
+use Rattle.std.proofs.lemmas.Bool.{cases_lt}
 use Rattle.std.proofs.Math.Nat.{mul_assoc, mul_comm}
-use Rattle.std.proofs.lemmas.List.{take_more}
 use Rattle.qm_docset.specs.Entry.{greatest_score}
 use Rattle.qm_schema.specs.declared.error.QueryError.TheVariants.{ScoreBound}
 use Rattle.qm_schema.specs.declared.occur.Occur.{Occur}
@@ -12,9 +12,8 @@ use Rattle.qm_weight.specs.Tree.{AreScores, Clauses, ClausesFit, Combiner, Fits,
 use Rattle.qm_weight.specs.Tree.{leaf_boost, leaf_bound, no_clause, none, phrase, phrase_prefix}
 use Rattle.qm_weight.specs.Tree.{term}
 use Rattle.qm_weight.specs.ClauseScorers.{bound_added}
-use Rattle.qm_weight.specs.Weights.{clauses_from, tree_of}
-use Rattle.qm_weight.specs.declared.any_weight.AnyWeight.{AnyWeight}
-use Rattle.qm_weight.proofs.ClauseSteps.{refusal-clause}
+use Rattle.qm_weight.specs.Weights.{clauses_by}
+use Rattle.qm_weight.proofs.ClauseSteps.{more_clauses, refusal-clause}
 
 -- the bound of a tree that fits is a score
 pub fits-bound : (tree : Tree) (b : ℕ) → Fits tree b → bound tree b ≤ greatest_score
@@ -26,6 +25,10 @@ fits-bound (phrase_prefix full prefix most weight) b fits = fits.bound_fits
 fits-bound (boolean scoring minimum combiner clauses) b fits = fits.0.bound_fits
 fits-bound (boost k inside) b fits = fits.0.bound_fits
 fits-bound (constant s inside) b fits = fits.0.bound_fits
+
+-- what is no score is past the greatest
+pub past_score : {n : ℕ} → ¬ (n ≤ greatest_score) → greatest_score < n
+past_score {n = n} past = elim (cases_lt greatest_score n) [ inl more ↦ more | inr within ↦ absurd (past within) ]
 
 -- what is said of a bound, and of the tree that it is of
 abbrev pub IsBoundOf : Tree → ℕ → Option ℕ → Type 0
@@ -48,80 +51,71 @@ pub record AreBound (clauses : Clauses) (b sum : ℕ) : Type 0 where
   pub is : sum ≡ clause_bounds clauses b
   pub small : sum ≤ greatest_score
 
-pub added-small : (occur : Occur) (n : ℕ) → n ≤ greatest_score → bound_added occur n ≤ greatest_score
-added-small Should n small = small
-added-small Must n small = small
-added-small MustNot n small = omega arith
-
-abbrev Clause : Type 0
-Clause = Occur × Box AnyWeight Global
-
-fit-push : (ws : List Clause) (w : Clause) (b : ℕ) → ClausesFit (clauses_from ws) b → Fits (tree_of w.1.value) b → ClausesFit (clauses_from (ws ++ w ∷ [])) b
-fit-push [] w b fit one = (one, tt)
-fit-push (v ∷ ws) w b fit one = (fit.0, fit-push ws w b fit.1 one)
-
 bounds-one : (occur : Occur) (tree : Tree) (clauses : Clauses) (b : ℕ) →
     clause_bounds (clause occur tree clauses) b ≡ bound_added occur (bound tree b) + clause_bounds clauses b
 bounds-one Should tree clauses b = refl
 bounds-one Must tree clauses b = refl
 bounds-one MustNot tree clauses b = omega arith
 
-bounds-push : (ws : List Clause) (w : Clause) (b : ℕ) →
-    clause_bounds (clauses_from (ws ++ w ∷ [])) b ≡ clause_bounds (clauses_from ws) b + bound_added w.0 (bound (tree_of w.1.value) b)
-bounds-push [] w b = omega (arith, bounds-one w.0 (tree_of w.1.value) no_clause b)
-bounds-push (v ∷ ws) w b = omega (
-  arith,
-  bounds-one v.0 (tree_of v.1.value) (clauses_from (ws ++ w ∷ [])) b,
-  bounds-one v.0 (tree_of v.1.value) (clauses_from ws) b,
-  bounds-push ws w b,
-)
+-- of whatever occurs somehow and stands for a tree
+module _ {X : Type 0} (occur : X → Occur) (tree : X → Tree) where
+  fit-push : (xs : List X) (x : X) (b : ℕ) → ClausesFit (clauses_by occur tree xs) b → Fits (tree x) b → ClausesFit (clauses_by occur tree (xs ++ x ∷ [])) b
+  fit-push [] x b fit one = (one, tt)
+  fit-push (y ∷ xs) x b fit one = (fit.0, fit-push xs x b fit.1 one)
 
--- the first clauses have no more than all of them
-bounds-take : (n : ℕ) (ws : List Clause) (b : ℕ) → clause_bounds (clauses_from (take n ws)) b ≤ clause_bounds (clauses_from ws) b
-bounds-take zero ws b = omega arith
-bounds-take (suc n) [] b = omega arith
-bounds-take (suc n) (v ∷ ws) b = omega (
-  arith,
-  bounds-one v.0 (tree_of v.1.value) (clauses_from (take n ws)) b,
-  bounds-one v.0 (tree_of v.1.value) (clauses_from ws) b,
-  bounds-take n ws b,
-)
+  bounds-push : (xs : List X) (x : X) (b : ℕ) →
+      clause_bounds (clauses_by occur tree (xs ++ x ∷ [])) b ≡ clause_bounds (clauses_by occur tree xs) b + bound_added (occur x) (bound (tree x) b)
+  bounds-push [] x b = omega (arith, bounds-one (occur x) (tree x) no_clause b)
+  bounds-push (y ∷ xs) x b = omega (
+    arith,
+    bounds-one (occur y) (tree y) (clauses_by occur tree (xs ++ x ∷ [])) b,
+    bounds-one (occur y) (tree y) (clauses_by occur tree xs) b,
+    bounds-push xs x b,
+  )
 
--- one clause more
-more_clauses : (ws : List Clause) (i : ℕ) (w : Clause) → w ≡ get_or ws i w → i < length ws → take (i + 1) ws ≡ take i ws ++ w ∷ []
-more_clauses ws i w is within = take_more ws i w within ∙ ap (λ v. take i ws ++ v ∷ []) (sym is)
+  -- the first clauses have no more than all of them
+  bounds-take : (n : ℕ) (xs : List X) (b : ℕ) → clause_bounds (clauses_by occur tree (take n xs)) b ≤ clause_bounds (clauses_by occur tree xs) b
+  bounds-take zero xs b = omega arith
+  bounds-take (suc n) [] b = omega arith
+  bounds-take (suc n) (y ∷ xs) b = omega (
+    arith,
+    bounds-one (occur y) (tree y) (clauses_by occur tree (take n xs)) b,
+    bounds-one (occur y) (tree y) (clauses_by occur tree xs) b,
+    bounds-take n xs b,
+  )
 
-pub bound-step : (ws : List Clause) (i : ℕ) (w : Clause) (b sum n : ℕ) → w ≡ get_or ws i w → i < length ws →
-    AreBound (clauses_from (take i ws)) b sum → Fits (tree_of w.1.value) b → n ≡ bound_added w.0 (bound (tree_of w.1.value) b) →
-    sum + n ≤ greatest_score → AreBound (clauses_from (take (i + 1) ws)) b (sum + n)
-bound-step ws i w b sum n is within far one more small =
-    let next = more_clauses ws i w is within in
-    record {
-      fit = subst (λ vs. ClausesFit (clauses_from vs) b) (sym next) (fit-push (take i ws) w b far.fit one);
-      is = omega (arith, far.is, more, bounds-push (take i ws) w b, ap (λ vs. clause_bounds (clauses_from vs) b) next);
-      small = small;
-    }
+  -- one clause more
+  pub bound-step : (xs : List X) (i : ℕ) (x : X) (b sum n : ℕ) → x ≡ get_or xs i x → i < length xs →
+      AreBound (clauses_by occur tree (take i xs)) b sum → Fits (tree x) b → n ≡ bound_added (occur x) (bound (tree x) b) →
+      sum + n ≤ greatest_score → AreBound (clauses_by occur tree (take (i + 1) xs)) b (sum + n)
+  bound-step xs i x b sum n is within far one more small =
+      let next = more_clauses xs i x is within in
+      record {
+        fit = subst (λ ys. ClausesFit (clauses_by occur tree ys) b) (sym next) (fit-push (take i xs) x b far.fit one);
+        is = omega (arith, far.is, more, bounds-push (take i xs) x b, ap (λ ys. clause_bounds (clauses_by occur tree ys) b) next);
+        small = small;
+      }
 
--- a clause that doesn't fit leaves the Boolean unfit
-pub unfit-clause : (scoring : Bool) (minimum : ℕ) (combiner : Combiner) (ws : List Clause) (i : ℕ) (w : Clause) (b : ℕ) →
-    w ≡ get_or ws i w → i < length ws → ¬ Fits (tree_of w.1.value) b → ¬ Fits (boolean scoring minimum combiner (clauses_from ws)) b
-unfit-clause scoring minimum combiner ws i w b is within unfit = λ fits. refusal-clause ws i w b ScoreBound is within unfit fits.1
+  -- a clause that doesn't fit leaves the Boolean unfit
+  pub unfit-clause : (scoring : Bool) (minimum : ℕ) (combiner : Combiner) (xs : List X) (i : ℕ) (x : X) (b : ℕ) →
+      x ≡ get_or xs i x → i < length xs → ¬ Fits (tree x) b → ¬ Fits (boolean scoring minimum combiner (clauses_by occur tree xs)) b
+  unfit-clause scoring minimum combiner xs i x b is within unfit = λ fits. refusal-clause occur tree xs i x b ScoreBound is within unfit fits.1
 
--- and so do clauses whose bounds together are no score
-pub unfit-sum : (scoring : Bool) (minimum : ℕ) (combiner : Combiner) (ws : List Clause) (i : ℕ) (w : Clause) (b sum n : ℕ) →
-    w ≡ get_or ws i w → i < length ws → AreBound (clauses_from (take i ws)) b sum → n ≡ bound_added w.0 (bound (tree_of w.1.value) b) →
-    greatest_score < sum + n → ¬ Fits (boolean scoring minimum combiner (clauses_from ws)) b
-unfit-sum scoring minimum combiner ws i w b sum n is within far more past = λ fits.
-    absurd (omega (
-      arith,
-      past,
-      far.is,
-      more,
-      bounds-push (take i ws) w b,
-      ap (λ vs. clause_bounds (clauses_from vs) b) (more_clauses ws i w is within),
-      bounds-take (i + 1) ws b,
-      fits.0.bound_fits,
-    ))
+  -- and so do clauses whose bounds together are no score
+  pub unfit-sum : (scoring : Bool) (minimum : ℕ) (combiner : Combiner) (xs : List X) (i : ℕ) (x : X) (b sum n : ℕ) →
+      x ≡ get_or xs i x → i < length xs → AreBound (clauses_by occur tree (take i xs)) b sum → n ≡ bound_added (occur x) (bound (tree x) b) →
+      greatest_score < sum + n → ¬ Fits (boolean scoring minimum combiner (clauses_by occur tree xs)) b
+  unfit-sum scoring minimum combiner xs i x b sum n is within far more past = λ fits.
+      absurd (omega (
+        arith,
+        past,
+        far.is,
+        more,
+        bounds-push (take i xs) x b,
+        ap (λ ys. clause_bounds (clauses_by occur tree ys) b) (more_clauses xs i x is within),
+        bounds-take (i + 1) xs b,
+        fits.0.bound_fits,
+      ))
 
 -- all clauses fit, and their bounds together
 pub fits-boolean : (scoring : Bool) (minimum : ℕ) (combiner : Combiner) (clauses : Clauses) (b sum : ℕ) →

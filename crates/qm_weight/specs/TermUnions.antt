@@ -1,21 +1,29 @@
--- Clauses that are terms, one of which is enough or several are needed, and the cursors of these terms.
-use Rattle.std.specs.Prelude.{◌≡◌, ℕ, ◌≤◌, All, IsTrue, List, [], ◌∷◌, Option, None, Some}
+-- Clauses that are terms that should match, one of which is enough, and the cursors of these terms.
+use Rattle.std.specs.Prelude.{◌≡◌, ℕ, ◌≤◌, Bool, All, List, [], ◌∷◌, Option, None, Some, if◌then◌else◌}
 use Rattle.std.specs.declared.boxed.Box.{Box}
-use Rattle.qm_docset.specs.Entry.{documents}
-use Rattle.qm_docset.specs.Lists.{IsPlaced}
+use Rattle.qm_docset.specs.Entry.{greatest_score}
+use Rattle.qm_docset.specs.Gather.{gather}
+use Rattle.qm_docset.specs.Lists.{ArePlaced, bounds, lists}
 use Rattle.qm_docset.specs.declared.docset.DocSet.{Ghosts}
+use Rattle.qm_combine.specs.Union.{total_top}
 use Rattle.qm_postings.specs.Segment.{Segment}
 use Rattle.qm_schema.specs.declared.occur.Occur.{Occur}
 use Rattle.qm_schema.specs.declared.occur.Occur.TheVariants.{Should}
 use Rattle.qm_scorer.specs.AnyCombiner.{any_combined}
-use Rattle.qm_scorer.specs.Bare.{bare}
 use Rattle.qm_scorer.specs.declared.any_combiner.AnyCombiner.{AnyCombiner}
+use Rattle.qm_term.specs.Bm25.{Weighing}
 use Rattle.qm_weight.specs.ClauseScorers.{clause_trees}
-use Rattle.qm_weight.specs.Tree.{Clauses, Tree, bound, is_scoring, list, matching}
+use Rattle.qm_weight.specs.LeafScorers.{IsLeafOf}
+use Rattle.qm_weight.specs.Scorers.{IsListOf}
+use Rattle.qm_weight.specs.Tree.{Clauses, Fits, Tree}
+use Rattle.qm_weight.specs.Weights.{clause_occur, clause_tree, term_clauses}
 use Rattle.qm_weight.specs.declared.any_weight.AnyWeight.{AnyWeight, Term}
 use Rattle.qm_weight.specs.declared.boolean_weight.BooleanWeight.{BooleanWeight}
+use Rattle.qm_weight.specs.declared.terms_weight.TermClause.{TermClause}
+use Rattle.qm_weight.specs.declared.terms_weight.TermsWeight.{TermsWeight}
+use Rattle.qm_weight.specs.declared.terms_weight.clause_in.ClauseIn.{ClauseIn}
 
--- ---- the clauses
+-- ---- the clauses of a Boolean
 
 abbrev pub IsTermWeight : AnyWeight → Type 0
 IsTermWeight (Term w) = Unit {0}
@@ -33,10 +41,35 @@ pub record IsUnionOfTerms (weight : BooleanWeight) : Type 0 where
   pub least : weight.minimum_number_should_match ≤ 1
   pub terms : AreTermsThatShould weight.weights.items
 
--- all clauses are such terms, and several of them are needed
-pub record NeedsSeveralTerms (weight : BooleanWeight) : Type 0 where
-  pub least : 2 ≤ weight.minimum_number_should_match
-  pub terms : AreTermsThatShould weight.weights.items
+-- ---- the clauses of a weight of terms
+
+abbrev pub clauses_in : TermsWeight → Clauses
+clauses_in w = term_clauses w.rule.scoring_enabled w.norms w.clauses.items
+
+-- a clause by the norms of its weight
+abbrev pub clause_of : TermsWeight → TermClause → Tree
+clause_of w c = clause_tree w.rule.scoring_enabled w.norms c
+
+abbrev pub tree_in : ClauseIn → Tree
+tree_in c = clause_of c.weight.now c.clause.now
+
+abbrev pub occur_in : ClauseIn → Occur
+occur_in c = clause_occur c.clause.now
+
+abbrev pub is_scored_in : ClauseIn → Bool
+is_scored_in c = c.weight.now.rule.scoring_enabled
+
+-- what its term weighs at a boost, which is 0 where scoring is off
+abbrev pub clause_weighing : ClauseIn → ℕ → Weighing
+clause_weighing c b = record { weight = c.clause.now.weight; norms = c.weight.now.norms; boost = if is_scored_in c then b else 0 }
+
+abbrev pub AreAllShould : List TermClause → Type 0
+AreAllShould clauses = All (λ c. clause_occur c ≡ Should) clauses
+
+-- all terms should match, and one of them is enough
+pub record IsTermUnion (weight : TermsWeight) : Type 0 where
+  pub least : weight.rule.minimum_number_should_match ≤ 1
+  pub should : AreAllShould weight.clauses.items
 
 -- scores are combined as this combiner combines them
 abbrev pub CombinesAs : AnyCombiner → (List ℕ → ℕ) → Type 0
@@ -44,26 +77,12 @@ CombinesAs combiner combined = (scores : List ℕ) → combined scores ≡ any_c
 
 -- ---- the cursors
 
--- a placed cursor of the documents that a tree matches, with their scores where it gives any, within the tree's bound;
--- its entries may have frequencies too
-pub record IsCursorOf {S : Type 0} (D : Ghosts S) (gives_scores : Type 0) (tree : Tree) (b : ℕ) (segment : Segment) (s : S) : Type 0 where
-  pub documents : documents (bare (D.entries s)) ≡ matching tree segment
-  pub scores : gives_scores → IsTrue (is_scoring tree) → bare (D.entries s) ≡ list tree b segment
-  pub top : (D.limits s).top ≤ bound tree b
-  pub placed : IsPlaced D s
-
--- that of a tree, and none only where the tree matches nothing
-abbrev pub IsCursorIf : {S : Type 0} → Ghosts S → Type 0 → Tree → ℕ → Segment → Option S → Type 0
-IsCursorIf D gives_scores tree b segment None = matching tree segment ≡ []
-IsCursorIf D gives_scores tree b segment (Some s) = IsCursorOf D gives_scores tree b segment s
-
 -- those of several trees, in order
-abbrev pub AreFound : {S : Type 0} → Ghosts S → Type 0 → ℕ → Segment → List Tree → List (Option S) → Type 0
-AreFound D gives_scores b segment [] [] = Unit {0}
-AreFound D gives_scores b segment [] (s ∷ found) = ⊥
-AreFound D gives_scores b segment (tree ∷ trees) [] = ⊥
-AreFound D gives_scores b segment (tree ∷ trees) (s ∷ found) =
-    IsCursorIf D gives_scores tree b segment s × AreFound D gives_scores b segment trees found
+abbrev pub AreFound : {S : Type 0} → Ghosts S → ℕ → Segment → List Tree → List (Option S) → Type 0
+AreFound D b segment [] [] = Unit {0}
+AreFound D b segment [] (s ∷ found) = ⊥
+AreFound D b segment (tree ∷ trees) [] = ⊥
+AreFound D b segment (tree ∷ trees) (s ∷ found) = IsLeafOf D tree b segment s × AreFound D b segment trees found
 
 -- those that are there
 abbrev pub there : {S : Type 0} → List (Option S) → List S
@@ -72,6 +91,12 @@ there (None ∷ found) = there found
 there (Some s ∷ found) = s ∷ there found
 
 -- the cursors of those Should clauses whose terms are there, in order
-abbrev pub AreClauseCursors : {S : Type 0} → Ghosts S → Type 0 → Clauses → ℕ → Segment → List S → Type 0
-AreClauseCursors {S} D gives_scores clauses b segment cursors =
-    (found : List (Option S)) × AreFound D gives_scores b segment (clause_trees clauses Should) found × (cursors ≡ there found)
+abbrev pub AreClauseCursors : {S : Type 0} → Ghosts S → Clauses → ℕ → Segment → List S → Type 0
+AreClauseCursors {S} D clauses b segment cursors =
+    (found : List (Option S)) × AreFound D b segment (clause_trees clauses Should) found × (cursors ≡ there found)
+
+-- placed cursors that together list what the tree does, and whose bounds together are a score where the tree fits
+pub record ListTogether {S : Type 0} (D : Ghosts S) (combined : List ℕ → ℕ) (tree : Tree) (b : ℕ) (segment : Segment) (cursors : List S) : Type 0 where
+  pub placed : ArePlaced D cursors
+  pub list : IsListOf tree b segment (gather 1 combined (lists D cursors))
+  pub within : Fits tree b → total_top (bounds D cursors) ≤ greatest_score

@@ -9,7 +9,7 @@ ghost use Rattle.qm_weight.specs.Explanations.{IsExplained, IsExplainRefusal};
 ghost use Rattle.qm_weight.specs.Scorers.{IsRefusalOf, IsScorerOf};
 ghost use Rattle.qm_weight.specs.Tree.{boolean};
 ghost use Rattle.qm_weight.specs.TreeRuns.{MayPruneTreeAt, PrunesTreeAt};
-ghost use Rattle.qm_weight.specs.Weights.{boolean_tree, clauses_from, combiner_of};
+ghost use Rattle.qm_weight.specs.Weights.{boolean_tree, clauses_from, combiner_of, rule_of};
 
 use crate::any_weight::{AnyWeight, count_any, prune_any};
 use crate::bounds::bound_of_boolean;
@@ -18,7 +18,7 @@ use crate::shared_runs::{StandsFor, check_document, run_node, run_node_slices, s
 use crate::weight::Weight;
 use clauses::build_clauses;
 use explained::explain_clauses;
-use joined::{join_clauses, keeps_one_score};
+use joined::keeps_one_score;
 use pruned::prune_clauses;
 use qm_combine::{EmptyScorer, Scorer};
 use qm_docset::{DocId, DocSet, Score, TERMINATED};
@@ -27,15 +27,16 @@ use qm_schema::{Occur, QueryError};
 use qm_scorer::{AnyCombiner, AnyScorer};
 use qm_term::Explanation;
 use std::alloc::Global;
-use term_union::{
-    is_union_of_terms, needs_several_terms, run_union, unscored_group, unscored_union,
-};
 
 mod clauses;
 mod explained;
 mod joined;
 mod pruned;
-mod term_union;
+mod rule;
+
+pub(crate) use clauses::{ClauseScorers, add_scorer};
+pub(crate) use joined::join_clauses;
+pub(crate) use rule::BooleanRule;
 
 /// Matches the documents that every Must clause matches, no MustNot clause, and at least so many of
 /// the Should clauses, each counted once; and some Must or Should clause matches it.
@@ -79,6 +80,17 @@ impl BooleanWeight {
             score_combiner,
         }
     }
+
+    // How its clauses are put together.
+    fn rule(&self) -> BooleanRule
+        ensures { result ≡ rule_of self.now }
+    {
+        BooleanRule {
+            minimum_number_should_match: self.minimum_number_should_match,
+            scoring_enabled: self.scoring_enabled,
+            score_combiner: self.score_combiner,
+        }
+    }
 }
 
 impl StandsFor for BooleanWeight {
@@ -115,39 +127,23 @@ impl Weight for BooleanWeight {
         explain_boolean(self, alloc, reader, doc, 1)
     }
 
-    /// Where the clauses are terms, one of which is enough, the run goes over the union of their own scorers.
     fn for_each<F: FnMut(DocId, Score)>(
         &self,
         alloc: Global,
         reader: &SegmentReader,
         callback: &mut F,
     ) -> Result<(), QueryError> {
-        if is_union_of_terms(self) {
-            return run_union(self, alloc, reader, callback);
-        }
         let scorer: AnyScorer<EmptyScorer> = build_boolean(self, alloc, reader, 1)?;
         run_node(self, reader, scorer, callback);
         Ok(())
     }
 
-    /// Where the clauses are terms and scoring is off, the run goes over the union of their postings if one of them is
-    /// enough, and over a group of these if several are needed.
     fn for_each_no_score<F: FnMut(&[DocId])>(
         &self,
         alloc: Global,
         reader: &SegmentReader,
         callback: &mut F,
     ) -> Result<(), QueryError> {
-        if !self.scoring_enabled && is_union_of_terms(self) {
-            let union = unscored_union(self, alloc, reader, 1)?;
-            run_node_slices(self, reader, union, callback);
-            return Ok(());
-        }
-        if !self.scoring_enabled && needs_several_terms(self) {
-            let group = unscored_group(self, alloc, reader, 1)?;
-            run_node_slices(self, reader, group, callback);
-            return Ok(());
-        }
         let scorer: AnyScorer<EmptyScorer> = build_boolean(self, alloc, reader, 1)?;
         run_node_slices(self, reader, scorer, callback);
         Ok(())
@@ -182,11 +178,10 @@ pub(crate) fn build_boolean<'a, S: Scorer>(
     ensures refused { IfErr result (IsRefusalOf (boolean_tree weight.now) boost) }
 {
     let scorers = build_clauses(&weight.weights, alloc, reader, boost)?;
-    join_clauses(weight, alloc, reader, scorers)
+    join_clauses(weight.rule(), alloc, reader, scorers)
 }
 
-// What one clause alone matches, which decides, is counted as the clause counts it; what one or more of several terms
-// have, where scoring is off, over their postings alone; and else what the scorer lists.
+// What one clause alone matches, which decides, is counted as the clause counts it, and else what the scorer lists.
 #[cycle(count)]
 pub(crate) fn count_boolean(
     weight: &BooleanWeight,
@@ -202,14 +197,6 @@ pub(crate) fn count_boolean(
         && decides(*occur, weight.minimum_number_should_match)
     {
         return count_any(inside, alloc, reader, boost);
-    }
-    if !weight.scoring_enabled && is_union_of_terms(weight) {
-        let mut union = unscored_union(weight, alloc, reader, boost)?;
-        return Ok(count_alive(&mut union, reader));
-    }
-    if !weight.scoring_enabled && needs_several_terms(weight) {
-        let mut group = unscored_group(weight, alloc, reader, boost)?;
-        return Ok(count_alive(&mut group, reader));
     }
     let mut scorer: AnyScorer<EmptyScorer> = build_boolean(weight, alloc, reader, boost)?;
     Ok(count_alive(&mut scorer, reader))

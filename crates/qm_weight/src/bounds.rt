@@ -2,12 +2,13 @@
 //! to them, are scores. Each function answers the bound where the tree fits at a boost, and none where it
 //! doesn't; it looks at no segment, and takes no memory.
 
-ghost use Rattle.std.specs.Prelude.{◌≡◌, ◌≤◌, Some, SomeIff};
+ghost use Rattle.std.specs.Prelude.{◌≡◌, ◌+◌, ◌≤◌, Some, SomeIff};
 ghost use Rattle.qm_docset.specs.Entry.{greatest_score};
 ghost use Rattle.qm_term.specs.Bm25Weight.{weighing};
 ghost use Rattle.qm_weight.specs.ClauseScorers.{bound_added};
+ghost use Rattle.qm_weight.specs.TermUnions.{clause_of};
 ghost use Rattle.qm_weight.specs.Tree.{Fits, IsLeafBound, bound};
-ghost use Rattle.qm_weight.specs.Weights.{boolean_tree, boost_tree, const_tree, phrase_prefix_tree, phrase_tree, term_tree, tree_of, weighing_of};
+ghost use Rattle.qm_weight.specs.Weights.{boolean_tree, boost_tree, const_tree, phrase_prefix_tree, phrase_tree, term_tree, terms_tree, tree_of, weighing_of};
 
 use crate::any_weight::AnyWeight;
 use crate::boolean_weight::BooleanWeight;
@@ -17,6 +18,7 @@ use crate::phrase_prefix_weight::PhrasePrefixWeight;
 use crate::phrase_weight::PhraseWeight;
 use crate::products::score_product;
 use crate::term_weight::TermWeight;
+use crate::terms_weight::{TermClause, TermsWeight};
 use qm_docset::Score;
 use qm_schema::Occur;
 use qm_term::Bm25Weight;
@@ -31,6 +33,7 @@ pub(crate) fn bound_of_any(weight: &AnyWeight, boost: u64) -> Option<u64>
     match weight {
         AnyWeight::All(_) | AnyWeight::Empty(_) | AnyWeight::Prefix(_) => Some(boost.max(1)),
         AnyWeight::Term(leaf) => bound_of_term(leaf, boost),
+        AnyWeight::Terms(leaf) => bound_of_terms(leaf, boost),
         AnyWeight::Phrase(leaf) => bound_of_phrase(leaf, boost),
         AnyWeight::PhrasePrefix(leaf) => bound_of_phrase_prefix(leaf, boost),
         AnyWeight::Boost(node) => bound_of_boost(node, boost),
@@ -70,12 +73,22 @@ pub(crate) fn bound_of_boolean(weight: &BooleanWeight, boost: u64) -> Option<u64
     // the clauses so far fit, and those of them that may match have this bound together
     for (occur, inside) in weight.weights.as_slice() {
         let bound = bound_of_any(inside, boost)?;
-        sum += added(*occur, bound);
-        if sum > Score::MAX as u64 {
-            return None;
-        }
+        sum = sum_with(sum, *occur, bound)?;
     }
     Some(sum.max(1))
+}
+
+// The bounds of some clauses together, with that of one more, which occurs so; none where that is no score.
+fn sum_with(sum: u64, occur: Occur, bound: u64) -> Option<u64>
+    requires sum { sum ≤ greatest_score }
+    requires bound { bound ≤ greatest_score }
+    ensures { SomeIff result (sum + bound_added occur bound ≤ greatest_score) (sum + bound_added occur bound) }
+{
+    let more = sum + added(occur, bound);
+    if more > Score::MAX as u64 {
+        return None;
+    }
+    Some(more)
 }
 
 // What a clause adds, which occurs so and has this bound.
@@ -142,4 +155,33 @@ fn bound_of_weighed(weight: &Bm25Weight, boost: u64) -> Option<u64>
     score_product(boost, weight.boost() as u64)?;
     let greatest = score_product(boost, weight.max_score() as u64)?;
     Some(greatest.max(1))
+}
+
+// ---- several terms
+
+// Those of the Must and Should terms together; a MustNot term has to fit too.
+pub(crate) fn bound_of_terms(weight: &TermsWeight, boost: u64) -> Option<u64>
+    requires boost { boost ≤ greatest_score }
+    ensures { SomeIff result (Fits (terms_tree weight.now) boost) (bound (terms_tree weight.now) boost) }
+{
+    let mut sum: u64 = 0;
+    // the clauses so far fit, and those of them that may match have this bound together
+    for clause in &weight.clauses {
+        let bound = bound_of_clause(weight, clause, boost)?;
+        sum = sum_with(sum, clause.occur, bound)?;
+    }
+    Some(sum.max(1))
+}
+
+// That of one of the clauses.
+fn bound_of_clause(weight: &TermsWeight, clause: &TermClause, boost: u64) -> Option<u64>
+    requires boost { boost ≤ greatest_score }
+    ensures { SomeIff result (Fits (clause_of weight.now clause.now) boost) (bound (clause_of weight.now clause.now) boost) }
+{
+    if weight.rule.scoring_enabled {
+        let greatest = score_product(boost, clause.weight)?;
+        Some(greatest.max(1))
+    } else {
+        Some(boost.max(1))
+    }
 }

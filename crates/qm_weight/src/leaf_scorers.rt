@@ -13,7 +13,7 @@ use qm_phrase::{PhrasePrefixScorer, PhraseScorer};
 use qm_postings::{SegmentPostings, SegmentReader};
 use qm_schema::QueryError;
 use qm_scorer::AnyScorer;
-use qm_term::TermScorer;
+use qm_term::{BorrowedTermScorer, TermScorer};
 use std::alloc::Global;
 
 /// A scorer that a leaf makes over a segment, for which a tree of scorers has a variant.
@@ -28,6 +28,26 @@ pub(crate) trait IntoTree<T: Scorer>: Scorer {
 impl<'a, S: Scorer> IntoTree<AnyScorer<'a, S>> for TermScorer<'a> {
     fn into_tree(self, alloc: Global) -> Result<AnyScorer<'a, S>, QueryError> {
         Ok(AnyScorer::Term(Box::new(alloc, self)?))
+    }
+}
+
+// The scorers and postings of terms that are a tree's own are leaves as they are, with no box around them.
+impl<'a> IntoTree<AnyScorer<'a, BorrowedTermScorer<'a>>> for BorrowedTermScorer<'a> {
+    fn into_tree(
+        self,
+        _alloc: Global,
+    ) -> Result<AnyScorer<'a, BorrowedTermScorer<'a>>, QueryError> {
+        Ok(AnyScorer::Own(self))
+    }
+}
+
+impl<'a> IntoTree<AnyScorer<'a, ConstScorer<SegmentPostings<'a>>>>
+    for ConstScorer<SegmentPostings<'a>> {
+    fn into_tree(
+        self,
+        _alloc: Global,
+    ) -> Result<AnyScorer<'a, ConstScorer<SegmentPostings<'a>>>, QueryError> {
+        Ok(AnyScorer::Own(self))
     }
 }
 

@@ -1,14 +1,21 @@
 //! Pruned runs over a scorer of their own, which pass over what they can.
 
+ghost use Rattle.std.specs.Prelude.{◌≡◌, IfErr, OnErr, OnOk};
 ghost use Rattle.qm_docset.specs.Lists.{IsPlaced};
 ghost use Rattle.qm_term.specs.Runs.{InRange, MayPrune};
-ghost use Rattle.qm_weight.specs.TreeRuns.{Prunes};
+ghost use Rattle.qm_weight.specs.Scorers.{IsRefusalOf};
+ghost use Rattle.qm_weight.specs.TermUnions.{ListTogether};
+ghost use Rattle.qm_weight.specs.TreeRuns.{MayPruneTreeAt, Prunes, PrunesTreeAt};
 
+use crate::shared_runs::StandsFor;
 use crate::weight::turn;
-use qm_combine::Scorer;
+use qm_combine::{BoundedBySum, Scorer};
 use qm_docset::{DocId, DocSet, Score, TERMINATED};
+use qm_postings::SegmentReader;
+use qm_schema::QueryError;
 use qm_scorer::AnyScorer;
-use qm_term::block_wand_single_scorer;
+use qm_term::{TermScorer, block_wand, block_wand_single_scorer};
+use std::alloc::Global;
 
 // The run over what the scorer has left: where it is that of a term, by the bounds of its blocks, and else up
 // to its own bound.
@@ -47,4 +54,32 @@ pub(crate) fn prune_to_bound<S: Scorer, F: FnMut(DocId, Score) -> Score>(
         threshold = turn(threshold, doc, scorer.score(), callback);
         doc = scorer.advance();
     }
+}
+
+/// The most clauses of one run that passes over blocks. Each of its turns goes through the heads of all its
+/// terms, and the more there are the less it passes over: of documents in mixed order the plain loop over the
+/// union is as fast for 10 terms, twice as fast for 32, and for thousands the run's time grows with their
+/// square.
+pub(crate) const MOST_TERMS_BY_BLOCKS: usize = 16;
+
+// The run over the scorers of terms, which passes over blocks. What they list together is the list of the weight's
+// tree at the boost.
+pub(crate) fn prune_by_blocks<'a, W: StandsFor, C: BoundedBySum, F: FnMut(DocId, Score) -> Score>(
+    weight: &W,
+    alloc: Global,
+    reader: &SegmentReader,
+    terms: Vec<TermScorer<'a>>,
+    boost: u64,
+    combiner: C,
+    threshold: Score,
+    callback: &mut F,
+) -> Result<(), QueryError>
+    requires terms { ListTogether ⟦<TermScorer<'a> as DocSet>⟧ (C.combined combiner) (W.tree weight.now) boost reader.now.segment terms.items }
+    requires allowed { MayPruneTreeAt F.step F.pre (W.tree weight.now) boost reader.now.segment threshold callback.old }
+    ensures calls { OnOk result (PrunesTreeAt F.step (W.tree weight.now) boost reader.now.segment threshold callback.old callback.new) }
+    ensures unchanged { OnErr result (callback.new ≡ callback.old) }
+    ensures refused { IfErr result (IsRefusalOf (W.tree weight.now) boost) }
+{
+    block_wand(alloc, terms, combiner, threshold, callback)?;
+    Ok(())
 }

@@ -15,11 +15,9 @@ ghost use Rattle.qm_weight.specs.Weights.{term_tree, term_weighing, weight_term,
 
 use crate::bounds::bound_of_term;
 use crate::counts::count_alive;
-use crate::explanations::add_term;
+use crate::explanations::explain_term;
 use crate::leaf_scorers::scorer_of_leaf;
-use crate::shared_runs::{
-    StandsFor, check_document, find_in_leaf, prune_leaf, run_leaf, run_leaf_slices,
-};
+use crate::shared_runs::{StandsFor, check_document, prune_leaf, run_leaf, run_leaf_slices};
 use crate::weight::Weight;
 use qm_combine::Scorer;
 use qm_docset::{DocId, DocSet, Score, TERMINATED};
@@ -111,11 +109,7 @@ impl TermWeight {
         ensures refused { IfErr result (IsExplainRefusal (term_tree self.now) boost reader.now.segment doc) }
     {
         let leaf = self.term_scorer(reader, boost)?;
-        let (score, scorer) = find_in_leaf(self, reader, leaf, doc, boost)?;
-        let mut explanation = Explanation::new(alloc, "a term, by its own weight", score)?;
-        explanation.add_detail(scorer.explain(alloc)?)?;
-        add_term(&mut explanation, &self.term)?;
-        Ok(explanation)
+        explain_term(self, alloc, reader, leaf, &self.term, doc, boost)
     }
 }
 

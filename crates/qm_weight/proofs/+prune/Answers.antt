@@ -4,7 +4,7 @@ use Rattle.std.proofs.lemmas.Int.{to_z-of_z}
 use Rattle.qm_term.specs.Runs.{InRange}
 use Rattle.qm_weight.specs.ClauseScorers.{IsDecidedBy}
 use Rattle.qm_weight.specs.Scorers.{IsListOf, IsRefusalOf}
-use Rattle.qm_weight.specs.Weights.{boolean_tree, boost_tree, tree_of}
+use Rattle.qm_weight.specs.Weights.{boolean_tree, boost_tree, terms_tree, tree_of}
 use Rattle.qm_weight.specs.contracts.any_weight.prune_any.F-FnMut as fnmut
 use Rattle.qm_weight.specs.declared.any_weight.AnyWeight as w
 use Rattle.qm_weight.specs.declared.boolean_weight.BooleanWeight as bq
@@ -14,6 +14,24 @@ use Rattle.qm_weight.proofs.Nodes.{list-boost}
 use Rattle.qm_weight.proofs.OneClauses.{list-one_weight}
 use Rattle.qm_weight.proofs.RunSteps.{MayPrune-at, MayPruneTree-from, PrunesTree-from}
 use Rattle.qm_weight.proofs.+prune.Goals as goal
+
+pub any_weight::prune_any-prune_terms-requires-clause-allowed :
+    goal.any_weight::prune_any-prune_terms-requires-clause-allowed
+any_weight::prune_any-prune_terms-requires-clause-allowed g t c =
+    let words = fnmut.words g.row.F g.F.FnMut in
+    let segment = c.args.reader.now.segment in
+    let same : terms_tree c.in-Terms.leaf ≡ tree_of c.args.weight.now = search (rules, w.the_lemmas) in
+    MayPruneTree-from words.step words.pre (terms_tree c.in-Terms.leaf) (tree_of c.args.weight.now) c.args.boost c.args.boost segment c.args.threshold
+    c.args.callback.now c.ranges.threshold (λ es listed. subst (λ tree. IsListOf tree c.args.boost segment es) same listed) c.requires.allowed
+
+pub any_weight::prune_any-returns-in-Terms-clause-calls :
+    goal.any_weight::prune_any-returns-in-Terms-clause-calls
+any_weight::prune_any-returns-in-Terms-clause-calls g t c =
+    let words = fnmut.words g.row.F g.F.FnMut in
+    let segment = c.args.reader.now.segment in
+    let same : terms_tree c.in-Terms.leaf ≡ tree_of c.args.weight.now = search (rules, w.the_lemmas) in
+    PrunesTree-from words.step (terms_tree c.in-Terms.leaf) (tree_of c.args.weight.now) c.args.boost c.args.boost segment c.args.threshold _ _
+    c.prune_terms.result c.ranges.threshold (λ es listed. subst (λ tree. IsListOf tree c.args.boost segment es) same listed) c.prune_terms.ensures.calls
 
 pub any_weight::prune_any-prune_boost-requires : goal.any_weight::prune_any-prune_boost-requires
 any_weight::prune_any-prune_boost-requires g t c κs within =

@@ -1,0 +1,40 @@
+//! The count of a weight of terms.
+
+ghost use Rattle.std.specs.Prelude.{◌≡◌, ◌≤◌, IfErr, IfOk};
+ghost use Rattle.qm_docset.specs.Entry.{greatest_score};
+ghost use Rattle.qm_weight.specs.Counts.{alive_count};
+ghost use Rattle.qm_weight.specs.Scorers.{IsRefusalOf};
+ghost use Rattle.qm_weight.specs.Weights.{terms_tree};
+
+use crate::counts::count_alive;
+use crate::terms_weight::TermsWeight;
+use crate::terms_weight::joined::{boxed_scorer, unscored_scorer};
+use crate::terms_weight::term_union::{is_term_union, unscored_union};
+use qm_combine::EmptyScorer;
+use qm_postings::SegmentReader;
+use qm_schema::QueryError;
+use qm_scorer::AnyScorer;
+use std::alloc::Global;
+
+// How many documents match that weren't deleted. Where scoring is off no scorer is asked for more than documents.
+pub(crate) fn count_terms(
+    weight: &TermsWeight,
+    alloc: Global,
+    reader: &SegmentReader,
+    boost: u64,
+) -> Result<u32, QueryError>
+    requires boost { boost ≤ greatest_score }
+    ensures count { IfOk result (λ n. n ≡ alive_count (terms_tree weight.now) reader.now.segment) }
+    ensures refused { IfErr result (IsRefusalOf (terms_tree weight.now) boost) }
+{
+    if weight.rule.scoring_enabled {
+        let mut scorer: AnyScorer<EmptyScorer> = boxed_scorer(weight, alloc, reader, boost)?;
+        return Ok(count_alive(&mut scorer, reader));
+    }
+    if is_term_union(weight) {
+        let mut union = unscored_union(weight, alloc, reader, boost)?;
+        return Ok(count_alive(&mut union, reader));
+    }
+    let mut scorer = unscored_scorer(weight, alloc, reader, boost)?;
+    Ok(count_alive(&mut scorer, reader))
+}

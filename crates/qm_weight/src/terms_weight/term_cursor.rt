@@ -1,0 +1,93 @@
+//! The cursors of terms.
+
+ghost use Rattle.std.specs.Prelude.{◌≤◌, IfErr, IfOk, IsTrue};
+ghost use Rattle.qm_docset.specs.Entry.{greatest_score};
+ghost use Rattle.qm_weight.specs.LeafScorers.{IsLeafOf};
+ghost use Rattle.qm_weight.specs.Scorers.{IsRefusalOf};
+ghost use Rattle.qm_weight.specs.TermUnions.{is_scored_in, tree_in};
+
+use crate::terms_weight::clause_in::ClauseIn;
+use qm_combine::{ConstScorer, Scorer};
+use qm_docset::DocSet;
+use qm_postings::{SegmentPostings, SegmentReader};
+use qm_schema::{IndexRecordOption, QueryError};
+use qm_term::{BorrowedTermScorer, TermScorer};
+
+// The postings of a term, for whom no score is asked.
+pub(super) type Unscored<'a> = ConstScorer<SegmentPostings<'a>>;
+
+/// A cursor over the documents of a segment that hold a term.
+pub(super) trait TermCursor<'a>: Scorer {
+    // whether its scores are those of the term
+    ghost gives_scores: { Type 0 };
+
+    // The cursor of a clause's term at a boost, and none where no document holds the term.
+    fn of_term(
+        clause: ClauseIn<'a>,
+        reader: &'a SegmentReader,
+        boost: u64,
+    ) -> Result<Option<Self>, QueryError>
+        requires boost { boost ≤ greatest_score }
+        requires scores { IsTrue (is_scored_in clause) → gives_scores }
+        ensures cursor { IfOk result (IsLeafOf Self.DocSet (tree_in clause.entry) boost reader.now.segment) }
+        ensures refused { IfErr result (IsRefusalOf (tree_in clause.entry) boost) };
+}
+
+// Over norms that stand in the weight.
+impl<'a> TermCursor<'a> for BorrowedTermScorer<'a> {
+    ghost gives_scores = { Unit {0} };
+
+    fn of_term(
+        clause: ClauseIn<'a>,
+        reader: &'a SegmentReader,
+        boost: u64,
+    ) -> Result<Option<BorrowedTermScorer<'a>>, QueryError> {
+        let weight = clause.weight_at(boost)?;
+        let option = clause.clause.index_record_option;
+        Ok(BorrowedTermScorer::for_term(reader, &clause.clause.term, option, weight))
+    }
+}
+
+impl<'a> TermCursor<'a> for TermScorer<'a> {
+    ghost gives_scores = { Unit {0} };
+
+    fn of_term(
+        clause: ClauseIn<'a>,
+        reader: &'a SegmentReader,
+        boost: u64,
+    ) -> Result<Option<TermScorer<'a>>, QueryError> {
+        scorer_of_term(clause, reader, boost)
+    }
+}
+
+impl<'a> TermCursor<'a> for Unscored<'a> {
+    ghost gives_scores = { ⊥ };
+
+    fn of_term(
+        clause: ClauseIn<'a>,
+        reader: &'a SegmentReader,
+        _boost: u64,
+    ) -> Result<Option<Unscored<'a>>, QueryError> {
+        let term = &clause.clause.term;
+        let index = reader.inverted_index(term.field());
+        match index.read_postings(term, IndexRecordOption::Basic) {
+            Some(postings) => Ok(Some(ConstScorer::new(postings, 0))),
+            None => Ok(None),
+        }
+    }
+}
+
+// The term's own scorer at a boost, with norms of its own: it outlives the weight.
+pub(super) fn scorer_of_term<'a>(
+    clause: ClauseIn<'_>,
+    reader: &'a SegmentReader,
+    boost: u64,
+) -> Result<Option<TermScorer<'a>>, QueryError>
+    requires boost { boost ≤ greatest_score }
+    ensures scorer { IfOk result (IsLeafOf ⟦<TermScorer<'a> as DocSet>⟧ (tree_in clause.entry) boost reader.now.segment) }
+    ensures refused { IfErr result (IsRefusalOf (tree_in clause.entry) boost) }
+{
+    let weight = clause.weight_at(boost)?.owned();
+    let option = clause.clause.index_record_option;
+    Ok(TermScorer::for_term(reader, &clause.clause.term, option, &weight))
+}
