@@ -103,7 +103,8 @@ fn add_leaf<'a, L: IntoTree<AnyScorer<'a, S>>, S: Scorer>(
     boost: u64,
 ) -> Result<(), QueryError>
     requires leaf { IsLeafOf L.DocSet (tree_in term) boost reader.now.segment leaf }
-    ensures added { OnOk result (AddsScorerOf ⟦<AnyScorer<'a, S> as DocSet>⟧ (occur_in term.entry) (tree_in term.entry) boost reader.now.segment scorers.old scorers.new) }
+    ensures added { OnOk result
+        (AddsScorerOf ⟦<AnyScorer<'a, S> as DocSet>⟧ (occur_in term.entry) (tree_in term.entry) boost reader.now.segment scorers.old scorers.new) }
     ensures refused { IsOkUnless result QueryError.Memory }
 {
     let scorer = scorer_of_leaf(&term, alloc, reader, leaf, boost)?;

@@ -26,8 +26,8 @@ bound_of_boolean-returns-in_err-bound t c =
     let b = c.args.boost in
     let item = c.loop-occur-item.result in
     let unfit = subst (λ x. ¬ Fits (tree_of x) b) c.deref.ensures c.in_err-bound.ensures in
-    let all = unfit-clause weight_occur weight_tree wt.scoring_enabled wt.minimum_number_should_match (combiner_of wt.score_combiner) c.as_slice-occur-items.result.now
-    c.loop-occur.occur-index item b c.loop-occur-item.is c.loop-occur-test.true unfit in
+    let all = unfit-clause weight_occur weight_tree wt.scoring_enabled wt.minimum_number_should_match (combiner_of wt.score_combiner)
+    c.as_slice-occur-items.result.now c.loop-occur.occur-index item b c.loop-occur-item.is c.loop-occur-test.true unfit in
     let none = subst (λ ws. ¬ Fits (boolean wt.scoring_enabled wt.minimum_number_should_match (combiner_of wt.score_combiner) (clauses_from ws)) b)
     c.as_slice-occur-items.ensures.value all in
     search (rules, none)

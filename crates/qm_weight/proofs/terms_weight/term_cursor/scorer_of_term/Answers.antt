@@ -10,4 +10,5 @@ returns-clause-scorer c =
     let own = c.args.clause.clause.now in
     let made = c.for_term.ensures in
     leaf-term _ c.args.reader.now.segment own.index_record_option own.term (shared_weighing w.rule.scoring_enabled w.norms own.weight) c.args.boost _
-    (weighed-shared w.rule.scoring_enabled w.norms own.weight c.args.boost _ (c.owned-weight.ensures ∙ c.in_ok-weight_at.ensures.weighing)) _ made.present.1 made.lists
+    (weighed-shared w.rule.scoring_enabled w.norms own.weight c.args.boost _ (c.owned-weight.ensures ∙ c.in_ok-weight_at.ensures.weighing)) _
+    made.present.1 made.lists
