@@ -32,9 +32,22 @@ def placed(terms):
     return " ".join(f"{offset} {word}" for offset, (_, word) in terms)
 
 
+def term_clauses(clauses):
+    """Whether clauses may be spelled as those of a weight of terms, which shares the norms."""
+    return all(isinstance(it, Term) for _, it in clauses)
+
+
+def weight_of_terms(tree):
+    """A Boolean of terms as a weight of terms."""
+    signed = (f"{sign}{it.term[1]} {'' if it.counted else 'basic:'}{it.weight}" for sign, it in tree.clauses)
+    return " ".join((f"terms {tree.combiner} {tree.minimum} on", *signed))
+
+
 def weight(tree):
-    """A tree with scoring on, as a weight is spelled."""
+    """A tree with scoring on, as a weight is spelled. Of two Booleans of terms one is a weight of terms."""
     match tree:
+        case Boolean(clauses, minimum) if term_clauses(clauses) and (len(clauses) + minimum) % 2:
+            return weight_of_terms(tree)
         case Term((_, word), points, counted):
             return f"{'term' if counted else 'basic'} {word} {points}"
         case Phrase(terms, slop, points):

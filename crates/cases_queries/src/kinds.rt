@@ -30,6 +30,7 @@ pub fn kind_of_weight(weight: &AnyWeight) -> &'static str {
         AnyWeight::All(_) => "all",
         AnyWeight::Empty(_) => "none",
         AnyWeight::Term(_) => "term",
+        AnyWeight::Terms(_) => "terms",
         AnyWeight::Phrase(_) => "phrase",
         AnyWeight::PhrasePrefix(_) => "prefix",
         AnyWeight::Prefix(_) => "words",

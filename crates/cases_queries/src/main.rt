@@ -30,6 +30,7 @@ mod runs;
 mod schema_rows;
 mod scorer_blocks;
 mod similarity;
+mod term_clauses;
 mod terms;
 mod top;
 mod tree;

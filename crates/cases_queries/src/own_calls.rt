@@ -43,6 +43,7 @@ pub fn ask_kind_of_weight(
         AnyWeight::All(kind) => ask_weight(alloc, segment, kind, call, memory, text),
         AnyWeight::Empty(kind) => ask_weight(alloc, segment, kind, call, memory, text),
         AnyWeight::Term(kind) => ask_weight(alloc, segment, kind, call, memory, text),
+        AnyWeight::Terms(kind) => ask_weight(alloc, segment, kind, call, memory, text),
         AnyWeight::Phrase(kind) => ask_weight(alloc, segment, kind, call, memory, text),
         AnyWeight::PhrasePrefix(kind) => ask_weight(alloc, segment, kind, call, memory, text),
         AnyWeight::Prefix(kind) => ask_weight(alloc, segment, kind, call, memory, text),

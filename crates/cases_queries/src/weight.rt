@@ -70,6 +70,7 @@ fn is_name(word: &str) -> bool {
         | "phrase"
         | "prefix"
         | "words"
+        | "terms"
         | "bool"
         | "clauses"
         | "boost"

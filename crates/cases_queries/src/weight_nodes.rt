@@ -3,6 +3,7 @@
 use crate::combiners::{combiner_len, read_combiner};
 use crate::form::Form;
 use crate::similarity::read_similarity;
+use crate::term_clauses::terms_weight;
 use crate::terms::{read_places, read_term};
 use crate::weight::{WeightClause, take_weight};
 use cases::{Fault, behind, number, score, word};
@@ -29,6 +30,7 @@ pub fn build_weight(
         "phrase" => Ok(AnyWeight::Phrase(phrase_weight(alloc, searcher, form.words)?)),
         "prefix" => build_prefix(alloc, searcher, form.words),
         "words" => build_words(alloc, searcher, form.words),
+        "terms" => terms_weight(alloc, searcher, form.words),
         "boost" | "const" => build_over(form, take_weight(clauses)?),
         _ => build_boolean(alloc, form, clauses),
     }
