@@ -360,6 +360,10 @@ def of_term(random, segment, field, term):
     known = {doc: (scores[doc], held[doc][0], documents[doc].length_id(field.name)) for doc in documents}
     yield f"termscorer {term[1]} {points} {option}"
     yield from Frequent(random, known, segment.deleted).rows(15)
+    boost = random.choice([0, 1, 3, 10**6])
+    yield f"borrowedscorer {field.name} {term[1]} {points}*{boost} same {option}"
+    scores = dict(scored(Term(term, points, is_counted), boost, segment))
+    yield from calls.Player(random, scores, segment.deleted).rows(10)
 
 
 def of_words(random, segment):

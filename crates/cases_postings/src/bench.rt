@@ -15,7 +15,7 @@ use crate::several::SeveralRows;
 use crate::spelled::{read_number, read_option, read_weight};
 use crate::term_rows::{AddressRows, PrefixEndRows, TermRows, make_term, read_address};
 use crate::weight_rows::{WeightRows, make_weight};
-use crate::{phrases, segment_phrases, unions};
+use crate::{borrowed, phrases, segment_phrases, unions};
 use cases::{Asker, Block, Fault, Memory, Player, Report, behind, end_refusals, play_asked, word};
 use qm_docset::AliveBitSet;
 use qm_postings::SegmentReader;
@@ -60,6 +60,8 @@ impl Player for Bench {
             "prefix" => phrases::play_prefix(alloc, self, block, report),
             "unionphrase" => phrases::play_union_phrase(alloc, self, block, report),
             "termscorer" => segment_phrases::play_term_scorer(alloc, self, block, report),
+            "borrowedweight" => borrowed::play_weight(alloc, self, block, report),
+            "borrowedscorer" => borrowed::play_scorer(alloc, self, block, report),
             "segmentphrase" => segment_phrases::play_phrase(alloc, self, block, report),
             "segmentprefix" => segment_phrases::play_prefix(alloc, self, block, report),
             _ => play_made(alloc, self, block, report),

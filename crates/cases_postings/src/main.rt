@@ -4,6 +4,7 @@
 
 mod bench;
 mod blocks;
+mod borrowed;
 mod cursor;
 mod explained;
 mod given;

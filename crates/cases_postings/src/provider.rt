@@ -4,7 +4,7 @@ ghost use Rattle.std.specs.Prelude.{◌*◌, length};
 ghost use Rattle.std.specs.List.Sorted.{IsNonDecreasing};
 ghost use Rattle.qm_postings.specs.Statistics.{IsProviderRefusal};
 
-use crate::spelled::{read_norms, read_term};
+use crate::spelled::{read_rising_norms, read_term};
 use cases::{Asker, Fault, Memory, behind, end_refusals, word, words_of};
 use qm_docset::Score;
 use qm_postings::Bm25StatisticsProvider;
@@ -25,10 +25,7 @@ pub struct OwnProvider {
 impl OwnProvider {
     /// The provider that the words `alike NORMS` or `CODE NORMS` spell.
     pub fn read(words: &[&str]) -> Result<OwnProvider, Fault> {
-        let norms = read_norms(word(words, 1))?;
-        if !norms.is_sorted() {
-            return Err(Fault::NotUnderstood);
-        }
+        let norms = read_rising_norms(word(words, 1))?;
         let code = word(words, 0).parse::<u32>().ok();
         if code.is_none() && word(words, 0) != "alike" {
             return Err(Fault::NotUnderstood);

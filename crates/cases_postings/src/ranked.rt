@@ -14,7 +14,7 @@ use qm_combine::Scorer;
 use qm_docset::{DocSet, TERMINATED};
 use qm_phrase::{PhrasePrefixScorer, PhraseScorer};
 use qm_postings::Postings;
-use qm_term::TermScorer;
+use qm_term::{BorrowedTermScorer, TermScorer};
 use std::alloc::{AllocError, Global};
 
 // The calls of any scorer.
@@ -49,8 +49,8 @@ fn ask_scorer<S: Scorer>(
     }
 }
 
-// Writes all documents that are left, each with its score.
-fn write_scores<S: Scorer>(scorer: &mut S, text: &mut String) -> Result<(), AllocError>
+/// Writes all documents that are left, each with its score.
+pub fn write_scores<S: Scorer>(scorer: &mut S, text: &mut String) -> Result<(), AllocError>
     requires { IsPlaced S.DocSet scorer.old }
     ensures { IsPlaced S.DocSet scorer.new }
 {
@@ -130,6 +130,18 @@ fn ask_term(
             end_refusals(alloc);
             Ok(write_explanation(&explanation?, text)?)
         }
+    }
+}
+
+impl<'a> Played for BorrowedTermScorer<'a> {
+    fn ask(
+        &mut self,
+        alloc: Global,
+        call: &str,
+        memory: Memory,
+        text: &mut String,
+    ) -> Result<(), Fault> {
+        ask_scorer(alloc, self, call, memory, text)
     }
 }
 

@@ -1,7 +1,10 @@
 //! What words of a case spell.
 
+ghost use Rattle.std.specs.Prelude.{IfOk, pos, ◌≤ℤ◌};
+ghost use Rattle.std.specs.List.Sorted.{IsNonDecreasing};
+
 use cases::{Fault, read_documents, score};
-use qm_docset::DocId;
+use qm_docset::{DocId, Score};
 use qm_schema::{Field, IndexRecordOption, Schema, Term};
 use qm_term::Bm25Weight;
 use std::alloc::{AllocError, Global};
@@ -146,14 +149,27 @@ pub fn read_norms(spelled: &str) -> Result<[u32; 256], Fault> {
     Ok(norms)
 }
 
+/// The norms that a word spells, where none is less than the one before it.
+pub fn read_rising_norms(spelled: &str) -> Result<[u32; 256], Fault>
+    ensures { IfOk result IsNonDecreasing }
+{
+    let norms = read_norms(spelled)?;
+    if !norms.is_sorted() {
+        return Err(Fault::NotUnderstood);
+    }
+    Ok(norms)
+}
+
 /// The number that a word spells.
 pub fn read_number(word: &str) -> Result<u32, Fault> {
     word.parse::<u32>().map_err(|_| Fault::NotUnderstood)
 }
 
-/// The weight that a word spells, as `1000`, or `1000*3` under a boost. The norm of each length id is the
-/// id.
-pub fn read_weight(spelled: &str) -> Result<Bm25Weight, Fault> {
+/// The weight and the boost that a word spells: `1000*3`, or `1000` for a boost of 1.
+pub fn read_boosted(spelled: &str) -> Result<(Score, Score), Fault>
+    ensures weight { IfOk result (λ both. pos 0 ≤ℤ both.0) }
+    ensures boost { IfOk result (λ both. pos 0 ≤ℤ both.1) }
+{
     let (weight, boost) = match spelled.split_once('*') {
         Some(parts) => parts,
         None => (spelled, "1"),
@@ -161,6 +177,13 @@ pub fn read_weight(spelled: &str) -> Result<Bm25Weight, Fault> {
     let (Some(weight), Some(boost)) = (score(&[weight], 0), score(&[boost], 0)) else {
         return Err(Fault::NotUnderstood);
     };
+    Ok((weight, boost))
+}
+
+/// The weight that a word spells, as `1000`, or `1000*3` under a boost. The norm of each length id is the
+/// id.
+pub fn read_weight(spelled: &str) -> Result<Bm25Weight, Fault> {
+    let (weight, boost) = read_boosted(spelled)?;
     Ok(Bm25Weight::new(weight, same_norms())?.boost_by(boost)?)
 }
 

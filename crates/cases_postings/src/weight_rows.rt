@@ -24,8 +24,8 @@ pub fn make_weight(alloc: Global, words: &[&str], memory: Memory) -> Result<Bm25
     Ok(made?)
 }
 
-// The length id and the frequency that stand behind the first word.
-fn read_pair(words: &[&str]) -> Result<(u8, u32), Fault> {
+/// The length id and the frequency that stand behind the first word.
+pub fn read_pair(words: &[&str]) -> Result<(u8, u32), Fault> {
     let id = word(words, 1)
         .parse::<u8>()
         .map_err(|_| Fault::NotUnderstood)?;
