@@ -11,12 +11,14 @@ use Rattle.qm_schema.specs.declared.error.QueryError.{QueryError}
 use Rattle.qm_schema.specs.declared.occur.Occur.{Occur}
 use Rattle.qm_schema.specs.declared.occur.Occur.TheVariants.{Should}
 use Rattle.qm_weight.specs.Tree.{Clauses, Tree, clause, no_clause}
-use Rattle.qm_weight.specs.Weights.{clauses_from, tree_of}
+use Rattle.qm_weight.specs.Weights.{clause_occur, clauses_by, tree_of}
 use Rattle.qm_weight.specs.declared.any_weight.AnyWeight.{AnyWeight}
+use Rattle.qm_weight.specs.declared.terms_weight.TermClause.{TermClause}
 use Rattle.qm_query.specs.EnableScoring.{schema_of}
 use Rattle.qm_query.specs.Fields.{are_clauses_served, are_disjuncts_served, is_served}
 use Rattle.qm_query.specs.Query.{boolean, disjuncts_of, disjunction_max, query_of, subqueries_of}
 use Rattle.qm_query.specs.QueryTree.{clause_trees, disjunct_trees, query_tree}
+use Rattle.qm_query.specs.SharedTerms.{shared_clause_tree}
 use Rattle.qm_query.specs.WeightRefusals.{IsClauseRefused, IsDisjunctRefused, IsRefused, IsWeightRefusal}
 use Rattle.qm_query.specs.declared.any_query.AnyQuery.{AnyQuery}
 use Rattle.qm_query.specs.declared.enable_scoring.EnableScoring.{EnableScoring}
@@ -29,9 +31,11 @@ tree_clauses (c ∷ cs) = clause c.0 c.1 (tree_clauses cs)
 abbrev pub weight_clause : Occur × Box AnyWeight Global → Occur × Tree
 weight_clause w = (w.0, tree_of w.1.value)
 
-pub clauses_from-trees : (ws : List (Occur × Box AnyWeight Global)) → clauses_from ws ≡ tree_clauses (map weight_clause ws)
-clauses_from-trees [] = refl
-clauses_from-trees (w ∷ ws) = ap (clause w.0 (tree_of w.1.value)) (clauses_from-trees ws)
+-- whatever occurs somehow and stands for a tree
+pub clauses_by-trees : {X : Type 0} (occur : X → Occur) (tree : X → Tree) (xs : List X) →
+    clauses_by occur tree xs ≡ tree_clauses (map (λ x. (occur x, tree x)) xs)
+clauses_by-trees occur tree [] = refl
+clauses_by-trees occur tree (x ∷ xs) = ap (clause (occur x) (tree x)) (clauses_by-trees occur tree xs)
 
 -- whether the fields that a clause, or a disjunct, asks of serve it
 abbrev pub is_clause_served : List FieldFacts → Occur × Box AnyQuery Global → Bool
@@ -99,6 +103,10 @@ module _ {P : Type 0} (S : Ghosts P) (under : EnableScoring P) where
   abbrev pub disjunct_clause : Box AnyQuery Global → Occur × Tree
   disjunct_clause q = (Should, query_tree S under (query_of q.value))
 
+  -- one of the terms that share the norms
+  abbrev pub shared_clause : TermClause → Occur × Tree
+  shared_clause c = (clause_occur c, shared_clause_tree S under c)
+
   pub clause_trees-list : (cs : List (Occur × Box AnyQuery Global)) → clause_trees S under (subqueries_of cs) ≡ tree_clauses (map query_clause cs)
   clause_trees-list [] = refl
   clause_trees-list (c ∷ cs) = ap (clause c.0 (query_tree S under (query_of c.1.value))) (clause_trees-list cs)
@@ -144,18 +152,24 @@ module _ {P : Type 0} (S : Ghosts P) (under : EnableScoring P) where
   disjunct_weight_refused qs i tie_breaker q error is within served (inr refused) =
       inr (disjunct_refused qs i q error within served (subst (λ (x : Box AnyQuery Global). IsRefused S under (query_of x.value) error) is refused))
 
-  pub clause_trees-step : (ws after : List (Occur × Box AnyWeight Global)) (w : Occur × Box AnyWeight Global)
+  pub clause_trees-step : {X : Type 0} (clause_of : X → Occur × Tree) (xs after : List X) (x : X)
       (cs : List (Occur × Box AnyQuery Global)) (i : ℕ) (c : Occur × Box AnyQuery Global)
-      → after ≡ ws ++ w ∷ [] → c ≡ get_or cs i c → i < length cs → map weight_clause ws ≡ map query_clause (take i cs) →
-      weight_clause w ≡ query_clause c → map weight_clause after ≡ map query_clause (take (i + 1) cs)
-  clause_trees-step ws after w cs i c pushed is within so_far same = step weight_clause query_clause ws after w cs i c pushed is within so_far same
+      → after ≡ xs ++ x ∷ [] → c ≡ get_or cs i c → i < length cs → map clause_of xs ≡ map query_clause (take i cs) →
+      clause_of x ≡ query_clause c → map clause_of after ≡ map query_clause (take (i + 1) cs)
+  clause_trees-step clause_of xs after x cs i c pushed is within so_far same = step clause_of query_clause xs after x cs i c pushed is within so_far same
 
-  pub clause_trees-whole : (ws : List (Occur × Box AnyWeight Global)) (cs : List (Occur × Box AnyQuery Global)) (i : ℕ) →
-      length cs ≤ i → map weight_clause ws ≡ map query_clause (take i cs) → clauses_from ws ≡ clause_trees S under (subqueries_of cs)
-  clause_trees-whole ws cs i whole same = clauses_from-trees ws
+  pub disjunct_trees-step : {X : Type 0} (clause_of : X → Occur × Tree) (xs after : List X) (x : X)
+      (qs : List (Box AnyQuery Global)) (i : ℕ) (q : Box AnyQuery Global)
+      → after ≡ xs ++ x ∷ [] → q ≡ get_or qs i q → i < length qs → map clause_of xs ≡ map disjunct_clause (take i qs) →
+      clause_of x ≡ disjunct_clause q → map clause_of after ≡ map disjunct_clause (take (i + 1) qs)
+  disjunct_trees-step clause_of xs after x qs i q pushed is within so_far same = step clause_of disjunct_clause xs after x qs i q pushed is within so_far same
+
+  pub clause_trees-whole : {X : Type 0} (occur : X → Occur) (tree : X → Tree) (xs : List X) (cs : List (Occur × Box AnyQuery Global)) (i : ℕ) →
+      length cs ≤ i → map (λ x. (occur x, tree x)) xs ≡ map query_clause (take i cs) → clauses_by occur tree xs ≡ clause_trees S under (subqueries_of cs)
+  clause_trees-whole occur tree xs cs i whole same = clauses_by-trees occur tree xs
       ∙ ap tree_clauses (same ∙ ap (map query_clause) (take_all i cs whole)) ∙ sym (clause_trees-list cs)
 
-  pub disjunct_trees-whole : (ws : List (Occur × Box AnyWeight Global)) (qs : List (Box AnyQuery Global)) (i : ℕ) → length qs ≤ i →
-      map weight_clause ws ≡ map disjunct_clause (take i qs) → clauses_from ws ≡ disjunct_trees S under (disjuncts_of qs)
-  disjunct_trees-whole ws qs i whole same = clauses_from-trees ws
+  pub disjunct_trees-whole : {X : Type 0} (occur : X → Occur) (tree : X → Tree) (xs : List X) (qs : List (Box AnyQuery Global)) (i : ℕ) → length qs ≤ i →
+      map (λ x. (occur x, tree x)) xs ≡ map disjunct_clause (take i qs) → clauses_by occur tree xs ≡ disjunct_trees S under (disjuncts_of qs)
+  disjunct_trees-whole occur tree xs qs i whole same = clauses_by-trees occur tree xs
       ∙ ap tree_clauses (same ∙ ap (map disjunct_clause) (take_all i qs whole)) ∙ sym (disjunct_trees-list qs)

@@ -1,5 +1,6 @@
 pub mod BuilderLemmas
 pub mod ClauseWeights
+pub mod NoNorms
 pub mod OneField
 pub mod Rows
 pub mod VisitSteps

@@ -7,6 +7,7 @@ pub mod Refusals
 pub mod Query
 pub mod QueryMatches
 pub mod QueryTree
+pub mod SharedTerms
 pub mod Rescoring
 pub mod WeightRefusals
 pub mod QueryScorers

@@ -1,12 +1,13 @@
 //! One type for all queries.
 
-ghost use Rattle.std.specs.Prelude.{◌≡◌, IfErr, IfOk, IsOkUnless, IsTrue};
+ghost use Rattle.std.specs.Prelude.{◌≡◌, IfErr, IfOk, IsOkUnless, IsTrue, true};
 ghost use Rattle.qm_weight.specs.Weights.{tree_of};
 ghost use Rattle.qm_query.specs.EnableScoring.{schema_of};
 ghost use Rattle.qm_query.specs.Fields.{is_served};
 ghost use Rattle.qm_query.specs.QueryTerms.{MayVisitTerms, VisitsTerms, terms_of_query};
 ghost use Rattle.qm_query.specs.QueryTree.{query_tree};
 ghost use Rattle.qm_query.specs.WeightRefusals.{IsWeightRefusal};
+ghost use Rattle.qm_query.specs.SharedTerms.{IsTermQuery};
 
 use crate::all_query::AllQuery;
 use crate::boolean_query::BooleanQuery;
@@ -129,4 +130,14 @@ fn build_leaf<Q: Query, P: Bm25StatisticsProvider>(
     ensures refused { IfErr result (IsWeightRefusal P.Bm25StatisticsProvider enable_scoring.entry (Q.query query.now)) }
 {
     query.weight(alloc, enable_scoring)
+}
+
+// Whether a query is that for a term.
+pub(crate) fn is_term(query: &AnyQuery) -> bool
+    ensures { result ≡ true → IsTermQuery query.now }
+{
+    match query {
+        AnyQuery::Term(_) => true,
+        _ => false,
+    }
 }

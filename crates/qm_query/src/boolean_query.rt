@@ -1,18 +1,19 @@
 //! The query of clauses.
 
-ghost use Rattle.std.specs.Prelude.{◌≡◌, IfErr, IfOk, IsOkUnless, IsTrue, map};
+ghost use Rattle.std.specs.Prelude.{◌≡◌, IfErr, IfOk, IsOkUnless, IsTrue, map, true};
 ghost use Rattle.qm_weight.specs.Weights.{tree_of};
 ghost use Rattle.qm_query.specs.EnableScoring.{schema_of};
 ghost use Rattle.qm_query.specs.Fields.{is_served};
 ghost use Rattle.qm_query.specs.Query.{query_of};
 ghost use Rattle.qm_query.specs.QueryTerms.{MayVisitTerms, VisitsTerms, terms_of_query};
 ghost use Rattle.qm_query.specs.QueryTree.{query_tree};
+ghost use Rattle.qm_query.specs.SharedTerms.{AreTermClauses};
 ghost use Rattle.qm_query.specs.WeightRefusals.{IsWeightRefusal};
 ghost use Rattle.std.specs.List.{list_all};
 ghost use Rattle.qm_query.specs.Occurs.{is_should};
 
-use crate::any_query::AnyQuery;
-use crate::boxed::boxed_boolean;
+use crate::any_query::{AnyQuery, is_term};
+use crate::boxed::{boxed_boolean, boxed_terms};
 use crate::enable_scoring::EnableScoring;
 use crate::query::Query;
 use crate::term_query::TermQuery;
@@ -191,6 +192,9 @@ impl BooleanQuery {
         ensures served { IfOk result (λ _. IsTrue (is_served (schema_of enable_scoring.entry) (boolean_of self.now))) }
         ensures refused { IfErr result (IsWeightRefusal P.Bm25StatisticsProvider enable_scoring.entry (boolean_of self.now)) }
     {
+        if are_terms(self.subqueries.as_slice()) {
+            return self.build_terms(alloc, enable_scoring);
+        }
         let mut weights = Vec::with_capacity(alloc, self.subqueries.len())?;
         for (occur, query) in &self.subqueries {
             let weight = (**query).build_weight(alloc, enable_scoring)?;
@@ -203,6 +207,29 @@ impl BooleanQuery {
             AnyCombiner::from(SumCombiner::default()),
         );
         boxed_boolean(alloc, weight)
+    }
+
+    // The weight of clauses that are terms, built in the order of the clauses.
+    fn build_terms<P: Bm25StatisticsProvider>(
+        &self,
+        alloc: Global,
+        enable_scoring: EnableScoring<'_, P>,
+    ) -> Result<Box<AnyWeight>, QueryError>
+        requires terms { AreTermClauses self.now.subqueries.items }
+        ensures tree { IfOk result (λ weight. tree_of weight.value ≡ query_tree P.Bm25StatisticsProvider enable_scoring.entry (boolean_of self.now)) }
+        ensures served { IfOk result (λ _. IsTrue (is_served (schema_of enable_scoring.entry) (boolean_of self.now))) }
+        ensures refused { IfErr result (IsWeightRefusal P.Bm25StatisticsProvider enable_scoring.entry (boolean_of self.now)) }
+    {
+        let mut clauses = Vec::with_capacity(alloc, self.subqueries.len())?;
+        for (occur, query) in &self.subqueries {
+            let AnyQuery::Term(term) = &**query else {
+                unreachable!();
+            };
+            clauses.push(term.term_clause(alloc, enable_scoring, *occur)?)?;
+        }
+        let minimum = self.minimum_number_should_match;
+        let combiner = AnyCombiner::from(SumCombiner::default());
+        boxed_terms(alloc, enable_scoring, clauses, minimum, combiner)
     }
 
     // A call with each term that the query names; see [`Query::query_terms`].
@@ -225,6 +252,18 @@ fn visit_clause<F: FnMut(&Term, bool)>(clause: &(Occur, Box<AnyQuery>), visitor:
     ensures calls { VisitsTerms F.FnMut visitor.old (terms_of_query (query_of clause.now.1.value)) visitor.new }
 {
     (*clause.1).visit_terms(visitor);
+}
+
+// Whether the clauses are several terms. One clause alone has a weight that goes by what is inside.
+fn are_terms(subqueries: &[(Occur, Box<AnyQuery>)]) -> bool
+    ensures { result ≡ true → AreTermClauses subqueries.now }
+{
+    for (_, query) in subqueries {
+        if !is_term(query) {
+            return false;
+        }
+    }
+    subqueries.len() > 1
 }
 
 // Whether all clauses are Should clauses.

@@ -1,10 +1,16 @@
 //! Weights in memory of their own.
 
 ghost use Rattle.std.specs.Prelude.{◌≡◌, IfOk, IsOkUnless};
+ghost use Rattle.qm_query.specs.SharedTerms.{shared_tree};
+ghost use Rattle.qm_weight.specs.Weights.{combiner_of, tree_of};
 ghost use Rattle.qm_weight.specs.declared.any_weight.AnyWeight.TheVariants.{Boolean, Boost, Const};
 
+use crate::enable_scoring::EnableScoring;
+use crate::leaf_weight::shared_norms;
+use qm_postings::Bm25StatisticsProvider;
 use qm_schema::QueryError;
-use qm_weight::{AnyWeight, BooleanWeight, BoostWeight, ConstWeight};
+use qm_scorer::AnyCombiner;
+use qm_weight::{AnyWeight, BooleanWeight, BoostWeight, ConstWeight, TermClause, TermsWeight};
 use std::alloc::Global;
 
 // The weight in memory of its own. Refused with `Memory` alone.
@@ -51,4 +57,27 @@ pub(crate) fn boxed_constant(
     ensures refused { IsOkUnless result QueryError.Memory }
 {
     boxed(alloc, AnyWeight::Const(weight))
+}
+
+// That of clauses that are terms, which share the norms of the provider.
+#[inline(never)]
+pub(crate) fn boxed_terms<P: Bm25StatisticsProvider>(
+    alloc: Global,
+    enable_scoring: EnableScoring<'_, P>,
+    clauses: Vec<TermClause>,
+    minimum_number_should_match: usize,
+    score_combiner: AnyCombiner,
+) -> Result<Box<AnyWeight>, QueryError>
+    ensures tree { IfOk result (λ weight. tree_of weight.value
+        ≡ shared_tree P.Bm25StatisticsProvider enable_scoring.entry minimum_number_should_match (combiner_of score_combiner) clauses.items) }
+    ensures refused { IsOkUnless result QueryError.Memory }
+{
+    let weight = TermsWeight::new(
+        clauses,
+        shared_norms(enable_scoring),
+        minimum_number_should_match,
+        enable_scoring.is_scoring_enabled(),
+        score_combiner,
+    );
+    boxed(alloc, AnyWeight::Terms(weight))
 }

@@ -1,15 +1,16 @@
 //! The query that scores by the best of several.
 
-ghost use Rattle.std.specs.Prelude.{◌≡◌, ◌<◌, ◌↔◌, IfErr, IfOk, IsErrOf, IsOkUnless, IsTrue};
+ghost use Rattle.std.specs.Prelude.{◌≡◌, ◌<◌, ◌↔◌, IfErr, IfOk, IsErrOf, IsOkUnless, IsTrue, true};
 ghost use Rattle.qm_weight.specs.Weights.{tree_of};
 ghost use Rattle.qm_query.specs.EnableScoring.{schema_of};
 ghost use Rattle.qm_query.specs.Fields.{is_served};
 ghost use Rattle.qm_query.specs.QueryTerms.{MayVisitTerms, VisitsTerms, terms_of_query};
 ghost use Rattle.qm_query.specs.QueryTree.{query_tree};
+ghost use Rattle.qm_query.specs.SharedTerms.{AreTermQueries};
 ghost use Rattle.qm_query.specs.WeightRefusals.{IsWeightRefusal};
 
-use crate::any_query::AnyQuery;
-use crate::boxed::boxed_boolean;
+use crate::any_query::{AnyQuery, is_term};
+use crate::boxed::{boxed_boolean, boxed_terms};
 use crate::enable_scoring::EnableScoring;
 use crate::query::Query;
 use qm_combine::DisjunctionMaxCombiner;
@@ -87,6 +88,9 @@ impl DisjunctionMaxQuery {
         ensures served { IfOk result (λ _. IsTrue (is_served (schema_of enable_scoring.entry) (disjunction_max_of self.now))) }
         ensures refused { IfErr result (IsWeightRefusal P.Bm25StatisticsProvider enable_scoring.entry (disjunction_max_of self.now)) }
     {
+        if are_terms(self.disjuncts.as_slice()) {
+            return self.build_terms(alloc, enable_scoring);
+        }
         let mut weights = Vec::with_capacity(alloc, self.disjuncts.len())?;
         for query in &self.disjuncts {
             let weight = (**query).build_weight(alloc, enable_scoring)?;
@@ -95,6 +99,33 @@ impl DisjunctionMaxQuery {
         let scoring = enable_scoring.is_scoring_enabled();
         let weight = BooleanWeight::new(weights, scoring, AnyCombiner::from(self.combiner));
         boxed_boolean(alloc, weight)
+    }
+
+    // The weight of disjuncts that are terms, built in their order.
+    fn build_terms<P: Bm25StatisticsProvider>(
+        &self,
+        alloc: Global,
+        enable_scoring: EnableScoring<'_, P>,
+    ) -> Result<Box<AnyWeight>, QueryError>
+        requires terms { AreTermQueries self.now.disjuncts.items }
+        ensures tree { IfOk result (λ weight. tree_of weight.value ≡ query_tree P.Bm25StatisticsProvider enable_scoring.entry (disjunction_max_of self.now)) }
+        ensures served { IfOk result (λ _. IsTrue (is_served (schema_of enable_scoring.entry) (disjunction_max_of self.now))) }
+        ensures refused { IfErr result (IsWeightRefusal P.Bm25StatisticsProvider enable_scoring.entry (disjunction_max_of self.now)) }
+    {
+        let mut clauses = Vec::with_capacity(alloc, self.disjuncts.len())?;
+        for query in &self.disjuncts {
+            let AnyQuery::Term(term) = &**query else {
+                unreachable!();
+            };
+            clauses.push(term.term_clause(alloc, enable_scoring, Occur::Should)?)?;
+        }
+        boxed_terms(
+            alloc,
+            enable_scoring,
+            clauses,
+            1,
+            AnyCombiner::from(self.combiner),
+        )
     }
 
     // A call with each term that the query names; see [`Query::query_terms`].
@@ -126,4 +157,16 @@ impl Query for DisjunctionMaxQuery {
     fn query_terms<F: FnMut(&Term, bool)>(&self, visitor: &mut F) {
         self.visit_terms(visitor);
     }
+}
+
+// Whether the disjuncts are several terms.
+fn are_terms(disjuncts: &[Box<AnyQuery>]) -> bool
+    ensures { result ≡ true → AreTermQueries disjuncts.now }
+{
+    for query in disjuncts {
+        if !is_term(query) {
+            return false;
+        }
+    }
+    disjuncts.len() > 1
 }

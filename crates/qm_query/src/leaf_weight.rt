@@ -1,10 +1,13 @@
 //! What the terms of a leaf weigh, by what a weight is built under.
 
-ghost use Rattle.std.specs.Prelude.{◌≡◌, ◌⊎◌, IfErr, IfOk};
+ghost use Rattle.std.specs.Prelude.{◌≡◌, ◌⊎◌, ◌≤ℤ◌, IfErr, IfOk, nat_abs, pos};
+ghost use Rattle.std.specs.List.Sorted.{IsNonDecreasing};
 ghost use Rattle.qm_schema.specs.declared.error.QueryError.TheVariants.{Memory};
-ghost use Rattle.qm_weight.specs.Weights.{weighing_of};
+ghost use Rattle.qm_weight.specs.Weights.{shared_weighing, weighing_of};
+ghost use Rattle.qm_query.specs.EnableScoring.{is_enabled};
 ghost use Rattle.qm_query.specs.Offsets.{terms_of};
 ghost use Rattle.qm_query.specs.QueryTree.{leaf_weighing};
+ghost use Rattle.qm_query.specs.SharedTerms.{shared_norms};
 ghost use Rattle.qm_query.specs.WeightRefusals.{IsByProvider};
 
 use crate::enable_scoring::EnableScoring;
@@ -78,4 +81,41 @@ impl Bm25StatisticsProvider for Unscored {
 // The weight of a term that isn't to score.
 pub(crate) fn no_weight() -> Bm25Weight {
     Bm25Weight::for_terms(&Unscored, &[]).unwrap()
+}
+
+// ---- terms that share the norms
+
+// What terms weigh together, beside their norms. With scoring off that is nothing, and no provider is asked.
+pub(crate) fn shared_weight<P: Bm25StatisticsProvider>(
+    enable_scoring: EnableScoring<'_, P>,
+    terms: &[Term],
+) -> Result<Score, QueryError>
+    ensures weighs { IfOk result (λ weight. pos 0 ≤ℤ weight) }
+    ensures weighing { IfOk result (λ weight. shared_weighing (is_enabled enable_scoring.entry)
+        (shared_norms P.Bm25StatisticsProvider enable_scoring.entry) (nat_abs weight) ≡ leaf_weighing P.Bm25StatisticsProvider enable_scoring.entry terms.now) }
+    ensures refused { IfErr result (IsByProvider P.Bm25StatisticsProvider enable_scoring.entry terms.now) }
+{
+    match enable_scoring {
+        EnableScoring::Enabled {
+            statistics_provider,
+            ..
+        } => statistics_provider.weight(terms),
+        EnableScoring::Disabled { .. } => Ok(0),
+    }
+}
+
+// The norms that all terms of a query share.
+pub(crate) fn shared_norms<'a, P: Bm25StatisticsProvider>(
+    enable_scoring: EnableScoring<'a, P>,
+) -> &'a [u32; 256]
+    ensures norms { result.now ≡ shared_norms P.Bm25StatisticsProvider enable_scoring.entry }
+    ensures ascending { IsNonDecreasing result.now }
+{
+    match enable_scoring {
+        EnableScoring::Enabled {
+            statistics_provider,
+            ..
+        } => statistics_provider.norms(),
+        EnableScoring::Disabled { .. } => &NO_NORMS,
+    }
 }

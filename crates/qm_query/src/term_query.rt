@@ -2,23 +2,24 @@
 
 ghost use Rattle.std.specs.Prelude.{◌≡◌, IfErr, IfOk, IsOkUnless, IsTrue};
 ghost use Rattle.qm_weight.specs.Tree.{term as leaf_of};
-ghost use Rattle.qm_weight.specs.Weights.{term_tree, tree_of, weighing_if};
+ghost use Rattle.qm_weight.specs.Weights.{clause_occur, term_tree, tree_of, weighing_if};
 ghost use Rattle.qm_query.specs.EnableScoring.{schema_of};
 ghost use Rattle.qm_query.specs.Fields.{is_served};
 ghost use Rattle.qm_query.specs.QueryScorers.{ScoresIfEnabled};
 ghost use Rattle.qm_query.specs.QueryTree.{query_tree};
+ghost use Rattle.qm_query.specs.SharedTerms.{shared_clause_tree};
 ghost use Rattle.qm_query.specs.WeightRefusals.{IsWeightRefusal};
 
 use crate::boxed::boxed;
 use crate::enable_scoring::EnableScoring;
 use crate::fields::term_field_refusal;
-use crate::leaf_weight::{leaf_weight, no_weight};
+use crate::leaf_weight::{leaf_weight, no_weight, shared_weight};
 use crate::query::Query;
 use crate::visits::visit_term;
 use qm_postings::Bm25StatisticsProvider;
-use qm_schema::{IndexRecordOption, QueryError, Term};
+use qm_schema::{IndexRecordOption, Occur, QueryError, Term};
 use qm_term::{Bm25Weight, Explanation};
-use qm_weight::{AnyWeight, TermWeight};
+use qm_weight::{AnyWeight, TermClause, TermWeight};
 use std::alloc::Global;
 use std::marker::Model;
 use std::slice;
@@ -103,6 +104,31 @@ impl TermQuery {
         let term = self.term.clone(alloc)?;
         let weight = TermWeight::new(term, option, *similarity, is_scored);
         boxed(alloc, AnyWeight::Term(weight))
+    }
+
+    // The term as a clause beside others, which share the norms. Refused as its weight is.
+    pub(crate) fn term_clause<P: Bm25StatisticsProvider>(
+        &self,
+        alloc: Global,
+        enable_scoring: EnableScoring<'_, P>,
+        occur: Occur,
+    ) -> Result<TermClause, QueryError>
+        ensures occur { IfOk result (λ clause. clause_occur clause ≡ occur) }
+        ensures tree { IfOk result (λ clause. shared_clause_tree P.Bm25StatisticsProvider enable_scoring.entry clause
+            ≡ query_tree P.Bm25StatisticsProvider enable_scoring.entry (term_query self.now)) }
+        ensures served { IfOk result (λ _. IsTrue (is_served (schema_of enable_scoring.entry) (term_query self.now))) }
+        ensures refused { IfErr result (IsWeightRefusal P.Bm25StatisticsProvider enable_scoring.entry (term_query self.now)) }
+    {
+        if let Some(refusal) = term_field_refusal(enable_scoring.schema(), self.term.field()) {
+            return Err(refusal);
+        }
+        let weight = shared_weight(enable_scoring, slice::from_ref(&self.term))?;
+        let option = if enable_scoring.is_scoring_enabled() {
+            self.index_record_option
+        } else {
+            IndexRecordOption::Basic
+        };
+        Ok(TermClause::new(occur, self.term.clone(alloc)?, option, weight))
     }
 
     /// The same query, in memory of its own; costs a copy of the term.

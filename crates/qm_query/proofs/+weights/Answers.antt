@@ -3,14 +3,14 @@ use Rattle.std.proofs.Common.{◌≡◌, true, ◌<◌, ◌≤◌, get_or, lengt
 use Rattle.qm_query.specs.declared.any_query.AnyQuery as q
 use Rattle.qm_weight.specs.declared.any_weight.AnyWeight as w
 use Rattle.qm_weight.specs.Tree.{boolean as boolean_node}
-use Rattle.qm_weight.specs.Weights.{boolean_tree, combiner_of, tree_of}
+use Rattle.qm_weight.specs.Weights.{boolean_tree, combiner_of, tree_of, weight_occur, weight_tree}
 use Rattle.qm_query.specs.EnableScoring.{schema_of}
 use Rattle.qm_query.specs.Fields.{is_served}
 use Rattle.qm_query.specs.Query.{boolean_of, disjunction_max_of, query_of}
 use Rattle.qm_query.specs.QueryTree.{query_tree}
 use Rattle.qm_query.specs.WeightRefusals.{IsWeightRefusal}
 use Rattle.qm_query.proofs.ClauseWeights.{are_clauses_served-step, are_clauses_served-whole, are_disjuncts_served-whole, clause_trees-step, clause_trees-whole}
-use Rattle.qm_query.proofs.ClauseWeights.{clause_weight_refused, disjunct_trees-whole, disjunct_weight_refused}
+use Rattle.qm_query.proofs.ClauseWeights.{clause_weight_refused, disjunct_trees-whole, disjunct_weight_refused, weight_clause}
 use Rattle.qm_query.proofs.Rows.{row_clauses-items, row_disjuncts-items, row_subqueries-items}
 use Rattle.std.proofs.lemmas.Result.{IfOk-weaker}
 use Rattle.qm_weight.specs.declared.any_weight.AnyWeight.TheVariants.{Boolean}
@@ -70,8 +70,9 @@ boolean_query::BooleanQuery::build_weight-returns-in_err-weight-clause-refused g
 pub boolean_query::BooleanQuery::build_weight-loop-occur-preserved :
     goal.boolean_query::BooleanQuery::build_weight-loop-occur-preserved
 boolean_query::BooleanQuery::build_weight-loop-occur-preserved g t c = record {
-  trees = clause_trees-step g.P.Bm25StatisticsProvider c.args.enable_scoring c.loop-occur.weights.items _ (c.loop-occur-item.result.0, c.in_ok-weight.weight)
-      c.args.self.now.subqueries.items c.loop-occur.occur-index c.loop-occur-item.result c.in_ok-push.ensures.items (c.loop-occur-item.is ∙ ap
+  trees = clause_trees-step g.P.Bm25StatisticsProvider c.args.enable_scoring weight_clause
+      c.loop-occur.weights.items _ (c.loop-occur-item.result.0, c.in_ok-weight.weight) c.args.self.now.subqueries.items
+      c.loop-occur.occur-index c.loop-occur-item.result c.in_ok-push.ensures.items (c.loop-occur-item.is ∙ ap
       (λ xs. get_or xs c.loop-occur.occur-index c.loop-occur-item.result) c.deref-occur-items.ensures.value) (subst (λ xs. c.loop-occur.occur-index < length xs)
       c.deref-occur-items.ensures.value c.loop-occur-test.true) c.loop-occur.invariant.trees (λ i. (
         c.loop-occur-item.result.0,
@@ -89,8 +90,9 @@ boolean_query::BooleanQuery::build_weight-returns-clause-tree g t c =
     let weight = c.with_minimum_number_should_match-weight.result in
     let made : tree_of (Boolean weight) ≡ boolean_tree weight = search (rules, w.the_lemmas, row_clauses-items) in
     let clauses =
-    clause_trees-whole g.P.Bm25StatisticsProvider c.args.enable_scoring c.loop-occur.weights.items c.args.self.now.subqueries.items c.loop-occur.occur-index
-    (subst (λ xs. length xs ≤ c.loop-occur.occur-index) c.deref-occur-items.ensures.value c.loop-occur-test.false) c.loop-occur.invariant.trees in
+    clause_trees-whole g.P.Bm25StatisticsProvider c.args.enable_scoring weight_occur weight_tree
+    c.loop-occur.weights.items c.args.self.now.subqueries.items c.loop-occur.occur-index (subst (λ xs. length xs ≤ c.loop-occur.occur-index)
+    c.deref-occur-items.ensures.value c.loop-occur-test.false) c.loop-occur.invariant.trees in
     let tree = made ∙ c.with_minimum_number_should_match-weight.ensures
     ∙ (λ i. boolean_node (c.is_scoring_enabled.ensures i) c.args.self.now.minimum_number_should_match (combiner_of (c.from.ensures i)) (clauses i)) in
     IfOk-weaker c.boxed_boolean.result (λ b. b.value ≡ Boolean weight) _ (λ b is. ap tree_of is ∙ tree) c.boxed_boolean.ensures.value
@@ -119,7 +121,7 @@ disjunction_max_query::DisjunctionMaxQuery::build_weight-returns-clause-tree g t
     let weight = c.new-weight.result in
     let made : tree_of (Boolean weight) ≡ boolean_tree weight = search (rules, w.the_lemmas, row_clauses-items) in
     let clauses = disjunct_trees-whole g.P.Bm25StatisticsProvider c.args.enable_scoring
-    c.loop-query.weights.items c.args.self.now.disjuncts.items c.loop-query.query-index
+    weight_occur weight_tree c.loop-query.weights.items c.args.self.now.disjuncts.items c.loop-query.query-index
     (subst (λ xs. length xs ≤ c.loop-query.query-index) c.deref-query-items.ensures.value c.loop-query-test.false) c.loop-query.invariant.trees in
     let tree = made ∙ c.new-weight.ensures ∙ (λ i. boolean_node (c.is_scoring_enabled-scoring.ensures i) 1 (combiner_of (c.from.ensures i)) (clauses i)) in
     IfOk-weaker c.boxed_boolean.result (λ b. b.value ≡ Boolean weight) _ (λ b is. ap tree_of is ∙ tree) c.boxed_boolean.ensures.value
