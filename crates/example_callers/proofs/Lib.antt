@@ -2,3 +2,4 @@ mod WorkedTrees
 mod BestFound
 mod Searched
 mod PhraseFields
+mod HeldTerms

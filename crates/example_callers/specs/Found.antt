@@ -1,10 +1,11 @@
 -- What callers find, and what they do.
-use Rattle.std.specs.Prelude.{◌≡◌, ℕ, ℤ, ◌⊎◌, All, Bool, IsTrue, List, Option, slice_get}
+use Rattle.std.specs.Prelude.{◌≡◌, ℕ, ℤ, ◌⊎◌, ◌&&◌, All, Bool, IsTrue, List, Option, filter, length, slice_get}
+use Rattle.std.specs.List.{range_with_len}
 use Rattle.qm_docset.specs.Entry.{head_document}
 use Rattle.qm_index.specs.Indexed.{Deletes, Indexed, with_document_of}
 use Rattle.qm_postings.specs.Blocks.{Block, looked_at, term_blocks}
 use Rattle.qm_postings.specs.Document.{Draft}
-use Rattle.qm_postings.specs.Segment.{Segment, postings_of}
+use Rattle.qm_postings.specs.Segment.{Segment, holds, postings_of}
 use Rattle.qm_postings.specs.Statistics.{Searched}
 use Rattle.qm_postings.specs.declared.address.DocAddress.{DocAddress}
 use Rattle.qm_postings.specs.declared.statistics.Bm25StatisticsProvider.{Ghosts}
@@ -35,6 +36,10 @@ block_looked_at segment term target =
 -- the document of a number, where there is one, is deleted, and then one is added
 abbrev pub Replaces : ℕ → Draft → Indexed → Indexed → Bool → Type 0
 Replaces number draft before after existed = (s : Indexed) × Deletes number before existed s × (after ≡ with_document_of s draft)
+
+-- the documents that hold two terms
+abbrev pub holders_of_both : Segment → TermKey → TermKey → List ℕ
+holders_of_both segment first second = filter (λ d. holds segment first d && holds segment second d) (range_with_len 0 (length segment.documents))
 
 -- every other one of all that is found stands behind it
 abbrev pub StandsFirst : List (DocAddress × ℤ) → ℤ × DocAddress → Type 0

@@ -24,4 +24,4 @@ pub use phrase_callers::{count_behind_buffer, positions_behind_buffer, scored_ph
 pub use query_callers::{best_document, matches, matching_documents};
 pub use term_callers::{best_of_term, end_of_block};
 pub use top_docs_callers::{best_address, first_page};
-pub use weight_callers::{best_matches, join_matches};
+pub use weight_callers::{best_matches, holders_of_both, join_matches};

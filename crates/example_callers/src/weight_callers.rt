@@ -2,6 +2,7 @@
 //! that match, one after another, and a pruned run finds the best of them.
 
 ghost use Rattle.std.specs.Prelude.{◌≡◌, IfOk, IsTrue, false};
+ghost use Rattle.example_callers.specs.Found.{holders_of_both};
 ghost use Rattle.qm_weight.specs.Best.{best};
 ghost use Rattle.qm_weight.specs.Callers.{pairs};
 ghost use Rattle.qm_weight.specs.Tree.{is_scoring, list, matching};
@@ -10,8 +11,9 @@ use crate::best::BestPairs;
 use crate::callers::Joined;
 use qm_docset::{DocId, Score};
 use qm_postings::SegmentReader;
-use qm_schema::QueryError;
-use qm_weight::Weight;
+use qm_schema::{IndexRecordOption, Occur, QueryError, Term};
+use qm_scorer::AnyCombiner;
+use qm_weight::{TermClause, TermsWeight, Weight};
 use std::alloc::Global;
 
 /// The documents of a segment that a weight matches: the slices of its run, one after another.
@@ -61,4 +63,21 @@ pub fn best_matches<W: Weight>(
     } else {
         Ok(best.kept)
     }
+}
+
+/// The documents of a segment that hold two terms, without scores.
+pub fn holders_of_both(
+    alloc: Global,
+    reader: &SegmentReader,
+    first: Term,
+    second: Term,
+) -> Result<Vec<DocId>, QueryError>
+    ensures { IfOk result (λ v. v.items ≡ holders_of_both reader.now.segment first second) }
+{
+    let clauses = vec![in alloc;
+        TermClause::new(Occur::Must, first, IndexRecordOption::Basic, 0),
+        TermClause::new(Occur::Must, second, IndexRecordOption::Basic, 0),
+    ]?;
+    let weight = TermsWeight::new(clauses, &[0; 256], 0, false, AnyCombiner::default());
+    join_matches(alloc, &weight, reader)
 }
