@@ -44,6 +44,7 @@ def gathered(leaves, combiner, minimum, last):
     yield bounded(f"union {combiner} {last} {words}".rstrip(), most, at_least(1, combiner, lists))
     for name in ("atleast", "unforetold"):
         yield bounded(f"{name} {minimum} {combiner} {words}".rstrip(), most, at_least(minimum, combiner, lists))
+    yield bounded(f"enough {minimum} {combiner} {last} {words}".rstrip(), most, at_least(minimum, combiner, lists))
 
 
 def of_two(first, second, combiner):

@@ -6,7 +6,9 @@ ghost use Rattle.qm_docset.specs.Entry.{head_document, head_score};
 use crate::answer::Answer;
 use crate::gathered::read_maximum;
 use cases::{Asker, Block, Fault, Memory, Report, end_refusals, play_asked, word};
-use qm_combine::{AllScorer, ConstScorer, DoNothingCombiner, ScoreCombiner, SumCombiner};
+use qm_combine::{
+    AllScorer, ConstScorer, Counted, DoNothingCombiner, ScoreCombiner, SumCombiner,
+};
 use qm_docset::{DocSet, Score};
 use std::alloc::Global;
 
@@ -65,11 +67,13 @@ impl<C: ScoreCombiner> Asker for AskedCombiner<C> {
             let score = score.parse::<u64>().ok().ok_or(Fault::NotUnderstood)?;
             return Ok(self.calls.push(Change::Update(score))?);
         }
-        if call != "score" {
-            return Err(Fault::NotUnderstood);
-        }
         memory.begin(alloc);
-        let answer = combined(self.combiner, &self.calls);
+        let answer = match call {
+            "score" => score_of(changed(self.combiner, &self.calls)),
+            "counted score" => score_of(changed(Counted::new(self.combiner), &self.calls)),
+            "count" => count_of(changed(Counted::new(self.combiner), &self.calls)),
+            _ => Answer::NotUnderstood,
+        };
         end_refusals(alloc);
         answer.write(text)
     }
@@ -77,8 +81,22 @@ impl<C: ScoreCombiner> Asker for AskedCombiner<C> {
 
 const GREATEST: u64 = Score::MAX as u64;
 
-// The score of a combiner that is cleared, and then changed so.
-fn combined<C: ScoreCombiner>(combiner: C, calls: &[Change]) -> Answer {
+fn score_of<C: ScoreCombiner>(combiner: Option<C>) -> Answer {
+    match combiner {
+        Some(combiner) => Answer::Score(combiner.score()),
+        None => Answer::NotAllowed,
+    }
+}
+
+fn count_of<C: ScoreCombiner>(combiner: Option<Counted<C>>) -> Answer {
+    match combiner {
+        Some(combiner) => Answer::Number(combiner.count() as u64),
+        None => Answer::NotAllowed,
+    }
+}
+
+// A combiner that is cleared, and then changed so, or none where a change is not allowed.
+fn changed<C: ScoreCombiner>(combiner: C, calls: &[Change]) -> Option<C> {
     let mut combiner = combiner;
     combiner.clear();
     let mut total: u64 = 0;
@@ -91,14 +109,14 @@ fn combined<C: ScoreCombiner>(combiner: C, calls: &[Change]) -> Answer {
             }
             Change::Update(score) => {
                 if score > GREATEST - total {
-                    return Answer::NotAllowed;
+                    return None;
                 }
                 combiner.update(&mut scored(score));
                 total += score;
             }
         }
     }
-    Answer::Score(combiner.score())
+    Some(combiner)
 }
 
 // A scorer that stands on a document with this score.

@@ -7,8 +7,8 @@ use crate::constants::read_constants;
 use crate::cursors::play_made;
 use cases::{Block, Desk, Fault, Moves, Report, behind, end_refusals, number, read_leaves, word};
 use qm_combine::{
-    BufferedUnionScorer, Disjunction, DisjunctionMaxCombiner, DoNothingCombiner, Intersection,
-    ScoreCombiner, Scorer, SumCombiner,
+    BufferedDisjunction, BufferedUnionScorer, Disjunction, DisjunctionMaxCombiner,
+    DoNothingCombiner, Intersection, ScoreCombiner, Scorer, SumCombiner,
 };
 use qm_docset::AliveBitSet;
 use std::alloc::Global;
@@ -135,8 +135,9 @@ fn unite_members<S: Scorer, C: ScoreCombiner>(
     }
 }
 
-/// Plays `atleast MIN COMBINER MEMBERS`, and `unforetold MIN COMBINER MEMBERS`, whose members come from
-/// an iterator that does not foretell how many it gives.
+/// Plays `atleast MIN COMBINER MEMBERS`, `unforetold MIN COMBINER MEMBERS`, whose members come from an
+/// iterator that does not foretell how many it gives, and `enough MIN COMBINER MAX MEMBERS`, which goes
+/// over a window.
 pub fn play_at_least(
     alloc: Global,
     alive: &AliveBitSet,
@@ -167,13 +168,17 @@ fn gather<C: ScoreCombiner>(
         alive,
         moves: &moves,
     };
-    let words = behind(block.words, at);
+    let words = if word(block.words, 0) == "enough" {
+        behind(behind(block.words, at), 1)
+    } else {
+        behind(block.words, at)
+    };
     if word(words, 0) == "const" {
         let members = read_constants(alloc, words)?;
-        gather_members(alloc, &desk, members, combiner, block, report)
+        gather_members(alloc, &desk, members, combiner, at, block, report)
     } else {
         let members = read_leaves(alloc, words, &moves)?;
-        gather_members(alloc, &desk, members, combiner, block, report)
+        gather_members(alloc, &desk, members, combiner, at, block, report)
     }
 }
 
@@ -182,6 +187,7 @@ fn gather_members<S: Scorer, C: ScoreCombiner>(
     desk: &Desk<'_>,
     members: Vec<S>,
     combiner: C,
+    at: usize,
     block: Block<'_>,
     report: &mut Report,
 ) -> Result<(), Fault>
@@ -190,6 +196,9 @@ fn gather_members<S: Scorer, C: ScoreCombiner>(
     let Some(minimum) = word(block.words, 1).parse::<usize>().ok() else {
         return Err(Fault::NotUnderstood);
     };
+    if word(block.words, 0) == "enough" {
+        return play_enough(alloc, desk, members, combiner, minimum, at, block, report);
+    }
     if minimum < 2 {
         return Err(Fault::NotAllowed);
     }
@@ -197,6 +206,33 @@ fn gather_members<S: Scorer, C: ScoreCombiner>(
         play_unforetold(alloc, desk, members, combiner, minimum, block, report)
     } else {
         play_foretold(alloc, desk, members, combiner, minimum, block, report)
+    }
+}
+
+fn play_enough<S: Scorer, C: ScoreCombiner>(
+    alloc: Global,
+    desk: &Desk<'_>,
+    members: Vec<S>,
+    combiner: C,
+    minimum: usize,
+    at: usize,
+    block: Block<'_>,
+    report: &mut Report,
+) -> Result<(), Fault>
+    requires { ArePlaced S.DocSet members.items }
+{
+    let Some(num_docs) = number(block.words, at) else {
+        return Err(Fault::NotUnderstood);
+    };
+    if minimum == 0 {
+        return Err(Fault::NotAllowed);
+    }
+    block.memory.begin(alloc);
+    let made = BufferedDisjunction::build(alloc, members, combiner, minimum, num_docs);
+    end_refusals(alloc);
+    match made {
+        Err(error) => Err(Fault::Refused(error)),
+        Ok(scorer) => play_made(alloc, desk, scorer, block, report),
     }
 }
 

@@ -91,7 +91,7 @@ fn is_made_by_a_call(name: &str) -> bool {
         | "boost"
         | "exclude"
         | "optional" => { true }
-        "intersection" | "union" | "atleast" | "unforetold" => true,
+        "intersection" | "union" | "atleast" | "unforetold" | "enough" => true,
         _ => false,
     }
 }
@@ -117,7 +117,7 @@ fn play_scorer(
         "optional" => play_optional(alloc, alive, block, report),
         "intersection" => play_intersection(alloc, alive, block, report),
         "union" => play_union(alloc, alive, block, report),
-        "atleast" | "unforetold" => play_at_least(alloc, alive, block, report),
+        "atleast" | "unforetold" | "enough" => play_at_least(alloc, alive, block, report),
         _ => play_leaf(alloc, alive, block, report),
     }
 }

@@ -53,7 +53,7 @@ impl Player for Bench {
                 Ok(())
             }
             "segment" => play_asked(alloc, self, block.rows, report),
-            "postings" | "shifted" | "own" | "union" | "bitsetunion" => {
+            "postings" | "shifted" | "holders" | "own" | "union" | "bitsetunion" => {
                 unions::play_postings(alloc, self, block, report)
             }
             "phrase" => phrases::play_phrase(alloc, self, block, report),

@@ -15,11 +15,11 @@ use crate::spelled::{read_field, read_number, read_numbers, read_option, read_te
 use cases::{Block, Fault, Memory, Report, behind, end_refusals, word};
 use qm_docset::{BitSet, BitSetDocSet, DocSet, TERMINATED};
 use qm_phrase::{BitSetPostingUnion, PostingsWithOffset, SimpleUnion};
-use qm_postings::{Postings, SegmentPostings};
+use qm_postings::{Postings, SegmentPostings, TermDocuments};
 use std::alloc::Global;
 
-/// Plays a block of postings: `postings FIELD WORD OPTION`, `shifted FIELD WORD OPTION OFFSET`, `own MEMBER`,
-/// `union MEMBER ..` or `bitsetunion MAX DOCUMENTS MEMBER ..`.
+/// Plays a block of postings: `postings FIELD WORD OPTION`, `shifted FIELD WORD OPTION OFFSET`, `holders FIELD WORD`,
+/// `own MEMBER`, `union MEMBER ..` or `bitsetunion MAX DOCUMENTS MEMBER ..`.
 pub fn play_postings(
     alloc: Global,
     bench: &Bench,
@@ -28,6 +28,7 @@ pub fn play_postings(
 ) -> Result<(), Fault> {
     match word(block.words, 0) {
         "postings" | "shifted" => play_of_segment(alloc, bench, block, report),
+        "holders" => play_holders(alloc, bench, block, report),
         "own" => {
             let postings = read_member(alloc, word(block.words, 1))?;
             play_owned(alloc, &bench.alive, postings, block.rows, report)
@@ -58,6 +59,23 @@ fn play_of_segment(
     let offset = read_number(word(block.words, 4))?;
     let shifted = PostingsWithOffset::new(postings, offset);
     play_owned(alloc, &bench.alive, shifted, block.rows, report)
+}
+
+fn play_holders(
+    alloc: Global,
+    bench: &Bench,
+    block: Block<'_>,
+    report: &mut Report,
+) -> Result<(), Fault> {
+    let field = read_field(&bench.schema, word(block.words, 1))?;
+    let term = read_term(alloc, field, word(block.words, 2))?;
+    block.memory.begin(alloc);
+    let found = bench.segment.inverted_index(field).read_documents(&term);
+    end_refusals(alloc);
+    match found {
+        Some(documents) => play_owned(alloc, &bench.alive, documents, block.rows, report),
+        None => Err(Fault::NotAllowed),
+    }
 }
 
 fn play_union(
@@ -158,6 +176,19 @@ impl<D: Postings> Played for BitSetPostingUnion<D> {
         text: &mut String,
     ) -> Result<(), Fault> {
         ask_postings(alloc, self, call, memory, text)
+    }
+}
+
+/// The documents of a term have no call besides those of every cursor.
+impl<'a> Played for TermDocuments<'a> {
+    fn ask(
+        &mut self,
+        _alloc: Global,
+        _call: &str,
+        _memory: Memory,
+        _text: &mut String,
+    ) -> Result<(), Fault> {
+        Err(Fault::NotUnderstood)
     }
 }
 

@@ -18,7 +18,7 @@ use Rattle.qm_combine.specs.Windowed.{IsWindowed, windowed, windowed_entry, wind
 use Rattle.qm_combine.specs.declared.union.window.Window.{Window}
 use Rattle.qm_combine.proofs.Refilled.{scores_at-ended, window_has-past}
 use Rattle.qm_combine.proofs.Uniting.{scores_at-ahead}
-use Rattle.qm_combine.proofs.Windows.{windowed-next, windowed-passed}
+use Rattle.qm_combine.proofs.Windows.{enough_have-none, windowed-next, windowed-passed}
 
 -- what a window answers
 pub answers_none : {C : Type 0} (w : Window C) (t : ℕ) → None ≡ slice_get (window_from w t) 0 → (d : ℕ) → t ≤ d → window_has w d ≡ false
@@ -42,15 +42,17 @@ least_head-reached {X} placed list t (x ∷ xs) h reached =
     let Reached : X → Type 0 = λ m. placed m × (t ≤ head_document (list m)) in
     omega (arith, (All-head Reached x xs reached).1, least_head-reached placed list t xs h (All-tail Reached x xs reached))
 
-module _ (has : ℕ → Bool) (score : ℕ → ℕ) (doc ahead : ℕ) (combined : List ℕ
+module _ (least : ℕ) (some : 1 ≤ least) (has : ℕ → Bool) (score : ℕ → ℕ) (doc ahead : ℕ) (combined : List ℕ
     → ℕ) (limits : Limits) (bounds : List Limits) (ess : List (List Entry)) (members : AreMembers bounds ess)
-    (w : IsWindowed has score doc ahead combined limits ess) where
+    (w : IsWindowed least has score doc ahead combined limits ess) where
   -- In its window it goes on to the first document at or past a target.
   pub goes_next : (t next high : ℕ) → doc ≤ t → IsFirst has t high next
-      → (windowed has score next combined ess ≡ from t (windowed has score doc combined ess)) × IsWindowed has score next ahead combined limits ess
+      → (windowed least has score next combined ess ≡ from t (windowed least has score doc combined ess))
+      × IsWindowed least has score next ahead combined limits ess
   goes_next t next high low first =
       let before = w.behind next first.member in
-      let moved = windowed-next has score combined bounds ess members doc t next low first.above first.none_before first.member (omega (arith, w.next)) in (
+      let moved = windowed-next least some has score combined bounds ess members doc t next low first.above
+      first.none_before first.member (omega (arith, w.next)) in (
         moved.0,
         record {
           first = sym moved.1;
@@ -64,36 +66,38 @@ module _ (has : ℕ → Bool) (score : ℕ → ℕ) (doc ahead : ℕ) (combined 
 
   -- .. and to any that the window has
   pub stands_on : (next : ℕ) → doc ≤ next → has next ≡ true
-      → (windowed has score next combined ess ≡ from next (windowed has score doc combined ess)) × IsWindowed has score next ahead combined limits ess
+      → (windowed least has score next combined ess ≡ from next (windowed least has score doc combined ess))
+      × IsWindowed least has score next ahead combined limits ess
   stands_on next low there = goes_next next next (next + 1) low
       (record { above = omega arith; below = omega arith; member = there; none_before = λ d past before. absurd (omega (arith, past, before)) })
 
   -- From there on the members have all that is left, where the window has nothing there.
   pub goes_on : (t : ℕ) → doc ≤ t → min t TERMINATED ≤ ahead → ((d : ℕ) → t ≤ d → has d ≡ false)
-      → gather 1 combined ess ≡ from t (windowed has score doc combined ess)
+      → gather least combined ess ≡ from t (windowed least has score doc combined ess)
   goes_on t low reach quiet =
       let dropped : (d : ℕ) → d < t → scores_at d ess ≡ [] = λ d below. elim (cases_lt d TERMINATED) [
         | inr ended ↦ scores_at-ended d bounds ess members ended
         | inl document ↦ scores_at-ahead d bounds ess members (omega (arith, w.next))
       ] in
-      windowed-passed has score combined bounds ess members doc t ess low quiet dropped (λ d past. refl)
+      windowed-passed least some has score combined bounds ess members doc t ess low quiet dropped (λ d past. refl)
 
   -- Where the members were sent to a target past the window, they have what is left from there on.
   pub goes_past : (t : ℕ) (others : List Limits) (rest : List (List Entry)) → AreMembers others rest → doc ≤ t → ((d : ℕ) → t ≤ d → has d ≡ false)
-      → t ≤ least_head rest → map (from t) rest ≡ map (from t) ess → gather 1 combined rest ≡ from t (windowed has score doc combined ess)
+      → t ≤ least_head rest → map (from t) rest ≡ map (from t) ess → gather least combined rest ≡ from t (windowed least has score doc combined ess)
   goes_past t others rest after low quiet reached same =
-      windowed-passed has score combined bounds ess members doc t rest low quiet
+      windowed-passed least some has score combined bounds ess members doc t rest low quiet
       (λ d below. scores_at-ahead d others rest after (omega arith))
       (λ d past. sym (scores_at-from d t rest past) ∙ ap (scores_at d) same ∙ scores_at-from d t ess past)
 
   -- The score that it keeps is that of its document.
-  pub score_here : doc < TERMINATED → head_score (windowed has score doc combined ess) ≡ score doc
+  pub score_here : doc < TERMINATED → head_score (windowed least has score doc combined ess) ≡ score doc
   score_here below =
       let made = windowed_entry has score combined ess in
       let named : IsNamed made = λ d. refl in
       let here = w.here below in
       let past = w.behind doc here in
-      let kept : windowed_has has doc ess doc ≡ true = rw (le-leb doc doc (omega arith), here) refl in
+      let kept : windowed_has least has doc ess doc ≡ true = rw (le-leb doc doc (omega arith), here) refl in
       let bare : (d : ℕ) → d < doc
-      → windowed_has has doc ess d ≡ false = λ d before. rw (lt-leb doc d before, scores_at-ahead d bounds ess members (omega (arith, w.next))) refl in
-      ap head_score (listed-first doc (windowed_has has doc ess) made below named bare kept) ∙ rw here refl
+      → windowed_has least has doc ess d ≡ false = λ d before. rw (lt-leb doc d before)
+      (enough_have-none least some ess d (scores_at-ahead d bounds ess members (omega (arith, w.next)))) in
+      ap head_score (listed-first doc (windowed_has least has doc ess) made below named bare kept) ∙ rw here refl

@@ -31,12 +31,12 @@ module _ {C : Type 0} (combined : C → List ℕ → ℕ) (value : C → ℕ) wh
 
   -- what a union lists from a document on of what its window keeps and its members have left
   abbrev pub united : Window C → ℕ → List (List Entry) → List Entry
-  united w doc ess = windowed (window_has w) (kept_score w) doc (combined (window_combiner w)) ess
+  united w doc ess = windowed 1 (window_has w) (kept_score w) doc (combined (window_combiner w)) ess
 
   -- a union that stands on its first document
   pub record IsUnited (cleared : C → C) (w : Window C) (doc ahead top : ℕ) (limits : List Limits) (ess : List (List Entry)) : Type 0 where
     pub parts : HasParts cleared w top limits
-    pub standing : IsWindowed (window_has w) (kept_score w) doc ahead (combined (window_combiner w)) (united_limits limits) ess
+    pub standing : IsWindowed 1 (window_has w) (kept_score w) doc ahead (combined (window_combiner w)) (united_limits limits) ess
 
   -- what a union lists that shows this
   abbrev pub shown_list : Shown C → List Entry
@@ -45,6 +45,6 @@ module _ {C : Type 0} (combined : C → List ℕ → ℕ) (value : C → ℕ) wh
   -- it stands on its first document, and what its members have left are lists of cursors
   pub record IsGoing (s : Shown C) : Type 0 where
     pub until : IsUntil s.window
-    pub standing : IsWindowed (window_has s.window) (kept_score s.window) s.document s.ahead (combined (window_combiner s.window))
+    pub standing : IsWindowed 1 (window_has s.window) (kept_score s.window) s.document s.ahead (combined (window_combiner s.window))
         (united_limits s.bounds) s.lists
     pub members : AreMembers s.bounds s.lists

@@ -6,6 +6,7 @@ mod all_scorer;
 mod boost_scorer;
 mod bounded_by_sum;
 mod const_scorer;
+mod counted;
 mod disjunction;
 mod disjunction_max_combiner;
 mod do_nothing_combiner;
@@ -24,6 +25,7 @@ pub use all_scorer::AllScorer;
 pub use boost_scorer::BoostScorer;
 pub use bounded_by_sum::BoundedBySum;
 pub use const_scorer::ConstScorer;
+pub use counted::Counted;
 pub use disjunction::Disjunction;
 pub use disjunction_max_combiner::DisjunctionMaxCombiner;
 pub use do_nothing_combiner::DoNothingCombiner;
@@ -36,4 +38,6 @@ pub use reqopt_scorer::RequiredOptionalScorer;
 pub use score_combiner::ScoreCombiner;
 pub use scorer::Scorer;
 pub use sum_combiner::SumCombiner;
-pub use union::{BufferedUnionScorer, FIRST_SPAN, HORIZON, SEEK_SPAN, Window, WindowedUnion};
+pub use union::{
+    BufferedDisjunction, BufferedUnionScorer, FIRST_SPAN, HORIZON, SEEK_SPAN, Window, WindowedUnion,
+};

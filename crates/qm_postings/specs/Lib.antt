@@ -24,3 +24,4 @@ pub mod Address
 pub mod TermHead
 pub mod ShortTerms
 pub mod WordPlaces
+pub mod TermDocuments

@@ -1,7 +1,10 @@
 //! The terms of a field, and their postings.
 
-ghost use Rattle.std.specs.Prelude.{◌≡◌, ◌≤◌, ◌+◌, [], if◌then◌else◌, drop, take, length, IsSome, IfSome, ◌↔◌};
-ghost use Rattle.qm_schema.specs.Term.{TermKey, term_cmp};
+ghost use Rattle.std.specs.Prelude.{◌≡◌, ◌≤◌, ◌+◌, [], if◌then◌else◌, drop, map, take, length, IsSome, IfSome, ◌↔◌};
+ghost use Rattle.qm_docset.specs.Entry.{no_limits, plain};
+ghost use Rattle.qm_docset.specs.Lists.{Lists};
+ghost use Rattle.qm_schema.specs.Term.{TermKey};
+ghost use Rattle.qm_postings.specs.Segment.{holders};
 ghost use Rattle.qm_postings.specs.Frequencies.{listed};
 ghost use Rattle.qm_postings.specs.FieldIndex.{AreCounted, IsHeld, IsInfoOf, ListsInfo, ListsPostings, reading, shown};
 ghost use Rattle.qm_postings.specs.Kept.{in_range, positions_in};
@@ -10,6 +13,7 @@ ghost use Rattle.qm_postings.specs.TermRange.{AreTermsBetween, terms_left};
 ghost use Rattle.qm_postings.specs.Blocks.{HaveLeastIds, term_blocks};
 ghost use Rattle.qm_postings.specs.SegmentPostings.{LooksHere, postings_blocks, postings_left, reads};
 
+mod place_of;
 mod sought_term;
 mod term_order;
 mod term_range;
@@ -19,6 +23,8 @@ use crate::frequencies::{Frequencies, FrequencyPart};
 use crate::segment_postings::SegmentPostings;
 use crate::segment_reader::{SegmentReader, TermEntry};
 use crate::term_arrays::{BlockInfo, TermArrays};
+use crate::term_documents::TermDocuments;
+use place_of::place_of;
 use qm_docset::{DocId, DocSet};
 use qm_schema::{Field, IndexRecordOption, Term};
 use sought_term::SoughtTerm;
@@ -48,7 +54,8 @@ impl<'a> InvertedIndex<'a> {
     }
 
     /// What is known of a term, and `None` exactly where no document holds it, or it is of another
-    /// field. Costs the logarithm of the number of the segment's terms, and no memory.
+    /// field. Costs the same however many terms the segment has, as a rule, and at most the logarithm of
+    /// their number; no memory.
     pub fn get_term_info(&self, term: &Term) -> Option<TermInfo>
         ensures held { IsSome result ↔ IsHeld (shown self.now) term.now }
         ensures info { IfSome result (λ info. IsInfoOf (shown self.now) term.now info) }
@@ -57,15 +64,7 @@ impl<'a> InvertedIndex<'a> {
             return None;
         }
         let reader = self.reader;
-        let sought = SoughtTerm::new(term);
-        let place = reader.terms.binary_search_by(
-            |entry|
-                ensures { result ≡ term_cmp entry.now.term sought.entry.term.now }
-            { sought.compare(entry) },
-        );
-        let Ok(ordinal) = place else {
-            return None;
-        };
+        let ordinal = place_of(reader, SoughtTerm::new(term))?;
         Some(TermInfo {
             doc_freq: reader.terms[ordinal].doc_freq,
             ordinal,
@@ -76,8 +75,8 @@ impl<'a> InvertedIndex<'a> {
     /// the field keeps frequencies and they are asked for, and else with 1, and with its positions,
     /// where the field keeps positions and they are asked for, and else with none. Their `max_term_freq` is
     /// the greatest frequency of the term in the segment, whatever was asked for. `None` exactly where no
-    /// document holds the term, or it is of another field. Costs the logarithm of the number of the
-    /// segment's terms; copies nothing and takes no memory.
+    /// document holds the term, or it is of another field. Costs what [`get_term_info`](Self::get_term_info)
+    /// does; copies nothing and takes no memory.
     pub fn read_postings(
         &self,
         term: &Term,
@@ -93,6 +92,18 @@ impl<'a> InvertedIndex<'a> {
     {
         let info = self.get_term_info(term)?;
         Some(self.read_postings_from_terminfo(&info, option))
+    }
+
+    /// The documents that hold a term, and `None` exactly where no document does, or it is of another field. Costs what
+    /// [`get_term_info`](Self::get_term_info) does; copies nothing and takes no memory.
+    pub fn read_documents(&self, term: &Term) -> Option<TermDocuments<'a>>
+        ensures held { IsSome result ↔ IsHeld (shown self.now) term.now }
+        ensures lists { IfSome result (λ s. Lists ⟦<TermDocuments<'a> as DocSet>⟧ s (map plain (holders (shown self.now).reader.segment term.now)) no_limits) }
+    {
+        let info = self.get_term_info(term)?;
+        let reader = self.reader;
+        let entry = &reader.terms[info.ordinal];
+        Some(TermDocuments::new(documents_part(&reader.documents, entry)))
     }
 
     /// The postings of the term that the info is of, as [`read_postings`](Self::read_postings)

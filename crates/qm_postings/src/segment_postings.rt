@@ -14,6 +14,7 @@ ghost use Rattle.qm_postings.specs.SegmentPostings.{postings_blocks, postings_le
 ghost use Rattle.qm_postings.specs.Stored.{frequency_read};
 ghost use Rattle.qm_postings.specs.TermArrays.{AreArrays, KeepsBlocksBy, array_limits, stored};
 
+use crate::end_below::end_below;
 use crate::freq_reading_option::FreqReadingOption;
 use crate::postings::Postings;
 use crate::term_arrays::{BlockInfo, TermArrays};
@@ -281,21 +282,6 @@ impl<'a> SegmentPostings<'a> {
                 .min(self.arrays.documents.len() - start)
     }
 
-    // The place behind the next documents that are below a bound, at most as many as a buffer has room for.
-    fn end_below(&self, bound: DocId) -> usize
-        requires valid { IsPostings self.now }
-        ensures count { result ≡ self.now.cursor + min COLLECT_BLOCK_BUFFER_LEN (length (below bound (postings_left self.now))) }
-        ensures within { result ≤ length self.now.arrays.documents.now }
-    {
-        let documents = self.arrays.documents;
-        let most = COLLECT_BLOCK_BUFFER_LEN.min(documents.len() - self.cursor);
-        let end = self.cursor + most;
-        if most == 0 || documents[end - 1] < bound {
-            return end;
-        }
-        gallop(&documents[..end], self.cursor, bound)
-    }
-
     // The positions of the posting that the cursor stands on; the mark comes along.
     fn positions_here(&mut self) -> &'a [u32]
         requires valid { IsPostings self.old }
@@ -418,7 +404,7 @@ impl<'a> DocSet for SegmentPostings<'a> {
         buffer: &mut [DocId; COLLECT_BLOCK_BUFFER_LEN],
     ) -> usize {
         let documents = self.arrays.documents;
-        let end = self.end_below(bound);
+        let end = end_below(self.arrays.documents, self.cursor, bound);
         let count = end - self.cursor;
         buffer[..count].copy_from_slice(&documents[self.cursor..end]);
         self.cursor = end;

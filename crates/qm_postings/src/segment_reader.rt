@@ -13,6 +13,7 @@ use crate::fieldnorm::FieldNormReader;
 use crate::frequencies::Frequencies;
 use crate::inverted_index::InvertedIndex;
 use crate::term_arrays::BlockInfo;
+use crate::term_guesses::TermGuesses;
 use qm_docset::{AliveBitSet, BitSet, DocId, TERMINATED};
 use qm_schema::{Field, QueryError, Schema, Term};
 use std::alloc::Global;
@@ -66,6 +67,7 @@ pub struct SegmentReader {
     pub(crate) schema: Schema,
     pub(crate) block_len: u32,
     pub(crate) terms: Vec<TermEntry>,
+    pub(crate) guesses: TermGuesses,
     pub(crate) documents: Vec<DocId>,
     pub(crate) frequencies: Frequencies,
     pub(crate) positions: Vec<u32>,

@@ -185,28 +185,28 @@ cursors-step D occur tree b segment xs i x cursors after s is within should h on
     ∙ ap (λ o. if occurs_as Should o then clause_trees before Should ++ tree x ∷ [] else clause_trees before Should) should in
     cursors-push D b segment before (clauses_by occur tree (take (i + 1) xs)) (tree x) cursors after s trees h one added
 
--- ---- the union
+-- ---- what enough of the cursors have, which is their union where one is enough
 
 module _ {S : Type 0} (D : Ghosts S) (rule : BooleanRule) (clauses : Clauses) (b : ℕ) (segment : Segment)
-    (few : length segment.documents ≤ TERMINATED) (alone : AreShouldAlone clauses) (least : rule.minimum_number_should_match ≤ 1)
+    (few : length segment.documents ≤ TERMINATED) (alone : AreShouldAlone clauses) (least : ℕ) (needed : max rule.minimum_number_should_match 1 ≡ least)
     (cursors : List S) (found : AreClauseCursors D clauses b segment cursors) where
   -- what the cursors list together is the list of the clauses, where their scores are combined as the rule has it
   pub list-united : (combined : List ℕ → ℕ) → (IsTrue rule.scoring_enabled → CombinesAs rule.score_combiner combined) →
-      IsListOf (rule_tree rule clauses) b segment (gather 1 combined (lists D cursors))
+      IsListOf (rule_tree rule clauses) b segment (gather least combined (lists D cursors))
   list-united combined same =
       let n = length segment.documents in
       let mt = clause_trees clauses Must in
       let st = clause_trees clauses Should in
       let minimum = rule.minimum_number_should_match in
       let combiner = rule.score_combiner in
-      let es = gather 1 combined (lists D cursors) in
-      let needed : max minimum 1 ≡ 1 = omega (arith, least) in
+      let es = gather least combined (lists D cursors) in
+      let some : 1 ≤ least = omega (arith, needed) in
       let none = ap length alone.no_must in
       let whole = all_wanted clauses alone.no_must_not in
       let said = subst (λ ss. AreSaid n (IsTrue (trees_scoring st)) (tree_scores st b segment) (lists D ss)) (sym found.2)
       (said-found D b segment st found.0 found.1) in
-      let made = IsListing-gather n (IsTrue (trees_scoring st)) (tree_scores st b segment) (lists D cursors) said 1 combined (omega arith) few in
-      let tests : (d : ℕ) → nat_le 1 (length (tree_scores st b segment d)) ≡ is_wanted minimum (length mt) (tree_scores mt b segment d)
+      let made = IsListing-gather n (IsTrue (trees_scoring st)) (tree_scores st b segment) (lists D cursors) said least combined some few in
+      let tests : (d : ℕ) → nat_le least (length (tree_scores st b segment d)) ≡ is_wanted minimum (length mt) (tree_scores mt b segment d)
       (tree_scores st b segment d) = λ d. ap (λ k. nat_le k (length (tree_scores st b segment d))) (sym needed)
       ∙ wanted-test minimum clauses b segment d none in
       let listed : IsListOf (boolean rule.scoring_enabled minimum (combiner_of combiner) (without_must_not clauses)) b segment es =
@@ -217,7 +217,7 @@ module _ {S : Type 0} (D : Ghosts S) (rule : BooleanRule) (clauses : Clauses) (b
             (λ k d below passed. omega (
               arith,
               same on (tree_scores st b segment d),
-              combined-some combiner (tree_scores st b segment d) (omega (arith, leb-true _ _ passed)),
+              combined-some combiner (tree_scores st b segment d) (omega (arith, some, leb-true _ _ passed)),
               ap sum (none-said mt b segment d none),
             )) made)
         | inr off ↦
@@ -228,20 +228,11 @@ module _ {S : Type 0} (D : Ghosts S) (rule : BooleanRule) (clauses : Clauses) (b
 
   -- so a placed scorer of it is one of the clauses
   pub united : {U : Type 0} (E : Ghosts U) (combined : List ℕ → ℕ) → (IsTrue rule.scoring_enabled → CombinesAs rule.score_combiner combined) → (s : U) →
-      ListsGathered E D 1 combined cursors s → IsScorerOf E (rule_tree rule clauses) b segment s
+      ListsGathered E D least combined cursors s → IsScorerOf E (rule_tree rule clauses) b segment s
   united E combined same s made = record {
     list = subst (λ es. IsListOf (rule_tree rule clauses) b segment es) (sym made.entries) (list-united combined same);
     top = omega (arith, ap (λ l. l.top) made.limits, tops-cursors D b segment clauses cursors found);
     placed = record { valid = made.valid; placed = made.placed };
-  }
-
-  -- and they are cursors of which a run by blocks is one over the clauses
-  pub together : (combined : List ℕ → ℕ) → (IsTrue rule.scoring_enabled → CombinesAs rule.score_combiner combined) →
-      ListTogether D combined (rule_tree rule clauses) b segment cursors
-  together combined same = record {
-    placed = placed-cursors D b segment clauses cursors found;
-    list = list-united combined same;
-    within = λ fits. omega (arith, tops-cursors D b segment clauses cursors found, fits.0.bound_fits);
   }
 
   -- what refuses what is made of them
@@ -252,6 +243,17 @@ module _ {S : Type 0} (D : Ghosts S) (rule : BooleanRule) (clauses : Clauses) (b
       λ fits. absurd (omega (arith, past refl, tops-cursors D b segment clauses cursors found, fits.0.bound_fits))
   refused-united (Err Memory) only past = tt
   refused-united (Err e) only past = absurd only
+
+-- where one is enough they are cursors of which a run by blocks is one over the clauses
+pub together : {S : Type 0} (D : Ghosts S) (rule : BooleanRule) (clauses : Clauses) (b : ℕ) (segment : Segment) → length segment.documents ≤ TERMINATED →
+    AreShouldAlone clauses → rule.minimum_number_should_match ≤ 1 → (cursors : List S) → AreClauseCursors D clauses b segment cursors →
+    (combined : List ℕ → ℕ) → (IsTrue rule.scoring_enabled → CombinesAs rule.score_combiner combined) →
+    ListTogether D combined (rule_tree rule clauses) b segment cursors
+together D rule clauses b segment few alone least cursors found combined same = record {
+  placed = placed-cursors D b segment clauses cursors found;
+  list = list-united D rule clauses b segment few alone 1 (omega (arith, least)) cursors found combined same;
+  within = λ fits. omega (arith, tops-cursors D b segment clauses cursors found, fits.0.bound_fits);
+}
 
 -- what refuses a run over cursors that list together what a tree does
 pub refused-together : {S : Type 0} (D : Ghosts S) (combined : List ℕ → ℕ) (tree : Tree) (b : ℕ) (segment : Segment) (cursors : List S) →

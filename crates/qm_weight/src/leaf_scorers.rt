@@ -10,7 +10,7 @@ use crate::shared_runs::StandsFor;
 use qm_combine::{ConstScorer, EmptyScorer, Scorer};
 use qm_docset::{BitSetDocSet, DocSet};
 use qm_phrase::{PhrasePrefixScorer, PhraseScorer};
-use qm_postings::{SegmentPostings, SegmentReader};
+use qm_postings::{SegmentPostings, SegmentReader, TermDocuments};
 use qm_schema::QueryError;
 use qm_scorer::AnyScorer;
 use qm_term::{BorrowedTermScorer, TermScorer};
@@ -31,7 +31,7 @@ impl<'a, S: Scorer> IntoTree<AnyScorer<'a, S>> for TermScorer<'a> {
     }
 }
 
-// The scorers and postings of terms that are a tree's own are leaves as they are, with no box around them.
+// The scorers and documents of terms that are a tree's own are leaves as they are, with no box around them.
 impl<'a> IntoTree<AnyScorer<'a, BorrowedTermScorer<'a>>> for BorrowedTermScorer<'a> {
     fn into_tree(
         self,
@@ -41,12 +41,12 @@ impl<'a> IntoTree<AnyScorer<'a, BorrowedTermScorer<'a>>> for BorrowedTermScorer<
     }
 }
 
-impl<'a> IntoTree<AnyScorer<'a, ConstScorer<SegmentPostings<'a>>>>
-    for ConstScorer<SegmentPostings<'a>> {
+impl<'a> IntoTree<AnyScorer<'a, ConstScorer<TermDocuments<'a>>>>
+    for ConstScorer<TermDocuments<'a>> {
     fn into_tree(
         self,
         _alloc: Global,
-    ) -> Result<AnyScorer<'a, ConstScorer<SegmentPostings<'a>>>, QueryError> {
+    ) -> Result<AnyScorer<'a, ConstScorer<TermDocuments<'a>>>, QueryError> {
         Ok(AnyScorer::Own(self))
     }
 }

@@ -15,9 +15,9 @@ use qm_postings::SegmentReader;
 use qm_schema::{IndexRecordOption, Occur, QueryError, Term};
 use qm_scorer::{AnyCombiner, AnyScorer};
 use qm_term::Explanation;
-use runs::run_terms;
+use runs::{run_should_slices, run_terms};
 use std::alloc::Global;
-use term_union::{is_term_union, unscored_union};
+use term_union::are_all_should;
 
 mod clause_in;
 mod counted;
@@ -153,7 +153,7 @@ impl Weight for TermsWeight {
         explain_terms(self, alloc, reader, doc, 1)
     }
 
-    /// Where the terms should match, and one of them is enough, the run goes over the union of their own cursors.
+    /// Where the terms should match, the run goes over the union of their own cursors, or over what enough of these have.
     fn for_each<F: FnMut(DocId, Score)>(
         &self,
         alloc: Global,
@@ -173,9 +173,8 @@ impl Weight for TermsWeight {
         if self.rule.scoring_enabled {
             let scorer: AnyScorer<EmptyScorer> = boxed_scorer(self, alloc, reader, 1)?;
             run_node_slices(self, reader, scorer, callback);
-        } else if is_term_union(self) {
-            let union = unscored_union(self, alloc, reader, 1)?;
-            run_node_slices(self, reader, union, callback);
+        } else if are_all_should(self) {
+            run_should_slices(self, alloc, reader, callback)?;
         } else {
             let scorer = unscored_scorer(self, alloc, reader, 1)?;
             run_node_slices(self, reader, scorer, callback);

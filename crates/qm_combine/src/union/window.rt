@@ -326,17 +326,25 @@ impl<C: ScoreCombiner> Window<C> {
         taken
     }
 
+    /// The state of the combiner of a document, which the window has.
+    pub fn state(&self, doc: DocId) -> C
+        requires { window_has self.now doc ≡ true }
+        ensures { result ≡ window_state self.now doc }
+    {
+        let place = (doc - self.start) as usize;
+        if place < self.states.len() {
+            self.states[place]
+        } else {
+            self.combiner
+        }
+    }
+
     /// What the combiner makes of the scores of a document, which the window has.
     pub fn score(&self, doc: DocId) -> Score
         requires { window_has self.now doc ≡ true }
         ensures { result ≡ pos (C.value (window_state self.now doc)) }
     {
-        let place = (doc - self.start) as usize;
-        if place < self.states.len() {
-            self.states[place].score()
-        } else {
-            self.combiner.score()
-        }
+        self.state(doc).score()
     }
 
     /// Leaves of its documents those at or past `doc`.

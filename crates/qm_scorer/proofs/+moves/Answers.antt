@@ -757,7 +757,7 @@ union_node::go_on-returns-then-node-eq-TERMINATED g t c =
     let law = tree-ascends D g.met.S.DocSet.ascending in
     let members = AreMembers-map (tree_limits D) (tree_entries D) n.members.items (λ k d inside. law _ (c.requires.members.valid k d inside)) in
     let none : united n.window n.ahead (union_lists D n) ≡ gather 1 (any_combined (window_combiner n.window)) (union_lists D n) =
-    windowed-ended (window_has n.window) (kept_score n.window) (any_combined (window_combiner n.window)) _ _ members n.ahead c.requires.behind
+    windowed-ended 1 (omega arith) (window_has n.window) (kept_score n.window) (any_combined (window_combiner n.window)) _ _ members n.ahead c.requires.behind
     (λ d here. let below = c.requires.behind d here in omega (arith, c.requires.ahead)) in
     let own = united-made (tree_entries D) (tree_limits D) (IsTree D) law n.members.items n.window (window_combiner n.window) n.ahead n.ahead n.top
     (union_limits D n) (union_lists D n) c.requires.members.valid c.requires.parts refl c.requires.ahead none
@@ -876,7 +876,7 @@ union_node::seek_union-returns-in-Some g t c =
     let n = c.args.node.now in
     let members = AreMembers-map (tree_limits D) (tree_entries D) n.members.items (λ k d inside. law _ (c.requires.valid.members.valid k d inside)) in
     let h = c.requires.valid.own in
-    let went = goes_next (window_has n.window) (kept_score n.window) n.doc n.ahead (any_combined (window_combiner n.window))
+    let went = goes_next 1 (omega arith) (window_has n.window) (kept_score n.window) n.doc n.ahead (any_combined (window_combiner n.window))
     (united_limits (union_limits D n)) _ _ members h.standing c.args.target c.in-Some.doc (window_end n.window) (omega (arith, c.if-target-node.false))
     (answers_first n.window c.args.target c.in-Some.doc c.in-Some.ensures) in
     record {
@@ -911,7 +911,7 @@ union_node::seek_union-returns-then-target-node-2-clause-entries g t c =
     let n = c.args.node.now in
     let members = AreMembers-map (tree_limits D) (tree_entries D) n.members.items (λ k d inside. law _ (c.requires.valid.members.valid k d inside)) in
     c.go_on.ensures.entries
-    ∙ goes_on (window_has n.window) (kept_score n.window) n.doc n.ahead (any_combined (window_combiner n.window))
+    ∙ goes_on 1 (omega arith) (window_has n.window) (kept_score n.window) n.doc n.ahead (any_combined (window_combiner n.window))
     (united_limits (union_limits D n)) _ _ members
     c.requires.valid.own.standing c.args.target (omega (arith, c.if-target-node.false)) (omega (arith, c.if-target-node-2.true))
     (answers_none n.window c.args.target c.in_default.ensures)
@@ -953,7 +953,7 @@ union_node::seek_union-returns-clause-entries g t c =
     let reached : c.args.target ≤ least_head (union_lists D new) =
     omega (arith, ap least_head e.lists, least_head-cut_from c.args.target (union_lists D n) c.requires.target) in
     c.go_on-2.ensures.entries ∙ ap (λ w. gather 1 (any_combined (window_combiner w)) (union_lists D new)) e.window
-    ∙ goes_past (window_has n.window) (kept_score n.window) n.doc n.ahead (any_combined (window_combiner n.window))
+    ∙ goes_past 1 (omega arith) (window_has n.window) (kept_score n.window) n.doc n.ahead (any_combined (window_combiner n.window))
     (united_limits (union_limits D n)) _ _ members h.standing c.args.target _ _ after (omega (arith, c.if-target-node.false))
     (answers_none n.window c.args.target c.in_default.ensures) reached kept
 

@@ -1,15 +1,18 @@
 //! The count of a weight of terms.
 
-ghost use Rattle.std.specs.Prelude.{◌≡◌, ◌≤◌, IfErr, IfOk};
+ghost use Rattle.std.specs.Prelude.{◌≡◌, ◌≤◌, IfErr, IfOk, IsTrue};
 ghost use Rattle.qm_docset.specs.Entry.{greatest_score};
 ghost use Rattle.qm_weight.specs.Counts.{alive_count};
 ghost use Rattle.qm_weight.specs.Scorers.{IsRefusalOf};
+ghost use Rattle.qm_weight.specs.TermUnions.{AreAllShould};
 ghost use Rattle.qm_weight.specs.Weights.{terms_tree};
 
 use crate::counts::count_alive;
 use crate::terms_weight::TermsWeight;
 use crate::terms_weight::joined::{boxed_scorer, unscored_scorer};
-use crate::terms_weight::term_union::{is_term_union, unscored_union};
+use crate::terms_weight::term_union::{
+    are_all_should, is_one_enough, unscored_disjunction, unscored_union,
+};
 use qm_combine::EmptyScorer;
 use qm_postings::SegmentReader;
 use qm_schema::QueryError;
@@ -31,10 +34,30 @@ pub(crate) fn count_terms(
         let mut scorer: AnyScorer<EmptyScorer> = boxed_scorer(weight, alloc, reader, boost)?;
         return Ok(count_alive(&mut scorer, reader));
     }
-    if is_term_union(weight) {
-        let mut union = unscored_union(weight, alloc, reader, boost)?;
-        return Ok(count_alive(&mut union, reader));
+    if are_all_should(weight) {
+        return count_should(weight, alloc, reader, boost);
     }
     let mut scorer = unscored_scorer(weight, alloc, reader, boost)?;
     Ok(count_alive(&mut scorer, reader))
+}
+
+// The same of terms that should match, where scoring is off.
+fn count_should(
+    weight: &TermsWeight,
+    alloc: Global,
+    reader: &SegmentReader,
+    boost: u64,
+) -> Result<u32, QueryError>
+    requires boost { boost ≤ greatest_score }
+    requires should { AreAllShould weight.now.clauses.items }
+    requires off { ¬ IsTrue weight.now.rule.scoring_enabled }
+    ensures count { IfOk result (λ n. n ≡ alive_count (terms_tree weight.now) reader.now.segment) }
+    ensures refused { IfErr result (IsRefusalOf (terms_tree weight.now) boost) }
+{
+    if is_one_enough(weight) {
+        let mut union = unscored_union(weight, alloc, reader, boost)?;
+        return Ok(count_alive(&mut union, reader));
+    }
+    let mut disjunction = unscored_disjunction(weight, alloc, reader, boost)?;
+    Ok(count_alive(&mut disjunction, reader))
 }

@@ -1,16 +1,20 @@
-//! The run with scores.
+//! The runs over each document.
 
-ghost use Rattle.std.specs.Prelude.{◌≡◌, IfErr, OnErr, OnOk};
+ghost use Rattle.std.specs.Fn.{CalledAt, TakesAt};
+ghost use Rattle.std.specs.Prelude.{◌≡◌, IfErr, IsTrue, OnErr, OnOk};
 ghost use Rattle.qm_weight.specs.Scorers.{IsRefusalOf};
-ghost use Rattle.qm_weight.specs.TermUnions.{CombinesAs, IsTermUnion};
-ghost use Rattle.qm_weight.specs.TreeRuns.{CallsTree, MayCallTree};
+ghost use Rattle.qm_weight.specs.TermUnions.{AreAllShould, CombinesAs};
+ghost use Rattle.qm_weight.specs.TreeRuns.{CallsSlices, CallsTree, MayCallSlices, MayCallTree};
 ghost use Rattle.qm_weight.specs.Weights.{terms_tree};
 
-use crate::shared_runs::run_node;
+use crate::shared_runs::{run_node, run_node_slices};
 use crate::terms_weight::TermsWeight;
 use crate::terms_weight::joined::borrowed_scorer;
-use crate::terms_weight::term_union::{is_term_union, union_of_terms};
-use qm_combine::{BufferedUnionScorer, ScoreCombiner};
+use crate::terms_weight::term_union::{
+    are_all_should, disjunction_of_terms, is_one_enough, union_of_terms, unscored_disjunction,
+    unscored_union,
+};
+use qm_combine::{BufferedDisjunction, BufferedUnionScorer, ScoreCombiner};
 use qm_docset::{DocId, Score};
 use qm_postings::SegmentReader;
 use qm_schema::QueryError;
@@ -30,22 +34,22 @@ pub(super) fn run_terms<F: FnMut(DocId, Score)>(
     ensures unchanged { OnErr result (callback.new ≡ callback.old) }
     ensures refused { IfErr result (IsRefusalOf (terms_tree weight.now) 1) }
 {
-    if is_term_union(weight) {
-        return run_union(weight, alloc, reader, callback);
+    if are_all_should(weight) {
+        return run_should(weight, alloc, reader, callback);
     }
     let scorer = borrowed_scorer(weight, alloc, reader, 1)?;
     run_node(weight, reader, scorer, callback);
     Ok(())
 }
 
-// The run over the union of the terms' cursors, by the combiner of the weight.
-fn run_union<F: FnMut(DocId, Score)>(
+// The run over terms that should match, by the combiner of the weight.
+fn run_should<F: FnMut(DocId, Score)>(
     weight: &TermsWeight,
     alloc: Global,
     reader: &SegmentReader,
     callback: &mut F,
 ) -> Result<(), QueryError>
-    requires terms { IsTermUnion weight.now }
+    requires should { AreAllShould weight.now.clauses.items }
     requires allowed { MayCallTree F.step F.pre (terms_tree weight.now) reader.now.segment callback.old }
     ensures calls { OnOk result (CallsTree F.step (terms_tree weight.now) reader.now.segment callback.old callback.new) }
     ensures unchanged { OnErr result (callback.new ≡ callback.old) }
@@ -65,16 +69,48 @@ fn run_by<C: ScoreCombiner, F: FnMut(DocId, Score)>(
     combiner: C,
     callback: &mut F,
 ) -> Result<(), QueryError>
-    requires terms { IsTermUnion weight.now }
+    requires should { AreAllShould weight.now.clauses.items }
     requires combiner { CombinesAs weight.now.rule.score_combiner (C.combined combiner) }
     requires allowed { MayCallTree F.step F.pre (terms_tree weight.now) reader.now.segment callback.old }
     ensures calls { OnOk result (CallsTree F.step (terms_tree weight.now) reader.now.segment callback.old callback.new) }
     ensures unchanged { OnErr result (callback.new ≡ callback.old) }
     ensures refused { IfErr result (IsRefusalOf (terms_tree weight.now) 1) }
 {
-    let union: BufferedUnionScorer<BorrowedTermScorer<'_>, C> = union_of_terms(
-        weight, alloc, reader, 1, combiner,
-    )?;
-    run_node(weight, reader, union, callback);
+    if is_one_enough(weight) {
+        let union: BufferedUnionScorer<BorrowedTermScorer<'_>, C> = union_of_terms(
+            weight, alloc, reader, 1, combiner,
+        )?;
+        run_node(weight, reader, union, callback);
+    } else {
+        let disjunction: BufferedDisjunction<BorrowedTermScorer<'_>, C> = disjunction_of_terms(
+            weight, alloc, reader, 1, combiner,
+        )?;
+        run_node(weight, reader, disjunction, callback);
+    }
+    Ok(())
+}
+
+// The calls with the slices of the documents of terms that should match, over postings alone, where scoring is off.
+pub(super) fn run_should_slices<F: FnMut(&[DocId])>(
+    weight: &TermsWeight,
+    alloc: Global,
+    reader: &SegmentReader,
+    callback: &mut F,
+) -> Result<(), QueryError>
+    requires should { AreAllShould weight.now.clauses.items }
+    requires off { ¬ IsTrue weight.now.rule.scoring_enabled }
+    requires allowed { MayCallSlices (λ f xs g. CalledAt F.FnMut f xs tt g) (TakesAt F.FnMut) (terms_tree weight.now) reader.now.segment callback.old }
+    ensures calls { OnOk result
+        (CallsSlices (λ f xs g. CalledAt F.FnMut f xs tt g) (terms_tree weight.now) reader.now.segment callback.old callback.new) }
+    ensures unchanged { OnErr result (callback.new ≡ callback.old) }
+    ensures refused { IfErr result (IsRefusalOf (terms_tree weight.now) 1) }
+{
+    if is_one_enough(weight) {
+        let union = unscored_union(weight, alloc, reader, 1)?;
+        run_node_slices(weight, reader, union, callback);
+    } else {
+        let disjunction = unscored_disjunction(weight, alloc, reader, 1)?;
+        run_node_slices(weight, reader, disjunction, callback);
+    }
     Ok(())
 }

@@ -9,12 +9,12 @@ ghost use Rattle.qm_weight.specs.TermUnions.{is_scored_in, tree_in};
 use crate::terms_weight::clause_in::ClauseIn;
 use qm_combine::{ConstScorer, Scorer};
 use qm_docset::DocSet;
-use qm_postings::{SegmentPostings, SegmentReader};
-use qm_schema::{IndexRecordOption, QueryError};
+use qm_postings::{SegmentReader, TermDocuments};
+use qm_schema::QueryError;
 use qm_term::{BorrowedTermScorer, TermScorer};
 
-// The postings of a term, for whom no score is asked.
-pub(super) type Unscored<'a> = ConstScorer<SegmentPostings<'a>>;
+// The documents of a term, for whom no score is asked.
+pub(super) type Unscored<'a> = ConstScorer<TermDocuments<'a>>;
 
 /// A cursor over the documents of a segment that hold a term.
 pub(super) trait TermCursor<'a>: Scorer {
@@ -70,8 +70,8 @@ impl<'a> TermCursor<'a> for Unscored<'a> {
     ) -> Result<Option<Unscored<'a>>, QueryError> {
         let term = &clause.clause.term;
         let index = reader.inverted_index(term.field());
-        match index.read_postings(term, IndexRecordOption::Basic) {
-            Some(postings) => Ok(Some(ConstScorer::new(postings, 0))),
+        match index.read_documents(term) {
+            Some(documents) => Ok(Some(ConstScorer::new(documents, 0))),
             None => Ok(None),
         }
     }

@@ -1,7 +1,7 @@
-//! Terms that should match, one of which is enough: a union of the terms' own cursors, with no tree of scorers between
-//! them, as tantivy has it too.
+//! Terms that should match: where one of them is enough a union of the terms' own cursors, and else what enough of these
+//! have, with no tree of scorers between them. Tantivy has the union so too.
 
-ghost use Rattle.std.specs.Prelude.{◌≡◌, ◌≤◌, IfErr, IfOk, IsTrue, true};
+ghost use Rattle.std.specs.Prelude.{◌≡◌, ◌≤◌, ◌↔◌, IfErr, IfOk, IsTrue, true};
 ghost use Rattle.qm_docset.specs.Entry.{greatest_score};
 ghost use Rattle.qm_schema.specs.declared.occur.Occur.TheVariants.{Should};
 ghost use Rattle.qm_weight.specs.ClauseScorers.{IsClauseRefusal};
@@ -12,7 +12,7 @@ ghost use Rattle.qm_weight.specs.Weights.{terms_tree};
 use crate::terms_weight::clause_in::ClauseIn;
 use crate::terms_weight::term_cursor::{TermCursor, Unscored};
 use crate::terms_weight::{TermClause, TermsWeight};
-use qm_combine::{BufferedUnionScorer, DoNothingCombiner, ScoreCombiner};
+use qm_combine::{BufferedDisjunction, BufferedUnionScorer, DoNothingCombiner, ScoreCombiner};
 use qm_docset::DocSet;
 use qm_postings::SegmentReader;
 use qm_schema::{Occur, QueryError};
@@ -22,10 +22,24 @@ use std::alloc::Global;
 pub(super) fn is_term_union(weight: &TermsWeight) -> bool
     ensures { result ≡ true → IsTermUnion weight.now }
 {
-    weight.rule.minimum_number_should_match <= 1 && are_all_should(&weight.clauses)
+    is_one_enough(weight) && are_all_should(weight)
 }
 
-fn are_all_should(clauses: &[TermClause]) -> bool
+// Whether one of the terms is enough, where they should match.
+pub(super) fn is_one_enough(weight: &TermsWeight) -> bool
+    ensures { (result ≡ true) ↔ (weight.now.rule.minimum_number_should_match ≤ 1) }
+{
+    weight.rule.minimum_number_should_match <= 1
+}
+
+// Whether the terms should match, however many of them have to.
+pub(super) fn are_all_should(weight: &TermsWeight) -> bool
+    ensures { result ≡ true → AreAllShould weight.now.clauses.items }
+{
+    each_should(&weight.clauses)
+}
+
+fn each_should(clauses: &[TermClause]) -> bool
     ensures { result ≡ true → AreAllShould clauses.now }
 {
     for clause in clauses {
@@ -62,6 +76,24 @@ pub(super) fn unscored_union<'a>(
     union_of_terms(weight, alloc, reader, boost, DoNothingCombiner)
 }
 
+// What enough of the terms have, over postings alone, where scoring is off.
+pub(super) fn unscored_disjunction<'a>(
+    weight: &'a TermsWeight,
+    alloc: Global,
+    reader: &'a SegmentReader,
+    boost: u64,
+) -> Result<BufferedDisjunction<Unscored<'a>, DoNothingCombiner>, QueryError>
+    requires boost { boost ≤ greatest_score }
+    requires should { AreAllShould weight.now.clauses.items }
+    requires several { 2 ≤ weight.now.rule.minimum_number_should_match }
+    requires off { ¬ IsTrue weight.now.rule.scoring_enabled }
+    ensures scorer { IfOk result
+        (IsScorerOf ⟦<BufferedDisjunction<Unscored<'a>, DoNothingCombiner> as DocSet>⟧ (terms_tree weight.now) boost reader.now.segment) }
+    ensures refused { IfErr result (IsRefusalOf (terms_tree weight.now) boost) }
+{
+    disjunction_of_terms(weight, alloc, reader, boost, DoNothingCombiner)
+}
+
 // The union of the terms' cursors at a boost, which is a scorer of the weight. Where scoring is on the cursors give
 // scores, and the combiner is that of the weight.
 pub(super) fn union_of_terms<'a, T: TermCursor<'a>, C: ScoreCombiner>(
@@ -80,6 +112,28 @@ pub(super) fn union_of_terms<'a, T: TermCursor<'a>, C: ScoreCombiner>(
 {
     let cursors = cursors_of_terms(weight, alloc, reader, boost)?;
     BufferedUnionScorer::build(alloc, cursors, combiner, reader.max_doc())
+}
+
+// What enough of the terms' cursors have at a boost, which is a scorer of the weight. Where scoring is on the cursors
+// give scores, and the combiner is that of the weight.
+pub(super) fn disjunction_of_terms<'a, T: TermCursor<'a>, C: ScoreCombiner>(
+    weight: &'a TermsWeight,
+    alloc: Global,
+    reader: &'a SegmentReader,
+    boost: u64,
+    combiner: C,
+) -> Result<BufferedDisjunction<T, C>, QueryError>
+    requires boost { boost ≤ greatest_score }
+    requires should { AreAllShould weight.now.clauses.items }
+    requires several { 2 ≤ weight.now.rule.minimum_number_should_match }
+    requires scores { IsTrue weight.now.rule.scoring_enabled → T.gives_scores }
+    requires combiner { IsTrue weight.now.rule.scoring_enabled → CombinesAs weight.now.rule.score_combiner (C.combined combiner) }
+    ensures scorer { IfOk result (IsScorerOf ⟦<BufferedDisjunction<T, C> as DocSet>⟧ (terms_tree weight.now) boost reader.now.segment) }
+    ensures refused { IfErr result (IsRefusalOf (terms_tree weight.now) boost) }
+{
+    let cursors = cursors_of_terms(weight, alloc, reader, boost)?;
+    let minimum = weight.rule.minimum_number_should_match;
+    BufferedDisjunction::build(alloc, cursors, combiner, minimum, reader.max_doc())
 }
 
 // The cursors of the terms that are there, in order.

@@ -1,5 +1,5 @@
 -- The window has the document, so that nothing is lost from there on.
-use Rattle.std.proofs.Common.{◌≡◌, map}
+use Rattle.std.proofs.Common.{◌≡◌, arith, map}
 use Rattle.qm_docset.specs.Entry.{from}
 use Rattle.qm_docset.specs.GatherFacts.{AreMembers-map}
 use Rattle.qm_combine.specs.Union.{united_limits}
@@ -16,7 +16,7 @@ use Rattle.qm_scorer.proofs.union_node.UnionNodeWindowedUnionAnyCombiner.stand_o
 
 stood : (g : Over) (c : Start g)
     → (united c.args.self.now.window c.args.doc (union_lists g.S.DocSet c.args.self.now) ≡ from c.args.doc (union_list g.S.DocSet c.args.self.now))
-    × IsWindowed (window_has c.args.self.now.window) (kept_score c.args.self.now.window) c.args.doc c.args.self.now.ahead
+    × IsWindowed 1 (window_has c.args.self.now.window) (kept_score c.args.self.now.window) c.args.doc c.args.self.now.ahead
     (any_combined (window_combiner c.args.self.now.window)) (united_limits (union_limits g.S.DocSet c.args.self.now)) (union_lists g.S.DocSet c.args.self.now)
 stood g c =
     let D = g.S.DocSet in
@@ -24,7 +24,7 @@ stood g c =
     let h = c.requires.standing in
     let members = AreMembers-map (tree_limits D) (tree_entries D) n.members.items
     (λ k d inside. tree-ascends D g.met.S.DocSet.ascending _ (h.members.valid k d inside)) in
-    stands_on (window_has n.window) (kept_score n.window) n.doc n.ahead (any_combined (window_combiner n.window))
+    stands_on 1 (omega arith) (window_has n.window) (kept_score n.window) n.doc n.ahead (any_combined (window_combiner n.window))
     (united_limits (map (tree_limits D) n.members.items)) _ _ members h.own.standing c.args.doc c.requires.behind c.requires.there
 
 pub returns-clause-entries : goal.returns-clause-entries

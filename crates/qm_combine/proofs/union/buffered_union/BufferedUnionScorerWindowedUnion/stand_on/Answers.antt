@@ -1,5 +1,5 @@
 -- The window has the document, so that nothing is lost from there on.
-use Rattle.std.proofs.Common.{◌≡◌, map}
+use Rattle.std.proofs.Common.{◌≡◌, arith, map}
 use Rattle.qm_docset.specs.Entry.{from}
 use Rattle.qm_docset.specs.GatherFacts.{AreMembers-map}
 use Rattle.qm_docset.specs.Lists.{bounds, lists}
@@ -17,14 +17,14 @@ stood : (g : Over) (c : Start g)
     → (union_entries g.S.DocSet g.C.ScoreCombiner.combined g.C.ScoreCombiner.value c.args.self.now.window c.args.doc c.args.self.now.members.items
     ≡ from c.args.doc (union_entries g.S.DocSet g.C.ScoreCombiner.combined g.C.ScoreCombiner.value c.args.self.now.window c.args.self.now.doc
     c.args.self.now.members.items))
-    × IsWindowed (window_has c.args.self.now.window) (kept_score g.C.ScoreCombiner.combined g.C.ScoreCombiner.value c.args.self.now.window) c.args.doc
+    × IsWindowed 1 (window_has c.args.self.now.window) (kept_score g.C.ScoreCombiner.combined g.C.ScoreCombiner.value c.args.self.now.window) c.args.doc
     c.args.self.now.ahead (g.C.ScoreCombiner.combined (window_combiner c.args.self.now.window))
     (united_limits (bounds g.S.DocSet c.args.self.now.members.items)) (lists g.S.DocSet c.args.self.now.members.items)
 stood g c =
     let s = c.args.self.now in
     let h = c.requires.standing in
     let members = AreMembers-map g.S.DocSet.limits g.S.DocSet.entries s.members.items (λ k d inside. g.met.S.DocSet.ascending _ (h.valid k d inside)) in
-    stands_on (window_has s.window) (kept_score g.C.ScoreCombiner.combined g.C.ScoreCombiner.value s.window) s.doc s.ahead
+    stands_on 1 (omega arith) (window_has s.window) (kept_score g.C.ScoreCombiner.combined g.C.ScoreCombiner.value s.window) s.doc s.ahead
     (g.C.ScoreCombiner.combined (window_combiner s.window)) (united_limits (map g.S.DocSet.limits s.members.items)) _ _ members h.own.standing
     c.args.doc c.requires.behind c.requires.there
 

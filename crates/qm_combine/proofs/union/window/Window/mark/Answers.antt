@@ -1,8 +1,8 @@
 -- No state is kept, so none changes.
-use Rattle.std.proofs.Common.{◌≡◌, ◌==◌, ◌||◌, ◌-◌, ◌++◌, length, drop, take, ap, ne_eqb, arith, sym, ◌∙◌, inl, inr}
+use Rattle.std.proofs.Common.{◌==◌, ◌||◌, ◌-◌, length, ap, ne_eqb, arith, sym, ◌∙◌, inl, inr}
 use Rattle.std.proofs.lemmas.Bool.{cases_eq}
 use Rattle.qm_docset.specs.Words.{words_have}
-use Rattle.qm_combine.specs.Window.{window_has, window_state}
+use Rattle.qm_combine.specs.Window.{window_has}
 use Rattle.qm_combine.proofs.Leading.{whole}
 use Rattle.qm_combine.proofs.WindowWords.{has_at, has_at-put, window_state-none}
 use Rattle.qm_combine.proofs.union.window.Window.mark.Goals as goal

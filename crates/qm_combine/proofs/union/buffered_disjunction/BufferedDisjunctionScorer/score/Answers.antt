@@ -1,0 +1,29 @@
+-- The window keeps the score of the document.
+use Rattle.std.proofs.Common.{◌<◌, ap, arith, map, pos, sym, w64, ◌∙◌}
+use Rattle.std.proofs.lemmas.Int.{to_z-of_z}
+use Rattle.qm_docset.specs.GatherFacts.{AreMembers-map}
+use Rattle.qm_docset.specs.declared.numbers.TheConstants.{TERMINATED}
+use Rattle.qm_combine.specs.BufferedDisjunction.{enough_score, has_enough}
+use Rattle.qm_combine.specs.Union.{united_limits}
+use Rattle.qm_combine.specs.Window.{window_combiner}
+use Rattle.qm_combine.specs.declared.counted.Counted.{Counted}
+use Rattle.qm_combine.proofs.CountedWindows.{has_enough-there}
+use Rattle.qm_combine.proofs.Standing.{score_here}
+use Rattle.qm_combine.proofs.union.buffered_disjunction.BufferedDisjunctionScorer.score.Goals as goal
+
+pub score-requires : goal.score-requires
+score-requires g c =
+    let s = c.args.self.now in
+    let h = c.requires.valid in
+    has_enough-there s.minimum h.some s.window (ap (λ (k : Counted g.row.C.Denot). k.count) h.parts.start.is) s.doc
+    (h.standing.here (omega (arith, h.standing.first, c.requires.here)))
+
+pub returns-clause-score : goal.returns-clause-score
+returns-clause-score g c =
+    let s = c.args.self.now in
+    let h = c.requires.valid in
+    let below : s.doc < TERMINATED = omega (arith, h.standing.first, c.requires.here) in
+    let members = AreMembers-map g.S.DocSet.limits g.S.DocSet.entries s.members.items (λ k d inside. g.met.S.DocSet.ascending _ (h.valid k d inside)) in
+    to_z-of_z w64 c.score.result (record { sfits = c.score.type_inv }) ∙ c.score.ensures
+    ∙ ap pos (sym (score_here s.minimum h.some (has_enough s.minimum s.window) (enough_score g.C.ScoreCombiner.value s.window) s.doc s.ahead
+    (g.C.ScoreCombiner.combined (window_combiner s.window).combiner) (united_limits (map g.S.DocSet.limits s.members.items)) _ _ members h.standing below))
