@@ -6,9 +6,7 @@ ghost use Rattle.qm_docset.specs.Entry.{head_document, head_score};
 use crate::answer::Answer;
 use crate::gathered::read_maximum;
 use cases::{Asker, Block, Fault, Memory, Report, end_refusals, play_asked, word};
-use qm_combine::{
-    AllScorer, ConstScorer, Counted, DoNothingCombiner, ScoreCombiner, SumCombiner,
-};
+use qm_combine::{AllScorer, ConstScorer, Counted, DoNothingCombiner, ScoreCombiner, SumCombiner};
 use qm_docset::{DocSet, Score};
 use std::alloc::Global;
 
