@@ -1,7 +1,9 @@
 -- What callers find, and what they do.
-use Rattle.std.specs.Prelude.{◌≡◌, ℕ, ℤ, ◌⊎◌, ◌&&◌, All, Bool, IsTrue, List, Option, filter, length, slice_get}
+use Rattle.std.specs.Prelude.{◌≡◌, ℕ, ℤ, ◌⊎◌, ◌&&◌, All, Bool, IsTrue, List, Option, filter, length, nat_le, slice_get}
 use Rattle.std.specs.List.{range_with_len}
-use Rattle.qm_docset.specs.Entry.{head_document}
+use Rattle.qm_docset.specs.Entry.{Entry, head_document}
+use Rattle.qm_docset.specs.Gather.{documents_below, scores_at}
+use Rattle.qm_docset.specs.declared.numbers.TheConstants.{TERMINATED}
 use Rattle.qm_index.specs.Indexed.{Deletes, Indexed, with_document_of}
 use Rattle.qm_postings.specs.Blocks.{Block, looked_at, term_blocks}
 use Rattle.qm_postings.specs.Document.{Draft}
@@ -40,6 +42,10 @@ Replaces number draft before after existed = (s : Indexed) × Deletes number bef
 -- the documents that hold two terms
 abbrev pub holders_of_both : Segment → TermKey → TermKey → List ℕ
 holders_of_both segment first second = filter (λ d. holds segment first d && holds segment second d) (range_with_len 0 (length segment.documents))
+
+-- the documents that at least so many of several lists have
+abbrev pub documents_in_enough : ℕ → List (List Entry) → List ℕ
+documents_in_enough minimum ess = filter (λ d. nat_le minimum (length (scores_at d ess))) (documents_below TERMINATED)
 
 -- every other one of all that is found stands behind it
 abbrev pub StandsFirst : List (DocAddress × ℤ) → ℤ × DocAddress → Type 0

@@ -4,6 +4,7 @@
 
 mod best;
 mod callers;
+mod cursor_callers;
 mod index_callers;
 mod laws;
 mod library_use;
@@ -15,6 +16,7 @@ mod weight_callers;
 
 pub use best::{BestPairs, best_pairs};
 pub use callers::{Joined, collect_calls, collect_matches, count_calls, join_slices};
+pub use cursor_callers::{documents_in_enough, documents_with_term};
 pub use index_callers::{replace_document, searched_segments, unsearched_documents};
 pub use laws::{
     Both, collect_boosted, collect_reordered, join_and_collect, join_scored_and_unscored,
