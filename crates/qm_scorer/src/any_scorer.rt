@@ -100,7 +100,8 @@ pub(crate) fn doc_tree<'a, S: Scorer>(scorer: &AnyScorer<'a, S>) -> DocId
 }
 
 // Moves a tree to its first document at or past the target.
-// A term comes first, in a body that is inlined: most of what nodes move are terms.
+// A term and a scorer of the caller's own come first, in a body that is inlined: most of what nodes move are terms, and
+// those of a weight of terms are scorers of its own.
 #[cycle(moves)]
 #[inline(always)]
 #[tactic(auto, using(crate::specs::MoveFacts::moves))]
@@ -111,6 +112,7 @@ pub(crate) fn seek_tree<'a, S: Scorer>(scorer: &mut AnyScorer<'a, S>, target: Do
 {
     match scorer {
         AnyScorer::Term(leaf) => leaf.seek(target),
+        AnyScorer::Own(leaf) => leaf.seek(target),
         _ => seek_other(scorer, target),
     }
 }
@@ -169,6 +171,7 @@ pub(crate) fn danger_tree<'a, S: Scorer>(
 {
     match scorer {
         AnyScorer::Term(leaf) => leaf.seek_danger(target),
+        AnyScorer::Own(leaf) => leaf.seek_danger(target),
         _ => danger_other(scorer, target),
     }
 }
@@ -206,6 +209,7 @@ pub(crate) fn score_tree<'a, S: Scorer>(scorer: &mut AnyScorer<'a, S>) -> u64
 {
     match scorer {
         AnyScorer::Term(leaf) => leaf.score() as u64,
+        AnyScorer::Own(leaf) => leaf.score() as u64,
         _ => score_other(scorer),
     }
 }

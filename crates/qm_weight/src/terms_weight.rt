@@ -74,7 +74,7 @@ impl TermClause {
 /// Must term stands in, no MustNot term, and at least so many of the Should terms.
 ///
 /// The norms of the length ids stand here once: a clause takes five words of the machine, and the weight of a term by
-/// itself a kilobyte more. So its runs go over cursors that borrow the norms, and with scoring off over postings alone.
+/// itself a kilobyte more. So its runs go over cursors that borrow the norms, and with scoring off over documents alone.
 #[derive(Drop)]
 pub struct TermsWeight {
     pub(crate) clauses: Vec<TermClause>,
@@ -163,7 +163,7 @@ impl Weight for TermsWeight {
         run_terms(self, alloc, reader, callback)
     }
 
-    /// The same over postings alone, where scoring is off.
+    /// The same over documents alone, where scoring is off.
     fn for_each_no_score<F: FnMut(&[DocId])>(
         &self,
         alloc: Global,

@@ -36,7 +36,7 @@ use Rattle.qm_scorer.specs.TreeFacts.{tree-ascends}
 use Rattle.qm_scorer.specs.LeastDocs.{least_of}
 use Rattle.qm_scorer.proofs.GroupHeads.{AreHeads-put, all-reached, head-least, heads-length, least_of-heads, passed-more, scores_at-skipped}
 use Rattle.qm_scorer.proofs.Groups.{HasRoom-moved, group-ended, group-enough, group-moved, group-passed, group-reached, group-there, least_head-from}
-use Rattle.qm_scorer.proofs.Depth.{most-set, same-Term, size-kept, size-led}
+use Rattle.qm_scorer.proofs.Depth.{most-set, same-Own, same-Term, size-kept, size-led}
 use Rattle.qm_scorer.proofs.Depth.{size-members, size-others, size-united}
 use Rattle.qm_scorer.proofs.HandedOn.{leaf-scored, leaf-sent}
 use Rattle.qm_scorer.proofs.Heads.{tree-head, boost-fits, tree-here}
@@ -46,7 +46,7 @@ use Rattle.qm_scorer.proofs.MoveArms.{moved-Intersection, moved-RequiredOptional
 use Rattle.qm_scorer.proofs.Opened.{entries-Disjunction, entries-Intersection, entries-Union, opened-Disjunction, opened-Union, placed-Intersection}
 use Rattle.qm_scorer.specs.declared.any_scorer.AnyScorer.{AnyScorer, size-AnyScorer}
 use Rattle.qm_scorer.specs.declared.any_scorer.AnyScorer.TheVariants.{Boost, Const, Disjunction, Exclude, Intersection}
-use Rattle.qm_scorer.specs.declared.any_scorer.AnyScorer.TheVariants.{RequiredOptional, Term, Union, outs-Boost, outs-Const}
+use Rattle.qm_scorer.specs.declared.any_scorer.AnyScorer.TheVariants.{Own, RequiredOptional, Term, Union, outs-Boost, outs-Const}
 use Rattle.qm_scorer.specs.declared.any_scorer.AnyScorer.TheVariants.{outs-Disjunction, outs-Exclude, outs-Intersection, outs-RequiredOptional, outs-Union}
 use Rattle.qm_scorer.specs.declared.group_node.Shape.{Shape}
 use Rattle.qm_scorer.specs.declared.intersection_node.IntersectionNode.{size_is-IntersectionNode}
@@ -1222,6 +1222,22 @@ any_scorer::danger_tree-returns-in-Term g t c =
     c.in-Term.leaf c.seek_danger.new.self c.in-Term.leaf-is c.in-Term.is c.seek_danger.ensures.answer c.seek_danger.ensures.entries
     (ap (λ (l : Limits). l.top) c.seek_danger.ensures.limits) c.seek_danger.ensures.valid c.seek_danger.ensures.placed (search rules)
 
+-- ---- and one of the caller's own
+
+pub any_scorer::seek_tree-returns-in-Own : goal.any_scorer::seek_tree-returns-in-Own
+any_scorer::seek_tree-returns-in-Own g t c =
+    let sought = c.seek-in-Own in
+    sought-leaf g.S.DocSet Own g.S.DocSet.entries (λ _. refl) (same-Own g.row.S.Denot) c.args.target sought.result
+    c.in-Own.leaf sought.new.self c.in-Own.leaf-is c.in-Own.is sought.ensures.head sought.ensures.entries
+    (ap (λ (l : Limits). l.top) sought.ensures.limits) sought.ensures.valid sought.ensures.placed (search rules)
+
+pub any_scorer::danger_tree-returns-in-Own : goal.any_scorer::danger_tree-returns-in-Own
+any_scorer::danger_tree-returns-in-Own g t c =
+    let sought = c.seek_danger-in-Own in
+    answered-leaf g.S.DocSet Own g.S.DocSet.entries (λ _. refl) (same-Own g.row.S.Denot) c.args.target sought.result
+    c.in-Own.leaf sought.new.self c.in-Own.leaf-is c.in-Own.is sought.ensures.answer sought.ensures.entries
+    (ap (λ (l : Limits). l.top) sought.ensures.limits) sought.ensures.valid sought.ensures.placed (search rules)
+
 -- ---- the nodes of the enum
 pub any_scorer::seek_other-returns-in-Boost : goal.any_scorer::seek_other-returns-in-Boost
 any_scorer::seek_other-returns-in-Boost g t c =
@@ -1807,6 +1823,15 @@ any_scorer::score_tree-returns-in-Term g t c =
     c.in-Term.leaf-is c.in-Term.is c.requires.here score (score_fits _ _ scored.ensures.score scored.type_inv) scored.ensures.entries
     (ap (λ (l : Limits). l.top) scored.ensures.limits) scored.ensures.valid scored.ensures.placed (search rules)
 
+pub any_scorer::score_tree-returns-in-Own : goal.any_scorer::score_tree-returns-in-Own
+any_scorer::score_tree-returns-in-Own g t c =
+    let leaf = c.in-Own.leaf in
+    let scored = c.score-in-Own in
+    let score = score_cast scored.result _ scored.ensures.score scored.type_inv in
+    scored-leaf g.S.DocSet Own g.S.DocSet.entries (λ _. refl) (λ _. refl) (same-Own g.row.S.Denot) leaf scored.new.self
+    c.in-Own.leaf-is c.in-Own.is c.requires.here score (score_fits _ _ scored.ensures.score scored.type_inv) scored.ensures.entries
+    (ap (λ (l : Limits). l.top) scored.ensures.limits) scored.ensures.valid scored.ensures.placed (search rules)
+
 -- ---- the nodes of the enum
 
 pub any_scorer::score_other-score_boost-requires : goal.any_scorer::score_other-score_boost-requires
@@ -1948,7 +1973,7 @@ union_node::take_document-score_tree-score-requires g t c κs within =
       (search rules, (r.valid, (r.placed, omega (arith, here, r.here, r.some)))),
     )
 
--- ---- a term, asked
+-- ---- a term or a scorer of the caller's own, asked
 
 pub any_scorer::seek_tree-seek-requires : goal.any_scorer::seek_tree-seek-requires
 any_scorer::seek_tree-seek-requires g t c =
@@ -1961,3 +1986,15 @@ any_scorer::danger_tree-seek_danger-requires g t c =
 pub any_scorer::score_tree-score-requires : goal.any_scorer::score_tree-score-requires
 any_scorer::score_tree-score-requires g t c =
     leaf-scored g.S.DocSet Term (λ s. scored_left s.value) (λ _. refl) c.in-Term.leaf-is c.in-Term.is c.requires.valid c.requires.placed c.requires.here
+
+pub any_scorer::seek_tree-seek-requires-in-Own : goal.any_scorer::seek_tree-seek-requires-in-Own
+any_scorer::seek_tree-seek-requires-in-Own g t c =
+    leaf-sent g.S.DocSet Own c.in-Own.leaf-is c.in-Own.is c.requires.valid c.requires.target
+
+pub any_scorer::danger_tree-seek_danger-requires-in-Own : goal.any_scorer::danger_tree-seek_danger-requires-in-Own
+any_scorer::danger_tree-seek_danger-requires-in-Own g t c =
+    leaf-sent g.S.DocSet Own c.in-Own.leaf-is c.in-Own.is c.requires.valid c.requires.target
+
+pub any_scorer::score_tree-score-requires-in-Own : goal.any_scorer::score_tree-score-requires-in-Own
+any_scorer::score_tree-score-requires-in-Own g t c =
+    leaf-scored g.S.DocSet Own g.S.DocSet.entries (λ _. refl) c.in-Own.leaf-is c.in-Own.is c.requires.valid c.requires.placed c.requires.here

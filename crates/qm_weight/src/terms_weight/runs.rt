@@ -90,7 +90,7 @@ fn run_by<C: ScoreCombiner, F: FnMut(DocId, Score)>(
     Ok(())
 }
 
-// The calls with the slices of the documents of terms that should match, over postings alone, where scoring is off.
+// The calls with the slices of the documents of terms that should match, over documents alone, where scoring is off.
 pub(super) fn run_should_slices<F: FnMut(&[DocId])>(
     weight: &TermsWeight,
     alloc: Global,

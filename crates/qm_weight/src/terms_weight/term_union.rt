@@ -59,7 +59,7 @@ fn is_should(occur: Occur) -> bool
     }
 }
 
-// The union over postings alone, where scoring is off.
+// The union over documents alone, where scoring is off.
 pub(super) fn unscored_union<'a>(
     weight: &'a TermsWeight,
     alloc: Global,
@@ -76,7 +76,7 @@ pub(super) fn unscored_union<'a>(
     union_of_terms(weight, alloc, reader, boost, DoNothingCombiner)
 }
 
-// What enough of the terms have, over postings alone, where scoring is off.
+// What enough of the terms have, over documents alone, where scoring is off.
 pub(super) fn unscored_disjunction<'a>(
     weight: &'a TermsWeight,
     alloc: Global,
