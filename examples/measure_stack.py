@@ -1,7 +1,8 @@
 #!/usr/bin/env python3
 """How much stack a deep query takes: for each form of a query, how many bytes each of its levels takes at each stage of
 its answer, how deep it could so be on the 8 megabytes that a Linux system gives, and the least stack with which 499 of
-it are answered.
+it are answered. The forms are those of tests/program_runs/deep_queries.py, among them a Boolean of each sign, and of
+each pair and triple of signs. The last line has the least stack with which all of them are answered.
 
     python3 examples/measure_stack.py [PROGRAM]
 
@@ -18,20 +19,14 @@ import sys
 import tempfile
 
 HERE = os.path.dirname(os.path.abspath(__file__))
+sys.dont_write_bytecode = True
+sys.path.insert(0, os.path.join(HERE, "..", "tests"))
+
+from program_runs.deep_queries import FORMS, LEVELS, script
+
 BUILT = os.path.join(HERE, "..", "crates", "qm_search", "out", "qm_search")
-STACK, DEEPEST = 8 << 20, 499
+STACK = 8 << 20
 FEW, MANY = 3, 11
-# forms, each with all that stands before the query inside
-FORMS = {
-    "`boost`": b"boost 1 ",
-    "`const`": b"const 1 ",
-    "`bool` of one clause": b"bool 0 1 + ",
-    "`bool` of two with `+`": b"bool 0 2 + term a + ",
-    "`bool` of two with `?`": b"bool 1 2 ? term a ? ",
-    "`bool` with `-`": b"bool 0 2 + all - ",
-    "`max` of one": b"max 0 1 ",
-    "`max` of two": b"max 500 2 term a ",
-}
 # lines with a query; the first three go through all stages
 LINES = [b"scores ", b"count ", b"prune 0 ", b"docs ", b"top 3 "]
 STAGED = LINES[:3]
@@ -100,10 +95,6 @@ def recursive(program):
     return {stage: [address for of, address in called if of == stage] for stage in STAGES}
 
 
-def script(form, line, levels):
-    return b"doc a\n" + line + form * levels + b"term a\n"
-
-
 def spans(program, called, text):
     """By address of a function: how far apart the stack is at its calls."""
     with tempfile.TemporaryDirectory() as room:
@@ -120,7 +111,7 @@ def bytes_of_levels(program, called, form):
     most = dict.fromkeys(STAGES, 0)
     addresses = [it for of_stage in called.values() for it in of_stage]
     for line in STAGED:
-        few, many = (spans(program, addresses, script(form, line, levels)) for levels in (FEW, MANY))
+        few, many = (spans(program, addresses, script(line, form, levels)) for levels in (FEW, MANY))
         for stage, of_stage in called.items():
             grown = [many[it] - few.get(it, many[it]) for it in of_stage if it in many]
             most[stage] = max([most[stage], *(round(it / (MANY - FEW)) for it in grown)])
@@ -139,7 +130,7 @@ def least_stack(program, form):
     least, most = 16, STACK >> 10
     while least < most:
         size = (least + most) // 2
-        if all(is_answered(program, script(form, line, DEEPEST), size << 10) for line in LINES):
+        if all(is_answered(program, script(line, form, LEVELS), size << 10) for line in LINES):
             most = size
         else:
             least = size + 1
@@ -148,13 +139,15 @@ def least_stack(program, form):
 
 def main():
     program = os.path.abspath(sys.argv[1] if len(sys.argv) > 1 else BUILT)
-    called = recursive(program)
+    called, most = recursive(program), 0
     print("bytes of stack a level, and in brackets how many levels 8 megabytes have")
-    print("| Form |", " | ".join(STAGES), f"| {DEEPEST} of it take |")
-    for name, form in FORMS.items():
-        levels = bytes_of_levels(program, called, form)
+    print("| Form |", " | ".join(STAGES), f"| {LEVELS} of it take |")
+    for form in (it.before for it in FORMS):
+        levels, least = bytes_of_levels(program, called, form), least_stack(program, form)
         told = [f"{it} ({STACK // it})" if it else "none" for it in levels.values()]
-        print(f"| {name} |", " | ".join(told), f"| {least_stack(program, form)} kB |", flush=True)
+        most = max(most, least)
+        print(f"| `{form.decode().strip()}` |", " | ".join(told), f"| {least} kB |", flush=True)
+    print(f"{most} kB are enough for all of them")
 
 
 if __name__ == "__main__":

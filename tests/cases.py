@@ -24,11 +24,18 @@ ROOT = os.path.realpath(os.path.join(os.path.dirname(os.path.abspath(__file__)),
 PROGRAMS = {
     "cases_cursors": ["qm_docset", "qm_combine"],
     "cases_postings": ["qm_schema", "qm_postings", "qm_index", "qm_term", "qm_phrase"],
-    "cases_queries": ["qm_scorer", "qm_weight", "qm_query"],
+    "cases_weights": ["qm_scorer", "qm_weight"],
+    "cases_queries": ["qm_query"],
     "cases_scripts": ["qm_script"],
 }
 # how many rows by chance each program plays
-ROWS = {"cases_cursors": 20_000, "cases_postings": 50_000, "cases_queries": 300_000, "cases_scripts": 6_000}
+ROWS = {
+    "cases_cursors": 20_000,
+    "cases_postings": 75_000,
+    "cases_weights": 200_000,
+    "cases_queries": 100_000,
+    "cases_scripts": 6_000,
+}
 # A program that takes longer than this many seconds is taken never to end.
 LIMIT = 600
 # Files of this name are played with a stack of one megabyte.

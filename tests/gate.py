@@ -6,11 +6,12 @@
 `rt ci` proves all crates from nothing, but for those that an earlier run on this machine proved as they are,
 tries the wrong bodies of must-fail/ and runs the programs. As soon as it says of a crate that it is proved or
 kept, tests/wrong_bodies.py tries the others of that crate beside it, at the lowest priority, so that proofs
-wait for nothing; then tests/refused_calls.py looks whether each public call has its rows under refused memory,
-tests/cases.py plays the cases, and tests/program_runs.py and tests/birch_runs.py run the programs `qm_search`
-and `birch`; at last what docs/ has of specs/ and of crates.txt is compared with these, and the commands that the
-documents show are run. The last line counts what passed; the exit status is 1 where anything did not. Called by
-.ci/run.
+wait for nothing: those whose refusal does not stand, and some by chance (refused_before.py). tests/refusal_rows.py
+has rows of what counts as refused. Then tests/refused_calls.py looks whether each public call has its rows under
+refused memory, tests/cases.py plays the cases, and tests/program_runs.py and tests/birch_runs.py run the programs
+`qm_search` and `birch`; at last what docs/ has of specs/ and of crates.txt is compared with these, and the commands
+that the documents show are run. Then two tables say how many minutes each crate and each stage took, for
+docs/GATE.md. The last line counts what passed; the exit status is 1 where anything did not. Called by .ci/run.
 """
 
 import os
@@ -21,31 +22,41 @@ import threading
 import time
 from concurrent.futures import ThreadPoolExecutor
 
-ROOT = os.path.realpath(os.path.join(os.path.dirname(os.path.abspath(__file__)), ".."))
+sys.dont_write_bytecode = True
+HERE = os.path.dirname(os.path.abspath(__file__))
+sys.path.insert(0, HERE)
+
+import kit  # noqa: E402
+import wrong_bodies  # noqa: E402
+from crate_minutes import CrateMinutes  # noqa: E402
+
+ROOT = os.path.realpath(os.path.join(HERE, ".."))
 # what each stage counts in its last line
 COUNTED = {
     "proofs and wrong bodies of must-fail": r"(\d+) passed, \d+ failed",
-    "wrong bodies": r"wrong bodies: (\d+) as wanted, \d+ not",
+    "wrong bodies": r"wrong bodies: (\d+) as wanted, \d+ undecided, \d+ not",
+    "rows of refusals": r"refusal rows: (\d+) as wanted",
     "calls under refusals": r"refused calls: (\d+) as wanted",
     "rows": r"cases: (\d+) rows, \d+ wrong",
     "program runs": r"program runs: (\d+) as wanted",
     "birch runs": r"birch runs: (\d+) as wanted",
+    "forms that grow as wanted": r"growth: (\d+) as wanted",
     "words": r"definitions: (\d+) as specs/ says",
     "crates drawn": r"layers: (\d+) crates as crates.txt says",
     "documented commands": r"documented commands: (\d+) as wanted",
 }
 # what is run behind the proofs
 PLAYED = {
+    "rows of refusals": ["refusal_rows.py"],
     "calls under refusals": ["refused_calls.py"],
     "rows": ["cases.py"],
     "program runs": ["program_runs.py"],
     "birch runs": ["birch_runs.py"],
+    "forms that grow as wanted": ["growth.py"],
     "words": ["definitions.py", "--check"],
     "crates drawn": ["layers.py", "--check"],
     "documented commands": ["documented_commands.py"],
 }
-# what `rt ci` says of a crate that it has proved, or that an earlier run on this machine had
-PROVED = re.compile(r"rt: (\w+) (?:proved|is kept: .*)")
 PRINTING = threading.Lock()
 
 
@@ -56,51 +67,72 @@ class Stage:
         self.name, self.start = name, time.monotonic()
         self.is_well, self.count, self.minutes = True, 0, 0.0
 
-    def run(self, words, heard=lambda line: None):
+    def run(self, words, heard=lambda line: None, begun=lambda process: None):
         """Runs a part of it, prints what that says, and takes what its last line counts."""
         how = {"stdout": subprocess.PIPE, "stderr": subprocess.STDOUT, "text": True}
         last = ""
         with subprocess.Popen(words, cwd=ROOT, **how) as it:
+            begun(it)
             for last in it.stdout:
                 with PRINTING:
                     print(last, end="", flush=True)
                 heard(last.rstrip("\n"))
         counted = re.fullmatch(COUNTED[self.name], last.rstrip("\n"))
-        self.is_well = self.is_well and it.returncode == 0 and counted is not None
-        self.count += int(counted[1]) if counted else 0
-        self.minutes = (time.monotonic() - self.start) / 60
+        # (two crates' wrong bodies may end at once)
+        with PRINTING:
+            self.is_well = self.is_well and it.returncode == 0 and counted is not None
+            self.count += int(counted[1]) if counted else 0
+            self.minutes = (time.monotonic() - self.start) / 60
 
 
-def prove(wrong_bodies, pool):
-    """Proves everything; the wrong bodies of a crate are tried once that is proved."""
-    waiting = {*os.listdir(f"{ROOT}/tests/wrong_bodies")}
-    beside = ["nice", "-n", "19", sys.executable, "tests/wrong_bodies.py", "--built"]
+class Proofs:
+    """The proofs, and beside them the wrong bodies of each crate once that is proved."""
 
-    def heard(line):
-        proved = PROVED.fullmatch(line)
-        if proved and proved[1] in waiting:
-            waiting.remove(proved[1])
-            tried.append(pool.submit(wrong_bodies.run, [*beside, proved[1]]))
+    def __init__(self, pool):
+        self.pool, self.told, self.tried, self.seconds = pool, CrateMinutes(), [], {}
+        self.stage, self.wrong_bodies = Stage("proofs and wrong bodies of must-fail"), Stage("wrong bodies")
+        self.waiting = {*wrong_bodies.crates_with_edits()}
+        chance = ",".join(sorted(wrong_bodies.plan_of(kit.crates_of(ROOT), []).chance))
+        self.beside = ["nice", "-n", "19", sys.executable, "tests/wrong_bodies.py", "--built", "--chance", chance]
 
-    proofs, tried = Stage("proofs and wrong bodies of must-fail"), []
-    proofs.run(["rt", "ci"], heard)
-    return proofs, tried, waiting
+    def run(self):
+        self.stage.run(["rt", "ci"], self.hear, self.begin)
+        self.told.over.set()
+        self.told.join()
+
+    def begin(self, process):
+        self.told.root = process.pid
+        self.told.start()
+
+    def hear(self, line):
+        crate = self.told.hear(line, time.monotonic())
+        if crate in self.waiting:
+            self.waiting.remove(crate)
+            self.tried.append(self.pool.submit(self.try_wrong_bodies, crate))
+
+    def try_wrong_bodies(self, crate):
+        start = time.monotonic()
+        self.wrong_bodies.run([*self.beside, crate])
+        self.seconds[crate] = time.monotonic() - start
 
 
 def main():
     # two crates' wrong bodies beside the proofs, which leaves memory for these
     with ThreadPoolExecutor(2) as pool:
-        wrong_bodies = Stage("wrong bodies")
-        proofs, tried, waiting = prove(wrong_bodies, pool)
-        stages = [proofs, wrong_bodies]
+        proofs = Proofs(pool)
+        proofs.run()
+        stages = [proofs.stage, proofs.wrong_bodies]
         # what is not proved is not built either
-        if proofs.is_well:
+        if proofs.stage.is_well:
             for name, (script, *words) in PLAYED.items():
                 stages.append(Stage(name))
                 stages[-1].run([sys.executable, f"tests/{script}", *words])
-        for it in tried:
+        for it in proofs.tried:
             it.result()
-    is_well = all(it.is_well for it in stages) and len(stages) == len(COUNTED) and not waiting
+    is_well = all(it.is_well for it in stages) and len(stages) == len(COUNTED) and not proofs.waiting
+    print("\n".join(["", "Minutes by crate:", "", *proofs.told.table(proofs.seconds)]))
+    rows = [f"| {it.name} | {it.minutes:.1f} |" for it in stages]
+    print("\n".join(["", "Minutes by stage:", "", "| Stage | Minutes |", "|---|---|", *rows, ""]))
     told = ", ".join(f"{it.count} {it.name} ({it.minutes:.0f} min)" for it in stages)
     print(f"gate {'passed' if is_well else 'FAILED'}: {told}")
     return 0 if is_well else 1

@@ -9,6 +9,8 @@ import os
 import shutil
 import subprocess
 
+from contracts import contracts_of
+
 PARTS = ("src", "specs", "proofs")
 HOME = os.path.dirname(os.path.dirname(os.path.realpath(shutil.which("rt") or "")))
 
@@ -43,13 +45,31 @@ class Crate:
         with open(f"{self.folder}/{path}", encoding="utf-8") as it:
             return it.read()
 
-    def sum(self, parts=PARTS):
+    def sum(self, parts):
         """A checksum of these folders of the crate, and of all below it, and of the toolchain."""
         made = hashlib.sha256(version().encode())
         for crate in [*self.below(), self]:
             made.update(crate.line.encode())
             for path in crate.files(parts):
                 made.update(repr((path, crate.read(path))).encode())
+        return made.hexdigest()
+
+    def own_sum(self):
+        """A checksum of the crate's own line and files."""
+        made = hashlib.sha256(self.line.encode())
+        for path in self.files():
+            made.update(repr((path, self.read(path))).encode())
+        return made.hexdigest()
+
+    def contracts_sum(self):
+        """A checksum of the contracts and definitions of the crates below, which its proof stands on."""
+        made = hashlib.sha256()
+        for crate in self.below():
+            made.update(crate.line.encode())
+            for path in crate.files():
+                seen = contracts_of(path, crate.read(path))
+                if seen is not None:
+                    made.update(repr((path, seen)).encode())
         return made.hexdigest()
 
 

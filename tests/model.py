@@ -390,6 +390,18 @@ def best(limit, tree, segments):
     return sorted(found, key=lambda it: (-it[2], it[0], it[1]))[:limit]
 
 
+# ---- parts of an open segment
+
+
+def parts_built(parts, waiting):
+    """How many documents each part has once those that wait are built as one, together with the parts before them,
+    from the last on, as long as these have fewer than twice as many."""
+    found = list(parts)
+    while waiting and found and found[-1] < 2 * waiting:
+        waiting += found.pop()
+    return [*found, waiting] if waiting else found
+
+
 # ---- blocks
 
 
@@ -424,16 +436,31 @@ def block_bound(points, norms, block):
     return points * block.most // (block.most + norms[block.least_id]) if block.most else 0
 
 
-def most_ticks(pairs, bounds, threshold, answers):
-    """How many documents a pruned run scores at most: those whose block is bounded above the threshold there."""
-    ticks = calls = 0
-    for doc, points in pairs:
-        ticks += bounds[doc] > threshold
+def thresholds(pairs, threshold, answers):
+    """The threshold of a pruned run at each document, before it is called."""
+    found, calls = [], 0
+    for _, points in pairs:
+        found.append(threshold)
         if points > threshold:
             answer = answers[min(calls, len(answers) - 1)]
             threshold = points if answer == "score" else answer
             calls += 1
-    return ticks
+    return found
+
+
+def most_ticks(pairs, bounds, threshold, answers):
+    """How many documents a pruned run scores at most: those whose block is bounded above the threshold there."""
+    return sum(bounds[doc] > here for (doc, _), here in zip(pairs, thresholds(pairs, threshold, answers)))
+
+
+def single_turns(pairs, bounds, ends, threshold, answers):
+    """How many turns the run over one term takes: the documents that it scores, and the blocks that it passes, which
+    are those whose bound is not above the threshold at their last document."""
+    behind = [doc for doc, _ in pairs[1:]] + [END + 1]
+    last = [ends[doc] < after for (doc, _), after in zip(pairs, behind)]
+    current = thresholds(pairs, threshold, answers)
+    passed = sum(bounds[doc] <= here for (doc, _), here, ends_it in zip(pairs, current, last) if ends_it)
+    return most_ticks(pairs, bounds, threshold, answers) + passed
 
 
 def slices(tree, documents):

@@ -20,6 +20,7 @@ from model import (
     best,
     fits,
     matching,
+    parts_built,
     prefix_count,
     phrase_count,
     pruned,
@@ -222,6 +223,15 @@ def rows_of_runs():
     yield "no slice", slices(word("z"), []), []
 
 
+def rows_of_parts():
+    """Parts of an open segment as documents come."""
+    yield "one document at a time", parts_built([4, 2], 1), [4, 2, 1]
+    yield "one that closes all", parts_built([4, 2, 1], 1), [8]
+    yield "fewer than twice as many", parts_built([8, 4, 1], 2), [15]
+    yield "twice as many stay", parts_built([8, 4], 2), [8, 4, 2]
+    yield "none came", parts_built([4, 1, 1], 0), [4, 1, 1]
+
+
 def each(score, *documents):
     return dict.fromkeys(documents, score)
 
@@ -257,6 +267,7 @@ TABLES = (
     rows_of_scores,
     rows_of_queries,
     rows_of_runs,
+    rows_of_parts,
     rows_of_scorers,
 )
 

@@ -23,6 +23,7 @@ sys.dont_write_bytecode = True
 from program_runs import (
     chance_scripts,
     cut_scripts,
+    deep_queries,
     flat_queries,
     hostile_bytes,
     input_and_output,
@@ -38,7 +39,7 @@ HERE = os.path.dirname(os.path.abspath(__file__))
 BUILT = os.path.join(HERE, "..", "crates", "qm_search", "out", "qm_search")
 # checks that are one run after another, and those whose runs are shared out
 CHECKS = [whole_scripts, single_lines, long_scripts, input_and_output]
-SHARED = [flat_queries, refused_memory, cut_scripts, hostile_bytes]
+SHARED = [flat_queries, deep_queries, refused_memory, cut_scripts, hostile_bytes]
 
 
 def arguments():

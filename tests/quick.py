@@ -19,6 +19,7 @@ from cases import PROGRAMS, ROOT
 # it stands here, not optimised; what the others play is much, or hangs on how deep a stack they need.
 BUILT = {
     "birch": [],
+    "cases_weights": ["--optimised"],
     "cases_queries": ["--optimised"],
     "qm_search": ["--optimised"],
     "cases_scripts": ["--optimised"],
@@ -43,6 +44,7 @@ def main(words):
             [f"{ROOT}/tests/cases.py", "--built", room, *words],
             [f"{ROOT}/tests/program_runs.py", f"{room}/qm_search"],
             [f"{ROOT}/tests/birch_runs.py", f"{room}/birch"],
+            [f"{ROOT}/tests/growth.py", f"{room}/qm_search"],
             [f"{ROOT}/tests/definitions.py", "--check"],
             [f"{ROOT}/tests/layers.py", "--check"],
             [f"{ROOT}/tests/documented_commands.py"],

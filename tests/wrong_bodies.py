@@ -1,14 +1,14 @@
 #!/usr/bin/env python3
 """Tries wrong bodies: each edit in tests/wrong_bodies/CRATE must be refused by that crate's contracts.
 
-    python3 tests/wrong_bodies.py [--built] [--anew] [--write] [--said FOLDER] [CRATE..]
+    python3 tests/wrong_bodies.py [--built] [--all] [--write] [--said FOLDER] [--chance NAMES] [CRATE..]
 
 wrong_edit.py says what an edit is. A function's proof stands on the contracts of what it calls and not on
 their bodies, so edits of different functions are tried in one check. A batch has at most one edit of a
 function, and of a cycle of functions, which have one proof. An edit counts only where the check says of its
 own function that it is not proved and shows which goal fails; that a function only calls another which is
-not proved, or that a proof only lost a name, does not count. What a batch leaves undecided so is tried once
-more, and at last alone. First the crate as it stands must be proved for these functions; each check of a
+not proved, or that a proof only lost a name, does not count (refusals.py). What a batch leaves undecided so is
+tried once more, and at last alone, with the names that it lost changed along in its proof (renamed_proof.py). First the crate as it stands must be proved for these functions; each check of a
 batch begins with the work that this one kept. Right behind `rt ci`, which has proved it, the first batch goes
 without that, and the others begin with the work that the first one kept, two beside each other where there are
 processors and memory for them.
@@ -16,17 +16,19 @@ processors and memory for them.
 An edit whose line says `refused by: the compiler, CODE` must not reach the prover: it is tried alone, and the
 check must end with that error.
 
-What was refused is kept in ~/.cache/birchagain/wrong_bodies, or in the folder that WRONG_BODIES_KEPT names,
-by the sums of the crate, of all crates below it, of the edit and of the toolchain, and is not tried again;
---anew tries all. Libraries are built where they have changed; with --built they are taken as `rt ci` has left
-them. --write writes the lines `refused by:` anew from what the checks say, and --said keeps what they wrote.
-RT_JOBS says how many processors are used. The exit status is 1 where an edit is not refused.
+What was refused is kept, in the repository and on this machine, and tried again where refused_before.py says so;
+--all tries every one. A run draws by chance what it tries of those that the repository alone vouches for, and prints
+what it drew by; --chance has the names, with commas between them, where the gate has drawn. What stays undecided is
+named and counted apart. Libraries are built where
+they have changed; with --built they are taken as `rt ci` has left them. --write writes the lines `refused by:` anew
+from what the checks say, and --said keeps what they wrote. RT_JOBS says how many processors are used. The exit
+status is 1 where an edit is proved, or can't be tried.
 """
 
-import hashlib
 import os
 import re
 import shutil
+import subprocess
 import sys
 import tempfile
 import threading
@@ -38,40 +40,19 @@ HERE = os.path.dirname(os.path.abspath(__file__))
 sys.path.insert(0, HERE)
 
 import kit  # noqa: E402
-from refusals import Verdict  # noqa: E402
+import refused_before  # noqa: E402
+from refusals import Verdict, messages, own_folders  # noqa: E402
+from renamed_proof import renamed, renames_of  # noqa: E402
 from wrong_edit import COMPILER, BadEdit, Edit, batches_of  # noqa: E402
 
+ROOT = os.path.dirname(HERE)
 EDITS = f"{HERE}/wrong_bodies"
-FLAGS = ("--built", "--anew", "--write", "--said")
+FLAGS = ("--built", "--all", "--write", "--said", "--chance")
 # what a check takes at most, in bytes
 ROOM = 3_000_000_000
+# how often a proof gets names that an edit changed
+ROUNDS = 4
 PRINTING = threading.Lock()
-
-
-class Kept:
-    """What was refused before: a file for each edit, named by the sums of all that its refusal hangs on."""
-
-    def __init__(self, crate, anew):
-        at = os.environ.get("WRONG_BODIES_KEPT") or os.path.expanduser("~/.cache/birchagain/wrong_bodies")
-        self.folder, self.crate, self.sum, self.anew = at, crate, crate.sum(), anew
-
-    def file(self, edit):
-        return f"{self.folder}/{hashlib.sha256(f'{self.sum} {edit.text}'.encode()).hexdigest()}"
-
-    def has(self, edit):
-        return not self.anew and os.path.isfile(self.file(edit))
-
-    def is_current(self):
-        """Whether nobody has changed the crate since."""
-        return self.sum == self.crate.sum()
-
-    def keep(self, edit):
-        try:
-            os.makedirs(self.folder, exist_ok=True)
-            with open(self.file(edit), "w", encoding="utf-8") as it:
-                it.write(f"{self.crate.name}/{edit.name}\n")
-        except OSError:
-            pass  # (where nothing can be kept it is tried again)
 
 
 class Lanes:
@@ -92,19 +73,34 @@ class Lanes:
 
 
 class Trial:
-    """The edits of one crate: how many went as wanted, and how many did not."""
+    """The edits of one crate: how many went as wanted, how many did not, and how many stay undecided."""
 
-    def __init__(self, crate, options, lanes):
-        self.crate, self.options, self.lanes = crate, options, lanes
-        self.kept, self.counts = Kept(crate, "--anew" in options), [0, 0]
+    def __init__(self, crate, options, lanes, plan):
+        self.crate, self.options, self.lanes, self.plan = crate, options, lanes, plan
+        self.around, self.counts = refused_before.around(crate), [0, 0, 0]
         self.left = self.edits_left()
         # how many of its checks run beside each other
         self.beside = 1
 
     def tell(self, name, is_well, said, how="not tried"):
-        self.counts[not is_well] += 1
+        self.count(not is_well, name, said, how)
+
+    def tell_undecided(self, edit, said, how):
+        """Says that no goal shows whether a contract refuses an edit."""
+        self.count(2, edit.name, said, how)
+
+    def count(self, which, name, said, how):
+        self.counts[which] += 1
         with PRINTING:
             print(f"wrong body {self.crate.name}/{name} ({how}): {' '.join(said.split())}", flush=True)
+
+    def tell_not_refused(self, edit, said, how):
+        """Says that a check has not refused an edit; where the repository's file vouched for it, that is void."""
+        self.tell(edit.name, False, said, how)
+        if self.plan.is_vouched_for(f"{self.crate.name}/{edit.name}", self.around.of(edit.text)):
+            with PRINTING:
+                print(f"wrong bodies: {refused_before.FILE} vouched for it, and is void: --all is to run", flush=True)
+            refused_before.void()
 
     def run(self):
         """Tries the edits that are left."""
@@ -113,14 +109,26 @@ class Trial:
         self.lanes.done()
 
     def edits_left(self):
-        """The edits that were not refused before."""
+        """The edits that are tried: all but those whose refusal stands."""
         left = []
         for edit in self.edits():
-            if self.kept.has(edit):
-                self.tell(edit.name, True, f"refused before by {edit.refused_by}", "kept")
-            else:
+            name, sums = f"{self.crate.name}/{edit.name}", self.around.of(edit.text)
+            if self.plan.why_tried(name, sums):
                 left.append(edit)
+            else:
+                where, _ = self.plan.stands(name, sums)
+                self.tell(edit.name, True, f"refused before by {edit.refused_by}", f"kept {where}")
         return left
+
+    def keep(self, edit):
+        """Notes that an edit was refused, here and in the repository."""
+        name, sums = f"{self.crate.name}/{edit.name}", self.around.of(edit.text)
+        self.plan.here.keep(name, sums)
+        refused_before.write({name: sums})
+
+    def is_current(self):
+        """Whether nobody has changed the crate since."""
+        return self.around == refused_before.around(self.crate)
 
     def edits(self):
         """The crate's edits that can be tried."""
@@ -140,12 +148,15 @@ class Trial:
         """Checks an edit that the compiler must refuse."""
         start = time.monotonic()
         with tempfile.TemporaryDirectory(prefix="wrong-bodies-") as kept:
-            _, lines = self.check(edit.name, [edit], edit.apply(self.crate, {}), kept)
+            status, lines = self.check(edit.name, [edit], edit.apply(self.crate, {}), kept)
         how, code = f"{time.monotonic() - start:.0f} s, alone", edit.refused_by.removeprefix(COMPILER)
         said = next((it for it in lines if f"error[{code}]" in it), None)
-        if said and self.kept.is_current():
-            self.kept.keep(edit)
-        self.tell(edit.name, said is not None, said or f"the compiler does not say {code}: {lines[-1]}", how)
+        if said and self.is_current():
+            self.keep(edit)
+        if said or status is None:
+            self.tell(edit.name, said is not None, said or f"the compiler does not say {code}: {lines[-1]}", how)
+        else:
+            self.tell_not_refused(edit, f"NOT REFUSED: {lines[-1]}", how)
 
     def try_all(self, edits, room):
         """Checks the crate as it stands, then the edits in batches, and at last alone what two batches left."""
@@ -202,28 +213,52 @@ class Trial:
     def try_batch(self, batch, texts, seed, room):
         """Tries these edits in one check, and returns those that it leaves undecided."""
         start, left = time.monotonic(), []
-        if os.listdir(seed):
-            with tempfile.TemporaryDirectory(dir=room) as over:
-                linked(seed, f"{over}/seed")
-                status, lines = self.check(batch[0].name, batch, texts, f"{over}/seed")
-        else:
-            # what is proved beside the wrong bodies need not be proved again
-            status, lines = self.check(batch[0].name, batch, texts, seed)
+        status, lines = self.check_over(batch, texts, seed, room)
         # (whoever changes the crate while it is checked has it checked again)
-        is_kept = self.kept.is_current()
+        is_kept = self.is_current()
         how = f"{time.monotonic() - start:.0f} s, {f'one of {len(batch)}' if len(batch) > 1 else 'alone'}"
         for edit in batch:
-            verdict = Verdict(self.crate, edit, lines)
+            verdict, along = Verdict(self.crate, edit, lines), ""
+            if len(batch) == 1 and status is not None and verdict.is_undecided():
+                verdict, along = self.with_renamed_proof(edit, lines, seed, room), ", its proof's names changed along"
             refusal = verdict.refusal() if status is not None else None
             if refusal:
-                self.settle(edit, *refusal, how, is_kept)
+                self.settle(edit, *refusal, f"{how}{along}", is_kept)
             elif len(batch) > 1 and (status is not None or self.is_read(edit, seed)):
                 left.append(edit)
+            elif status is not None and verdict.is_undecided():
+                self.tell_undecided(edit, verdict.why_not(), f"{how}{along}")
             elif status is not None:
-                self.tell(edit.name, False, verdict.why_not(), how)
+                self.tell_not_refused(edit, verdict.why_not(), f"{how}{along}")
             elif len(batch) == 1:
                 self.tell(edit.name, False, f"BAD EDIT: it did not reach the prover: {' '.join(lines)[:300]}", how)
         return left
+
+    def check_over(self, batch, texts, seed, room):
+        """Checks a batch over what was proved before."""
+        if not os.listdir(seed):
+            # what is proved beside the wrong bodies need not be proved again
+            return self.check(batch[0].name, batch, texts, seed)
+        with tempfile.TemporaryDirectory(dir=room) as over:
+            linked(seed, f"{over}/seed")
+            return self.check(batch[0].name, batch, texts, f"{over}/seed")
+
+    def with_renamed_proof(self, edit, lines, seed, room):
+        """What checks say of an edit whose proof has lost names, once it has those that are there now. Each check
+        shows what the names before it hid."""
+        texts, verdict, names = edit.apply(self.crate, {}), Verdict(self.crate, edit, lines), {}
+        own = [it for it in self.crate.files(("proofs",)) if re.match(own_folders(edit), it)]
+        for _ in range(ROUNDS):
+            found = renames_of(messages(lines), names)
+            if not found or not verdict.is_undecided():
+                break
+            names |= found
+            texts |= {path: renamed(texts.get(path) or self.crate.read(path), found) for path in own}
+            status, lines = self.check_over([edit], texts, seed, room)
+            if status is None:
+                break
+            verdict = Verdict(self.crate, edit, lines)
+        return verdict
 
     def is_read(self, edit, seed):
         """Whether the crate with this edit alone is one that can be checked, as a batch with it was not."""
@@ -241,7 +276,7 @@ class Trial:
             with open(f"{EDITS}/{self.crate.name}/{edit.name}", "w", encoding="utf-8") as it:
                 it.write(edit.text)
         if is_kept:
-            self.kept.keep(edit)
+            self.keep(edit)
         if edit.refused_by in words:
             said = edit.refused_by
         else:
@@ -318,27 +353,63 @@ def size(crate):
     return (1 + len(crate.below())) * sum(len(crate.read(it)) for it in crate.files())
 
 
+def head():
+    """The commit that is checked out, which chooses the tenth."""
+    ran = subprocess.run(["git", "rev-parse", "HEAD"], cwd=ROOT, capture_output=True, text=True)
+    return ran.stdout.strip()
+
+
+def crates_with_edits():
+    return sorted(it for it in os.listdir(EDITS) if os.path.isdir(f"{EDITS}/{it}"))
+
+
+def plan_of(known, words):
+    """What a run tries: what its words name by chance, or else what it draws."""
+    plan, named = refused_before.Plan(head(), "--all" in words), option(words, "--chance")
+    plan.chance = {*(drawn(known, plan) if named is None else named.split(","))}
+    return plan
+
+
+def drawn(known, plan):
+    """What is tried by chance of the edits that the repository's file alone vouches for."""
+    if plan.is_all:
+        return []
+    names = []
+    for crate in (known[it] for it in crates_with_edits()):
+        around = refused_before.around(crate)
+        for name in os.listdir(f"{EDITS}/{crate.name}"):
+            with open(f"{EDITS}/{crate.name}/{name}", encoding="utf-8") as it:
+                where, _ = plan.stands(f"{crate.name}/{name}", around.of(it.read()))
+            names += [f"{crate.name}/{name}"] * (where == "in the repository")
+    seed = f"{plan.commit[:12]}-{time.time_ns()}"
+    found = refused_before.by_chance(names, seed)
+    if found:
+        print(f"wrong bodies: {len(found)} of {len(names)} by chance, drawn by {seed}", flush=True)
+    return found
+
+
 def main(words):
     # (a word that is misspelled, or --help, is not to start hours of work)
     if not {it for it in words if it.startswith("-")} <= {*FLAGS}:
         print(__doc__)
         return 2
-    said = option(words, "--said")
-    names = [it for it in words if not it.startswith("--") and it != said] or sorted(os.listdir(EDITS))
-    known = kit.crates_of(os.path.dirname(HERE))
+    given = [option(words, it) for it in ("--said", "--chance")]
+    names = [it for it in words if not it.startswith("--") and it not in given] or crates_with_edits()
+    known = kit.crates_of(ROOT)
     if not {*names} <= {*known}:
         print(f"wrong bodies: no such crate among {' '.join(names)}")
         return 1
     lanes = Lanes()
-    trials = [Trial(known[it], words, lanes) for it in names]
+    plan = plan_of(known, words)
+    trials = [Trial(known[it], words, lanes, plan) for it in names]
     waiting = sorted((it for it in trials if it.left), key=lambda it: size(it.crate), reverse=True)
     if not has_libraries([it.crate for it in waiting], "--built" in words, lanes.count):
         return 1
     lanes.crates = len(waiting)
     with ThreadPoolExecutor(lanes.count) as pool:
         list(pool.map(Trial.run, waiting))
-    wanted, failed = (sum(it) for it in zip(*(it.counts for it in trials)))
-    print(f"wrong bodies: {wanted} as wanted, {failed} not")
+    wanted, failed, undecided = (sum(it) for it in zip(*(it.counts for it in trials)))
+    print(f"wrong bodies: {wanted} as wanted, {undecided} undecided, {failed} not")
     return 1 if failed else 0
 
 

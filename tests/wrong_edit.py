@@ -8,10 +8,13 @@
 
 `checked` is the function whose body becomes wrong, as `rattle check --only` takes it; `refused by` is the
 clause or the call whose proof fails, as `short_words` of refusals.py spells it. Each `old` text stands in its
-file exactly once; there may be several pairs of `old` and `new`, and a `file` before each.
+file exactly once; there may be several pairs of `old` and `new`, and a `file` before each. An edit that says by its
+form what the code says (same_body.py) is none.
 """
 
 import re
+
+from same_body import says_the_same
 
 # what an edit is refused by that the compiler does not take, before the error's code
 COMPILER = "the compiler, "
@@ -31,6 +34,8 @@ class Edit:
         self.pairs = pairs_of(text)
         if not self.pairs or not self.path:
             raise BadEdit("it has no pair of lines old: and new:, or no line checked:")
+        if says_the_same(*("\n".join(it[at] for it in self.pairs) for at in (1, 2))):
+            raise BadEdit("it says what the code says, by other names or in another order")
         # what it can break the proof of: two edits of one unit are not told apart by one check
         self.units = {self.path}
         self.apply(crate, {}, self.units)

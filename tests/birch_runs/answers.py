@@ -142,11 +142,17 @@ def check_shown(command, report, folder):
 
 
 def check_scored(command, report, folder):
-    """The documents that hold the fox are one block, whose bound is what the second of them scores."""
+    """The documents that hold the fox are one block, whose bound is what the second of them scores; of two words that
+    must stand there each document is scored, and of a phrase. What the beginning of a word finds scores alike: behind as
+    many as are wanted none is scored."""
     for words, wanted in (
         (["fox"], "scored 3 of these, passed over 0"),
         (["-k", "1", "fox"], "scored 2 of these, passed over 1"),
-        (["-k", "1", "+fox +dog"], "passed over none of these by its block"),
+        (["-k", "1", "+fox +dog"], "scored 2 of these, passed over 0"),
+        (['"quick fox"~1'], "scored 1 of these, passed over 0"),
+        (["qui*"], "scored 2 of these, passed over 0"),
+        (["-k", "1", "qui*"], "scored 1 of these, passed over 1"),
+        (["unicorn"], "scored 0 of these, passed over 0"),
     ):
         told = command.run("--stats", *words, folder=folder).told
         report.expect_same(f"the statistics of {words}", f"birch: {wanted}", told.splitlines()[-1])

@@ -191,6 +191,12 @@ def prune(pairs, threshold, answers):
     return row(call, spelled.pairs(pruned(pairs, threshold, answers)))
 
 
+def scored_of(documents):
+    """How many documents are scored where each may be wanted, and where none can be."""
+    yield row(f"scored {LEAST} answers least", len(documents))
+    yield row(f"scored {GREATEST}", 0)
+
+
 def documents_of(documents, tree):
     """The rows that need no scores."""
     yield row("docs", spelled.documents(documents))
@@ -245,6 +251,7 @@ def of_weight(random, tree, segment, most_explained=6, runs=12):
     yield from documents_of(documents, tree)
     yield from counts_of(tree, segment)
     yield from (any_prune(random, pairs) for _ in range(runs))
+    yield from scored_of(documents)
     yield row("count", len(segment.alive(documents)))
     points = dict(pairs)
     yield from (explained("explain", doc, points.get(doc)) for doc in explains(random, segment, most_explained))
@@ -258,6 +265,7 @@ def of_unscored(random, tree, segment, most_explained=3):
     yield row("count", len(segment.alive(documents)))
     yield row(f"prune {GREATEST}")
     yield row(f"pruned {LEAST} answers least", spelled.documents(documents))
+    yield from scored_of(documents)
     for doc in explains(random, segment, most_explained):
         if doc not in documents:
             yield explained("explain", doc, None)

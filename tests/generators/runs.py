@@ -17,6 +17,7 @@ from model import (
     most_ticks,
     pruned,
     scored,
+    single_turns,
 )
 
 COMBINERS = ("sum", "sum", "max 0", "max 1", "max 500", "max 1000")
@@ -48,14 +49,17 @@ class Run:
 
 
 def single_runs(random, pairs, listed, points, norms):
-    """Runs over a term's scorer: their calls, and how many documents they score at most in how many turns."""
+    """Runs over a term's scorer: their calls, and how many documents they score in how many turns."""
     bounds = {doc: block_bound(points, norms, looked_at(0, doc, listed)) for doc, _ in pairs}
+    ends = {doc: looked_at(0, doc, listed).last for doc, _ in pairs}
     near = [points for _, points in pairs] + list(bounds.values()) or [0]
     for _ in range(3):
         run = Run(random, near)
         yield row(f"single {run.words}", run.calls(pairs))
         ticks = run.ticks(pairs, bounds)
         yield row(f"bounded {ticks} {ticks + len(listed)} {run.words}", "true")
+        turns = single_turns(pairs, bounds, ends, run.threshold, run.answers)
+        yield row(f"counted {run.words}", f"{ticks} {turns}")
 
 
 class Part:

@@ -3,10 +3,6 @@
 # So many bytes are read at once.
 CHUNK = 4096
 
-# So many bytes of stack are enough for every query that isn't deep, and for every one that is.
-STACK = 1 << 20
-DEEP_STACK = 5 << 19
-
 # Refused where `a` has the greatest weight.
 TOO_GREAT = b"scores bool 0 2 + term a + term a\n"
 
@@ -34,7 +30,6 @@ def check(program, report):
         report.expect(f"a line whose end is at {length} bytes", text, 0, program.run(script))
     far = program.run(b"\n" * 299 + b"foo\ndoc a\nweight a 9223372036854775807\n" + TOO_GREAT)
     report.expect("far lines", b"line 300: not understood\nline 303: refused 9\n", 2, far)
-    check_levels(program, report)
     check_answers_of_line_12(program, report)
 
 
@@ -165,23 +160,6 @@ def line_around_a_chunk(length):
     """A document whose line ends at so many bytes, with bytes 13 and 10, and queries for its word."""
     word = b"x" * (length - len(b"doc \r\n"))
     return b"doc " + word + b"\r\ndocs term " + word + b"\ndocs term " + word[1:] + b"\n", b"0\n\n"
-
-
-def check_levels(program, report):
-    """A query is at most 500 deep, in whatever form, and one so deep needs no more than two and a half megabytes of stack."""
-    # the last four with a clause beside, which scores 1 or nothing at each level
-    forms = {b"boost 1 ": 1, b"const 1 ": 1, b"bool 0 1 + ": 1, b"bool 1 1 ? ": 1, b"max 0 1 ": 1}
-    forms |= {b"bool 0 2 + all + ": 500, b"bool 1 2 ? all ? ": 500, b"bool 0 2 - term b + ": 1, b"max 0 2 term b ": 1}
-    for form, score in forms.items():
-        best = b"0:%d\n" % score
-        lines = {b"docs ": b"0\n", b"scores ": best, b"count ": b"1\n", b"prune 0 ": best, b"top 1 ": best}
-        for line, answer in lines.items():
-            name = f"{line!r} with 499 times {form!r}"
-            outcome, _ = program.run_with_stack(b"doc a\n" + line + form * 499 + b"all\n", DEEP_STACK)
-            report.expect(name, answer, 0, outcome)
-            name = f"{line!r} with 500 times {form!r}"
-            outcome = program.run(b"doc a\n" + line + form * 500 + b"all\n")
-            report.expect(name, b"line 2: not understood\n", 2, outcome)
 
 
 def check_answers_of_line_12(program, report):

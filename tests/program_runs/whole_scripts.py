@@ -331,8 +331,9 @@ PRUNED = [
     (
         "two words, by the maximum and by the sum",
         b"doc a b\nweight a 900\nweight b 1500\nscores max 700 2 term a term b\n"
-        b"prune 750 max 700 2 term a term b\nprune 750 bool 0 2 ? term a ? term b\n",
-        b"0:710\n\n0:800\n",
+        b"prune 750 max 700 2 term a term b\nprune 750 bool 0 2 ? term a ? term b\n"
+        b"prune 709 max 700 2 term a term b\nprune 710 max 700 2 term a term b\n",
+        b"0:710\n\n0:800\n0:710\n\n",
         0,
     ),
     # 333, 400, 500 and 500 in the first segment, 400 and 500 in the second; a deleted one too

@@ -3,15 +3,17 @@
 use crate::explain::{write_explanation, write_weights};
 use crate::index::Index;
 use crate::options::Options;
-use crate::scored::count_scored;
-use crate::searched::build;
+use crate::searched::{Searched, build};
 use crate::shown::{Shown, line_of, shown_part, text_of, write_json, write_plain};
 use crate::stats::{Stopwatch, tell_found, tell_scored};
 use crate::stop::Stop;
 use anyhow::anyhow;
 use birch_text::{Clause, Marker, QueryFault, read_query};
 use qm_postings::DocAddress;
-use qm_query::{AnyQuery, Query, TopDocs};
+use qm_query::{EnableScoring, Query, TopDocs};
+use qm_schema::QueryError;
+use qm_term::Explanation;
+use qm_weight::Weight;
 use std::io;
 use std::io::Write;
 
@@ -20,7 +22,7 @@ use std::io::Write;
 pub fn answer<W: Write>(
     rt: &HostRuntime,
     options: &Options<'_>,
-    index: &mut Index,
+    index: &Index,
     text: &str,
     is_coloured: bool,
     out: &mut W,
@@ -54,19 +56,19 @@ fn explain_fault(rt: &HostRuntime, text: &str, fault: QueryFault) {
 fn answer_clauses<W: Write>(
     rt: &HostRuntime,
     options: &Options<'_>,
-    index: &mut Index,
+    index: &Index,
     clauses: &[Clause],
     is_coloured: bool,
     out: &mut W,
 ) -> Result<usize, Stop> {
     let watch = Stopwatch::start(rt)?;
-    let query = build(rt.alloc(), index, clauses)?;
+    let searched = build(rt.alloc(), index, clauses)?;
     let asked = Asked {
         rt,
         options,
         index,
         clauses,
-        query: &query,
+        searched: &searched,
         is_coloured,
     };
     if options.is_count {
@@ -83,14 +85,17 @@ struct Asked<'a, 'o> {
     options: &'a Options<'o>,
     index: &'a Index,
     clauses: &'a [Clause],
-    query: &'a AnyQuery,
+    searched: &'a Searched,
     is_coloured: bool,
 }
 
 impl<'a, 'o> Asked<'a, 'o> {
     // Writes how many documents match.
     fn count<W: Write>(&self, out: &mut W) -> Result<usize, Stop> {
-        let count = self.query.count(self.rt.alloc(), &self.index.searcher)?;
+        let count = self
+            .searched
+            .query
+            .count(self.rt.alloc(), &self.index.searcher)?;
         writeln!(out, "{count}")?;
         Ok(count)
     }
@@ -99,24 +104,26 @@ impl<'a, 'o> Asked<'a, 'o> {
     fn search<W: Write>(&self, watch: Stopwatch, out: &mut W) -> Result<usize, Stop> {
         let alloc = self.rt.alloc();
         let limit = self.options.limit.max(self.options.explained.unwrap_or(0));
-        let found = TopDocs::with_limit(limit).search(alloc, self.query, &self.index.searcher)?;
+        let Searched { query, statistics } = self.searched;
+        let best = TopDocs::with_limit(limit);
+        let found = best.search_counted(alloc, query, &self.index.searcher, statistics)?;
+        let listed = found.documents.len();
         if self.options.has_stats {
-            self.tell(limit, found.len(), watch)?;
+            self.tell(listed, found.scored, watch)?;
         }
         match self.options.explained {
-            Some(number) => self.explain(&found, number, out)?,
-            None => self.list(&found, out)?,
+            Some(number) => self.explain(&found.documents, number, out)?,
+            None => self.list(&found.documents, out)?,
         }
-        Ok(found.len())
+        Ok(listed)
     }
 
     // Tells how many documents match, how long it took to find the best, and how many were scored.
-    fn tell(&self, limit: usize, listed: usize, watch: Stopwatch) -> Result<(), Stop> {
+    fn tell(&self, listed: usize, scored: u64, watch: Stopwatch) -> Result<(), Stop> {
         let took = watch.elapsed(self.rt)?;
         let alloc = self.rt.alloc();
-        let matching = self.query.count(alloc, &self.index.searcher)?;
+        let matching = self.searched.query.count(alloc, &self.index.searcher)?;
         tell_found(self.rt, listed, matching, took)?;
-        let scored = count_scored(alloc, self.index, self.clauses, limit)?;
         tell_scored(self.rt, matching, scored)?;
         Ok(())
     }
@@ -206,9 +213,22 @@ impl<'a, 'o> Asked<'a, 'o> {
         let marker = Marker::new(self.rt.alloc(), self.clauses)?;
         self.write(&marker, number, *score, *address, out)?;
         let alloc = self.rt.alloc();
-        let explanation = self.query.explain(alloc, &self.index.searcher, *address)?;
+        let explanation = self.explanation(*address)?;
         write_weights(alloc, out, self.index, self.clauses)?;
         write_explanation(alloc, out, &explanation)?;
         Ok(())
+    }
+
+    // Why a document scores what it does, by what the query's words weigh.
+    fn explanation(&self, address: DocAddress) -> Result<Explanation, QueryError> {
+        let alloc = self.rt.alloc();
+        let Searched { query, statistics } = self.searched;
+        let searcher = &self.index.searcher;
+        let scoring = EnableScoring::enabled_from_statistics_provider(statistics, searcher);
+        let weight = query.weight(alloc, scoring)?;
+        let Some(reader) = searcher.segment_reader(address.segment_ord) else {
+            return Err(QueryError::NoSuchSegment(address.segment_ord));
+        };
+        weight.explain(alloc, reader, address.doc_id)
     }
 }

@@ -62,6 +62,8 @@ pub struct Index {
     pub tally: Tally,
     // where each document of each segment stands
     places: Vec<Vec<Filed>>,
+    // the norm of each length id
+    norms: [u32; 256],
 }
 
 impl Index {
@@ -82,6 +84,7 @@ impl Index {
             files,
             tally,
             places,
+            norms,
         })
     }
 
@@ -129,10 +132,22 @@ impl Index {
         held
     }
 
+    /// What words weigh, by which a query is scored: none weighs anything yet.
+    pub fn statistics(&self, alloc: Global) -> Result<Searcher, QueryError> {
+        let (schema, _) = schema(alloc)?;
+        let none = Vec::new(alloc);
+        Searcher::new(alloc, schema, none, Vec::new(alloc), 0, self.norms)
+    }
+
     /// Has a term weigh what its rarity says.
-    pub fn weigh(&mut self, alloc: Global, term: &Term) -> Result<(), QueryError> {
+    pub fn weigh(
+        &self,
+        alloc: Global,
+        statistics: &mut Searcher,
+        term: &Term,
+    ) -> Result<(), QueryError> {
         let weight = weight(self.tally.documents, self.held(term));
         let weight = i64::try_from(weight).unwrap_or(i64::MAX);
-        self.searcher.set_weight(term.clone(alloc)?, weight)
+        statistics.set_weight(term.clone(alloc)?, weight)
     }
 }

@@ -9,7 +9,6 @@ mod index;
 mod indexer;
 mod options;
 mod run;
-mod scored;
 mod searched;
 mod shown;
 mod stats;

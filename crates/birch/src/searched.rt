@@ -3,18 +3,39 @@
 use crate::index::Index;
 use crate::weights::weight;
 use birch_text::{Clause, Sign};
+use qm_postings::Searcher;
 use qm_query::{
     AllQuery, AnyQuery, BooleanQuery, BoostQuery, PhrasePrefixQuery, PhraseQuery, TermQuery,
 };
 use qm_schema::{IndexRecordOption, Occur, QueryError, Term};
 use std::alloc::Global;
 
-/// The query that these clauses ask for. Its words weigh from now on what their rarity says. Where
-/// nothing is asked for but what may not be there, all else is found.
-pub fn build(alloc: Global, index: &mut Index, clauses: &[Clause]) -> Result<AnyQuery, QueryError> {
+/// A query of an index, and what its words weigh: what their rarity there says.
+#[derive(Drop)]
+pub struct Searched {
+    /// The query.
+    pub query: AnyQuery,
+    /// What its words weigh.
+    pub statistics: Searcher,
+}
+
+/// The query that these clauses ask for. Where nothing is asked for but what may not be there, all else is found.
+pub fn build(alloc: Global, index: &Index, clauses: &[Clause]) -> Result<Searched, QueryError> {
+    let mut statistics = index.statistics(alloc)?;
+    let query = query_of(alloc, index, &mut statistics, clauses)?;
+    Ok(Searched { query, statistics })
+}
+
+// The query of several clauses, whose words get their weights.
+fn query_of(
+    alloc: Global,
+    index: &Index,
+    statistics: &mut Searcher,
+    clauses: &[Clause],
+) -> Result<AnyQuery, QueryError> {
     if let [clause] = clauses {
         if clause.sign != Sign::Not {
-            return leaf(alloc, index, clause);
+            return leaf(alloc, index, statistics, clause);
         }
     }
     let mut built = Vec::with_capacity(alloc, clauses.len())?;
@@ -26,7 +47,7 @@ pub fn build(alloc: Global, index: &mut Index, clauses: &[Clause]) -> Result<Any
             Sign::Not => Occur::MustNot,
         };
         only_not = only_not && occur == Occur::MustNot;
-        let query = Box::new(alloc, leaf(alloc, index, clause)?)?;
+        let query = Box::new(alloc, leaf(alloc, index, statistics, clause)?)?;
         built.push((occur, query))?;
     }
     if only_not {
@@ -37,8 +58,13 @@ pub fn build(alloc: Global, index: &mut Index, clauses: &[Clause]) -> Result<Any
 }
 
 // The query of one clause.
-fn leaf(alloc: Global, index: &mut Index, clause: &Clause) -> Result<AnyQuery, QueryError> {
-    let terms = terms(alloc, index, clause)?;
+fn leaf(
+    alloc: Global,
+    index: &Index,
+    statistics: &mut Searcher,
+    clause: &Clause,
+) -> Result<AnyQuery, QueryError> {
+    let terms = terms(alloc, index, statistics, clause)?;
     if clause.is_prefix {
         return prefix(alloc, index, terms);
     }
@@ -54,12 +80,17 @@ fn leaf(alloc: Global, index: &mut Index, clause: &Clause) -> Result<AnyQuery, Q
 }
 
 // The terms of a clause, which weigh what their rarity says.
-fn terms(alloc: Global, index: &mut Index, clause: &Clause) -> Result<Vec<Term>, QueryError> {
+fn terms(
+    alloc: Global,
+    index: &Index,
+    statistics: &mut Searcher,
+    clause: &Clause,
+) -> Result<Vec<Term>, QueryError> {
     let field = index.field_of(clause);
     let mut terms = Vec::with_capacity(alloc, clause.words.len())?;
     for word in &clause.words {
         let term = Term::from_field_text(alloc, field, word.as_str())?;
-        index.weigh(alloc, &term)?;
+        index.weigh(alloc, statistics, &term)?;
         terms.push(term)?;
     }
     Ok(terms)

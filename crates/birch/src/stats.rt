@@ -49,13 +49,8 @@ pub fn tell_found(
     )
 }
 
-/// Tells how many of the documents that match were scored; none where no run passes over blocks.
-pub fn tell_scored(rt: &HostRuntime, matching: usize, scored: Option<u128>) -> io::Result<()> {
-    match scored {
-        Some(scored) => {
-            let passed = (matching as u128).saturating_sub(scored);
-            eprintln!(rt; "birch: scored {scored} of these, passed over {passed}")
-        }
-        None => eprintln!(rt; "birch: passed over none of these by its block"),
-    }
+/// Tells how many of the documents that match were scored.
+pub fn tell_scored(rt: &HostRuntime, matching: usize, scored: u64) -> io::Result<()> {
+    let passed = (matching as u64).saturating_sub(scored);
+    eprintln!(rt; "birch: scored {scored} of these, passed over {passed}")
 }

@@ -25,7 +25,9 @@ pub trait Asker {
 
 /// Plays rows. A row `refused each CALL` is made again and again, with the first of its requests for
 /// memory refused, then the second, until none is; each time it must be refused for want of memory
-/// before it has said anything, and where it succeeds that request must not have been made. Behind a row `takes no memory` calls are made with every request refused.
+/// before it has said anything, and where it succeeds that request must not have been made. Behind a row
+/// `takes no memory` calls are made with every request refused, and behind a row
+/// `takes at most N bytes at once` with every request of more bytes refused.
 pub fn play_asked<A: Asker>(
     alloc: Global,
     asker: &mut A,
@@ -34,13 +36,13 @@ pub fn play_asked<A: Asker>(
 ) -> Result<(), Fault> {
     let mut memory = Memory::Ample;
     for row in rows {
-        if row.call == "takes no memory" {
+        if let Some(allowed) = read_allowed(row.call) {
             report.compare(
                 row.line,
                 row.wanted,
                 if is_heard(alloc) { "" } else { "unheard" },
             )?;
-            memory = Memory::None;
+            memory = allowed;
         } else if row.is_refused {
             play_refused(alloc, asker, row, report)?;
         } else {
@@ -48,6 +50,17 @@ pub fn play_asked<A: Asker>(
         }
     }
     Ok(())
+}
+
+// Which requests are refused behind a row that says what may be taken.
+fn read_allowed(call: &str) -> Option<Memory> {
+    if call == "takes no memory" {
+        return Some(Memory::None);
+    }
+    let bytes = call
+        .strip_prefix("takes at most ")?
+        .strip_suffix(" bytes at once")?;
+    Some(Memory::Over(bytes.parse().ok()?))
 }
 
 // Plays one row.

@@ -11,6 +11,8 @@ pub enum Memory {
     Refused(u32),
     /// The first request, and all behind it.
     None,
+    /// Each request of more than so many bytes.
+    Over(u32),
 }
 
 impl Memory {
@@ -20,6 +22,7 @@ impl Memory {
             Memory::Ample => refuse(alloc, 0),
             Memory::Refused(number) => refuse(alloc, number as usize),
             Memory::None => refuse(alloc, (1 << 60) + 1),
+            Memory::Over(bytes) => refuse(alloc, (1 << 58) + bytes as usize),
         }
     }
 }

@@ -96,6 +96,7 @@ pub fn ask_scored_blocks(
         "block_max_score" => Some(write_score_bound(scorer, text)),
         "single" => Some(write_calls(alloc, scorer, call, memory, text)),
         "bounded" => Some(write_bounded(alloc, scorer, target, memory, text)),
+        "counted" => Some(write_counted(alloc, scorer, call, memory, text)),
         _ => None,
     }
 }
@@ -187,4 +188,20 @@ fn write_bounded(
         && count.ticks <= u128::from(ticks)
         && count.turns <= u128::from(turns);
     Ok(write!(text, "{is_bounded}")?)
+}
+
+// How many documents that run scores, and how many turns it takes.
+fn write_counted(
+    alloc: Global,
+    scorer: &TermScorer<'_>,
+    call: &str,
+    memory: Memory,
+    text: &mut String,
+) -> Result<(), Fault>
+    requires { IsTermScorer scorer.now }
+{
+    let mut calls = String::new(alloc);
+    let count = run_single(alloc, scorer, call, memory, &mut calls)?;
+    let (ticks, turns) = (count.ticks, count.turns);
+    Ok(write!(text, "{ticks} {turns}")?)
 }

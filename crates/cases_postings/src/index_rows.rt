@@ -3,13 +3,14 @@
 ghost use Rattle.std.specs.Prelude.{IsTrue};
 ghost use Rattle.qm_index.specs.Indexed.{IsRefreshed};
 
-use crate::searcher_rows::weigh;
+use crate::searcher_rows::{weigh, write_norm};
 use crate::segment_rows::{postings_of, write_alive, write_postings};
 use crate::spelled::{
     cut, read_field, read_norms, read_number, read_option, read_term, read_texts,
 };
+use crate::term_rows::read_address;
 use cases::{Asker, Fault, Memory, behind, end_refusals, score, word, words_of, write_space};
-use qm_index::Index;
+use qm_index::{Index, address_of, number_of};
 use qm_postings::{Searcher, SegmentReader};
 use qm_schema::{Field, IndexRecordOption, Schema, Term};
 use std::alloc::{AllocError, Global};
@@ -80,7 +81,7 @@ impl<'s> IndexRows<'s> {
         memory: Memory,
         text: &mut String,
     ) -> Result<(), Fault> {
-        let number = spelled.parse::<u64>().map_err(|_| Fault::NotUnderstood)?;
+        let number = read_number_over_all(spelled)?;
         memory.begin(alloc);
         let deleted = self.index.delete(alloc, number);
         end_refusals(alloc);
@@ -96,6 +97,15 @@ impl<'s> IndexRows<'s> {
         };
         memory.begin(alloc);
         let set = self.index.set_weight(term, weight);
+        end_refusals(alloc);
+        Ok(set?)
+    }
+
+    // `set_norms NORMS`: gives each length id its norm.
+    fn set_norms(&mut self, alloc: Global, spelled: &str, memory: Memory) -> Result<(), Fault> {
+        let norms = read_norms(spelled)?;
+        memory.begin(alloc);
+        let set = self.index.set_norms(&norms);
         end_refusals(alloc);
         Ok(set?)
     }
@@ -160,6 +170,9 @@ impl<'s> IndexRows<'s> {
             "segments" => Ok(write_lengths(readers, text)?),
             "alive" => Ok(write_all_alive(readers, text)?),
             "postings" => self.ask_postings(alloc, readers, &words, text),
+            "address" => write_address(searcher, &words, text),
+            "number" => write_number(searcher, &words, text),
+            "norm" => write_norm(searcher, &words, text),
             "weight" => {
                 let weight = weigh(alloc, searcher, behind(&words, 1), memory)?;
                 Ok(write!(text, "{weight}")?)
@@ -197,6 +210,7 @@ impl<'s> Asker for IndexRows<'s> {
             "each" => self.add_each(alloc, rest, text),
             "delete" => self.delete(alloc, rest, memory, text),
             "set_weight" => self.set_weight(alloc, rest, memory),
+            "set_norms" => self.set_norms(alloc, rest, memory),
             "end" => self.end(alloc, memory),
             "refresh" => self.refresh(alloc, memory),
             "merge" => self.merge(alloc, memory),
@@ -204,6 +218,29 @@ impl<'s> Asker for IndexRows<'s> {
             "document_count" => Ok(write!(text, "{}", self.index.document_count())?),
             _ => self.ask_searcher(alloc, call, memory, text),
         }
+    }
+}
+
+// The number of a document over all segments.
+fn read_number_over_all(spelled: &str) -> Result<u64, Fault> {
+    spelled.parse::<u64>().map_err(|_| Fault::NotUnderstood)
+}
+
+// `address N`: where the document of this number stands, as its segment and its number there.
+fn write_address(searcher: &Searcher, words: &[&str], text: &mut String) -> Result<(), Fault> {
+    let number = read_number_over_all(word(words, 1))?;
+    match address_of(searcher.segment_readers(), number) {
+        Some(address) => Ok(write!(text, "{}/{}", address.segment_ord, address.doc_id)?),
+        None => Ok(text.push_str("none")?),
+    }
+}
+
+// `number SEGMENT DOCUMENT`: the number of the document at this address.
+fn write_number(searcher: &Searcher, words: &[&str], text: &mut String) -> Result<(), Fault> {
+    let address = read_address(behind(words, 1))?;
+    match number_of(searcher.segment_readers(), address) {
+        Some(number) => Ok(write!(text, "{number}")?),
+        None => Ok(text.push_str("none")?),
     }
 }
 

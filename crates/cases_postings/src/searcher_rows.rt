@@ -92,6 +92,12 @@ pub fn weigh(
     Ok(weight?)
 }
 
+/// `norm ID`: writes the norm that a searcher gives this length id.
+pub fn write_norm(searcher: &Searcher, words: &[&str], text: &mut String) -> Result<(), Fault> {
+    let norm = searcher.norms().get(number(words, 1).unwrap_or(0) as usize);
+    Ok(write!(text, "{}", norm.ok_or(Fault::NotAllowed)?)?)
+}
+
 impl<'s> Asker for SearcherRows<'s> {
     fn ask(
         &mut self,
@@ -108,13 +114,7 @@ impl<'s> Asker for SearcherRows<'s> {
             }
             "segments" => Ok(write!(text, "{}", self.searcher.segment_readers().len())?),
             "max_doc" | "num_docs" | "alive" => self.ask_segment(&words, text),
-            "norm" => {
-                let norm = self
-                    .searcher
-                    .norms()
-                    .get(number(&words, 1).unwrap_or(0) as usize);
-                Ok(write!(text, "{}", norm.ok_or(Fault::NotAllowed)?)?)
-            }
+            "norm" => write_norm(&self.searcher, &words, text),
             "field" => {
                 let name = read_text(alloc, cut(call).1)?;
                 match self.searcher.schema().get_field(name.as_str()) {
@@ -151,6 +151,7 @@ impl<'s> SearcherRows<'s> {
     ) -> Result<(), Fault> {
         match word(words, 0) {
             "set_weight" => set_weight(alloc, &mut self.searcher, words, memory),
+            "set_norms" => set_norms(alloc, &mut self.searcher, words, memory),
             "push_segment" => self.push(alloc, words, memory),
             "pop_segment" => self.pop(alloc, memory, text),
             "delete" => delete(alloc, &mut self.searcher, words, memory),
@@ -192,6 +193,20 @@ fn set_weight(
     };
     memory.begin(alloc);
     let set = searcher.set_weight(term, weight);
+    end_refusals(alloc);
+    Ok(set?)
+}
+
+// `set_norms NORMS`: gives each length id its norm.
+fn set_norms(
+    alloc: Global,
+    searcher: &mut Searcher,
+    words: &[&str],
+    memory: Memory,
+) -> Result<(), Fault> {
+    let norms = read_norms(word(words, 1))?;
+    memory.begin(alloc);
+    let set = searcher.set_norms(&norms);
     end_refusals(alloc);
     Ok(set?)
 }

@@ -1,19 +1,16 @@
 //! Rows on a query.
 
-use crate::ask_weight::{ask_weight, read_number};
 use crate::changes::change;
-use crate::explained::explain_at;
 use crate::getters::{get, write_named};
-use crate::given::first_word;
 use crate::kinds::kind_of_weight;
 use crate::own_calls::{Through, ask_kind_of_query, box_clone_of_kind, read_through};
-use crate::runs::run_each;
-use crate::top::write_top;
+use crate::top::{write_top, write_top_scored};
 use crate::weigh::{Scales, specialize, weigh};
-use crate::world::World;
 use cases::{Asker, Fault, Memory, end_refusals, number, words_of};
+use cases_given::{World, ask_weight, first_word, read_number, run_each, write_values};
 use qm_postings::DocAddress;
 use qm_query::{AnyQuery, Query, QueryClone};
+use qm_weight::AnyWeight;
 use std::alloc::Global;
 use std::mem;
 
@@ -111,8 +108,8 @@ impl<'a> QueryAsker<'a> {
         memory: Memory,
         text: &mut String,
     ) -> Result<(), Fault> {
-        let weight = specialize(alloc, self.scales, &self.query, memory)?;
         let segment = self.scales.world.segment(self.segment)?;
+        let weight = specialize(alloc, self.scales, &self.query, memory)?;
         run_each(alloc, segment, &*weight, Memory::Ample, text)
     }
 
@@ -196,16 +193,31 @@ pub fn ask_query<Q: Query>(
     if let Some(limit) = call.strip_prefix("top ") {
         return write_top(alloc, scales.world, query, limit, memory, text);
     }
+    if let Some(limit) = call.strip_prefix("top_scored ") {
+        return write_top_scored(alloc, scales.world, query, limit, memory, text);
+    }
     if let Some(address) = address_of(alloc, call)? {
         return explain_at(alloc, scales.world, query, address, memory, text);
     }
-    if call == "weight" || call == "fitting" {
-        let weight = weigh(alloc, scales, query, call == "fitting", memory)?;
-        return Ok(text.push_str(kind_of_weight(&weight))?);
+    let is_kind = call == "weight" || call == "fitting";
+    let refused = if is_kind { memory } else { Memory::Ample };
+    let weight = weigh(alloc, scales, query, call == "fitting", refused)?;
+    ask_weighed(alloc, asked, is_kind, &weight, text)
+}
+
+// Writes which kind the weight of a query is, or what it answers to a call.
+fn ask_weighed(
+    alloc: Global,
+    asked: Question<'_>,
+    is_kind: bool,
+    weight: &AnyWeight,
+    text: &mut String,
+) -> Result<(), Fault> {
+    if is_kind {
+        return Ok(text.push_str(kind_of_weight(weight))?);
     }
-    let weight = weigh(alloc, scales, query, false, Memory::Ample)?;
-    let segment = scales.world.segment(asked.segment)?;
-    ask_weight(alloc, segment, &*weight, call, memory, text)
+    let segment = asked.scales.world.segment(asked.segment)?;
+    ask_weight(alloc, segment, weight, asked.call, asked.memory, text)
 }
 
 // The document of `explain S D`.
@@ -228,4 +240,19 @@ fn count_all<Q: Query>(
     let counted = query.count(alloc, &world.searcher);
     end_refusals(alloc);
     Ok(write!(text, "{}", counted?)?)
+}
+
+// The value of a query's explanation.
+fn explain_at<Q: Query>(
+    alloc: Global,
+    world: &World,
+    query: &Q,
+    address: DocAddress,
+    memory: Memory,
+    text: &mut String,
+) -> Result<(), Fault> {
+    memory.begin(alloc);
+    let explained = query.explain(alloc, &world.searcher, address);
+    end_refusals(alloc);
+    write_values(&explained?, false, text)
 }

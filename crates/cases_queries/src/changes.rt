@@ -1,7 +1,7 @@
 //! Setters of queries.
 
-use crate::ask_weight::read_number;
 use cases::Fault;
+use cases_given::read_number;
 use qm_query::AnyQuery;
 
 /// Makes the change that a call names: `set_minimum N`, `set_slop N` or `set_max_expansions N`.

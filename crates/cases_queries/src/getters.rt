@@ -1,7 +1,7 @@
 //! What queries say of themselves.
 
-use crate::listing::{Listing, write_term};
 use cases::{Fault, Memory, end_refusals, write_space};
+use cases_given::{Listing, write_term};
 use qm_query::{AnyQuery, BooleanQuery, Query};
 use qm_schema::{Occur, QueryError, Term};
 use std::alloc::Global;

@@ -1,11 +1,8 @@
-//! Calls of a kind of weights or queries itself, and not of the type that is any of them.
+//! Calls of a kind of queries itself, and not of the type that is any of them.
 
 use crate::ask_query::{Question, ask_query, box_clone_of};
-use crate::ask_weight::ask_weight;
 use cases::{Fault, Memory};
-use qm_postings::SegmentReader;
 use qm_query::AnyQuery;
-use qm_weight::AnyWeight;
 use std::alloc::Global;
 
 /// Which type's call a row makes.
@@ -27,29 +24,6 @@ pub fn read_through(call: &str) -> (Through, &str) {
     match call.strip_prefix("boxed ") {
         Some(rest) => (Through::Boxed, rest),
         None => (Through::Any, call),
-    }
-}
-
-/// Writes what the kind that a weight is answers to a call.
-pub fn ask_kind_of_weight(
-    alloc: Global,
-    segment: &SegmentReader,
-    weight: &AnyWeight,
-    call: &str,
-    memory: Memory,
-    text: &mut String,
-) -> Result<(), Fault> {
-    match weight {
-        AnyWeight::All(kind) => ask_weight(alloc, segment, kind, call, memory, text),
-        AnyWeight::Empty(kind) => ask_weight(alloc, segment, kind, call, memory, text),
-        AnyWeight::Term(kind) => ask_weight(alloc, segment, kind, call, memory, text),
-        AnyWeight::Terms(kind) => ask_weight(alloc, segment, kind, call, memory, text),
-        AnyWeight::Phrase(kind) => ask_weight(alloc, segment, kind, call, memory, text),
-        AnyWeight::PhrasePrefix(kind) => ask_weight(alloc, segment, kind, call, memory, text),
-        AnyWeight::Prefix(kind) => ask_weight(alloc, segment, kind, call, memory, text),
-        AnyWeight::Boost(kind) => ask_weight(alloc, segment, kind, call, memory, text),
-        AnyWeight::Const(kind) => ask_weight(alloc, segment, kind, call, memory, text),
-        AnyWeight::Boolean(kind) => ask_weight(alloc, segment, kind, call, memory, text),
     }
 }
 

@@ -3,6 +3,7 @@
 ghost use Rattle.std.specs.Prelude.{◌*◌, length};
 ghost use Rattle.qm_postings.specs.Statistics.{IsProviderRefusal};
 
+use cases_given::Manner;
 use qm_docset::Score;
 use qm_postings::{Bm25StatisticsProvider, Searcher};
 use qm_schema::{QueryError, Term};
@@ -10,17 +11,6 @@ use std::cell::Cell;
 
 // how many terms it answers for at most
 const MOST_TERMS: usize = 1000;
-
-/// Who says what terms weigh.
-#[derive(Clone, Copy, Debug)]
-pub enum Manner {
-    /// The searcher itself.
-    Searcher,
-    /// A provider that refuses whatever it is asked, with this code.
-    Answers(u32),
-    /// A provider that lets each term weigh 1000, and counts the terms that it is asked for.
-    Counts,
-}
 
 /// A provider of one of these manners, by the norms of a searcher.
 #[derive(Drop)]

@@ -1,16 +1,12 @@
-//! Queries in front form, read from the last word to the first: what stands behind a word is made already.
+//! Queries in front form.
 
-use crate::form::{Form, has_word};
 use crate::query_clauses::{build_best, build_boolean, build_over, build_union};
 use crate::query_leaves::build_leaf;
-use crate::weight::occur_of;
 use cases::{Fault, Memory};
+use cases_given::{Clause, Form, Language, read_front};
 use qm_query::AnyQuery;
-use qm_schema::{Occur, Schema};
+use qm_schema::Schema;
 use std::alloc::Global;
-
-/// A query with the sign before it.
-pub type Clause = (Occur, Box<AnyQuery>);
 
 /// The query that words spell, with some requests for memory refused as it is made and none as what stands
 /// inside is.
@@ -20,119 +16,51 @@ pub fn read_query(
     words: &[&str],
     memory: Memory,
 ) -> Result<Box<AnyQuery>, Fault> {
-    let mut clauses = read_words(alloc, schema, words, memory)?;
-    if clauses.len() > 1 {
-        return Err(Fault::NotUnderstood);
-    }
-    take_query(&mut clauses)
+    let language = QueryLanguage { schema };
+    read_front(alloc, &language, words, memory)
 }
 
-/// The query that was made last.
-pub fn take_query(clauses: &mut Vec<Clause>) -> Result<Box<AnyQuery>, Fault> {
-    match clauses.pop() {
-        Some((_, query)) => Ok(query),
-        None => Err(Fault::NotUnderstood),
-    }
+// The words of queries of a schema's fields.
+#[derive(Clone, Copy)]
+struct QueryLanguage<'a> {
+    schema: &'a Schema,
 }
 
-/// The clauses that were made last, so many, in order.
-pub fn take_clauses(
-    alloc: Global,
-    clauses: &mut Vec<Clause>,
-    count: u32,
-) -> Result<Vec<Clause>, Fault> {
-    let mut taken = Vec::new(alloc);
-    for _ in 0..count {
-        match clauses.pop() {
-            Some(clause) => taken.push(clause)?,
-            None => return Err(Fault::NotUnderstood),
+impl<'a> Language<AnyQuery> for QueryLanguage<'a> {
+    fn is_name(&self, word: &str) -> bool {
+        match word {
+            "all"
+            | "none"
+            | "term"
+            | "basic"
+            | "phrase"
+            | "phraseat"
+            | "prefix"
+            | "prefixat"
+            | "bool"
+            | "clauses"
+            | "from"
+            | "intersection"
+            | "union"
+            | "unionmin"
+            | "multiterms"
+            | "boost"
+            | "const"
+            | "max"
+            | "best" => true,
+            _ => false,
         }
     }
-    Ok(taken)
-}
 
-/// The queries that were made last, so many, in order.
-pub fn take_queries(
-    alloc: Global,
-    clauses: &mut Vec<Clause>,
-    count: u32,
-) -> Result<Vec<Box<AnyQuery>>, Fault> {
-    let mut taken = Vec::new(alloc);
-    for _ in 0..count {
-        taken.push(take_query(clauses)?)?;
+    fn build(
+        &self,
+        alloc: Global,
+        form: Form<'_>,
+        made: &mut Vec<Clause<AnyQuery>>,
+    ) -> Result<Box<AnyQuery>, Fault> {
+        let query = build_query(alloc, self.schema, form, made)?;
+        Ok(Box::new(alloc, query)?)
     }
-    Ok(taken)
-}
-
-// The queries that words spell one behind another, the first one last.
-fn read_words(
-    alloc: Global,
-    schema: &Schema,
-    words: &[&str],
-    memory: Memory,
-) -> Result<Vec<Clause>, Fault> {
-    let mut clauses = Vec::new(alloc);
-    let mut end = words.len();
-    // the queries are those of the words from `end` on
-    for at in (0..words.len()).rev() {
-        let name = words[at];
-        if is_name(name) && at < end {
-            let form = Form {
-                name,
-                words: &words[at + 1..end],
-                is_first: !has_word(&words[..at], name),
-                memory: if at == 0 { memory } else { Memory::Ample },
-            };
-            let clause = build_clause(alloc, schema, form, &mut clauses)?;
-            clauses.push(clause)?;
-            end = at;
-        }
-    }
-    if end > 0 {
-        return Err(Fault::NotUnderstood);
-    }
-    Ok(clauses)
-}
-
-fn is_name(word: &str) -> bool {
-    match word {
-        "all"
-        | "none"
-        | "term"
-        | "basic"
-        | "phrase"
-        | "phraseat"
-        | "prefix"
-        | "prefixat"
-        | "bool"
-        | "clauses"
-        | "from"
-        | "intersection"
-        | "union"
-        | "unionmin"
-        | "multiterms"
-        | "boost"
-        | "const"
-        | "max"
-        | "best"
-        | "+"
-        | "-"
-        | "?" => true,
-        _ => false,
-    }
-}
-
-fn build_clause(
-    alloc: Global,
-    schema: &Schema,
-    form: Form<'_>,
-    clauses: &mut Vec<Clause>,
-) -> Result<Clause, Fault> {
-    let query = match form.name {
-        "+" | "-" | "?" => take_query(clauses)?,
-        _ => Box::new(alloc, build_query(alloc, schema, form, clauses)?)?,
-    };
-    Ok((occur_of(form.name), query))
 }
 
 // The query of a form, over queries that are made.
@@ -140,12 +68,12 @@ fn build_query(
     alloc: Global,
     schema: &Schema,
     form: Form<'_>,
-    clauses: &mut Vec<Clause>,
+    clauses: &mut Vec<Clause<AnyQuery>>,
 ) -> Result<AnyQuery, Fault> {
     match form.name {
         "bool" | "clauses" | "from" => build_boolean(alloc, form, clauses),
         "intersection" | "union" | "unionmin" => build_union(alloc, form, clauses),
-        "boost" | "const" => build_over(form, take_query(clauses)?),
+        "boost" | "const" => build_over(form, clauses),
         "max" | "best" => build_best(alloc, form, clauses),
         _ => build_leaf(alloc, schema, form),
     }

@@ -1,16 +1,16 @@
 //! Queries over queries.
 
-use crate::form::Form;
-use crate::query::{Clause, take_clauses, take_queries};
 use cases::{Fault, end_refusals, number, score, word};
+use cases_given::{Clause, Form, take_clause, take_clauses};
 use qm_query::{AnyQuery, BooleanQuery, BoostQuery, ConstScoreQuery, DisjunctionMaxQuery};
 use std::alloc::Global;
 
 /// `boost K Q` or `const S Q`.
-pub fn build_over(form: Form<'_>, inner: Box<AnyQuery>) -> Result<AnyQuery, Fault> {
+pub fn build_over(form: Form<'_>, clauses: &mut Vec<Clause<AnyQuery>>) -> Result<AnyQuery, Fault> {
     let Some(factor) = score(form.words, 0) else {
         return Err(Fault::NotUnderstood);
     };
+    let inner = take_clause(clauses)?;
     if form.name == "boost" {
         Ok(AnyQuery::Boost(BoostQuery::new(inner, factor)))
     } else {
@@ -23,27 +23,27 @@ pub fn build_over(form: Form<'_>, inner: Box<AnyQuery>) -> Result<AnyQuery, Faul
 pub fn build_boolean(
     alloc: Global,
     form: Form<'_>,
-    clauses: &mut Vec<Clause>,
+    clauses: &mut Vec<Clause<AnyQuery>>,
 ) -> Result<AnyQuery, Fault> {
     let is_given = form.name == "bool";
-    let count = number(form.words, if is_given { 1 } else { 0 }).ok_or(Fault::NotUnderstood)?;
-    let minimum = word(form.words, 0).parse::<usize>();
+    let count = number(form.words, if is_given { 1 } else { 0 });
+    // where there is no minimum, the number of clauses stands in its place
+    let (Some(count), Ok(minimum)) = (count, word(form.words, 0).parse::<usize>()) else {
+        return Err(Fault::NotUnderstood);
+    };
     let taken = take_clauses(alloc, clauses, count)?;
-    match (form.name, minimum) {
-        ("clauses", _) => Ok(AnyQuery::Boolean(BooleanQuery::new(taken))),
-        ("from", _) => Ok(AnyQuery::Boolean(BooleanQuery::from(taken))),
-        (_, Ok(minimum)) => Ok(AnyQuery::Boolean(BooleanQuery::with_minimum_required_clauses(
-            taken, minimum,
-        ))),
-        _ => Err(Fault::NotUnderstood),
-    }
+    Ok(AnyQuery::Boolean(match form.name {
+        "clauses" => BooleanQuery::new(taken),
+        "from" => BooleanQuery::from(taken),
+        _ => BooleanQuery::with_minimum_required_clauses(taken, minimum),
+    }))
 }
 
 /// `intersection N Q..`, `union N Q..` or `unionmin MIN N Q..`.
 pub fn build_union(
     alloc: Global,
     form: Form<'_>,
-    clauses: &mut Vec<Clause>,
+    clauses: &mut Vec<Clause<AnyQuery>>,
 ) -> Result<AnyQuery, Fault> {
     let is_given = form.name == "unionmin";
     let count = number(form.words, if is_given { 1 } else { 0 }).ok_or(Fault::NotUnderstood)?;
@@ -63,7 +63,7 @@ pub fn build_union(
 pub fn build_best(
     alloc: Global,
     form: Form<'_>,
-    clauses: &mut Vec<Clause>,
+    clauses: &mut Vec<Clause<AnyQuery>>,
 ) -> Result<AnyQuery, Fault> {
     let is_given = form.name == "max";
     let count = number(form.words, if is_given { 1 } else { 0 }).ok_or(Fault::NotUnderstood)?;
@@ -75,4 +75,17 @@ pub fn build_best(
     } else {
         Ok(AnyQuery::DisjunctionMax(DisjunctionMaxQuery::new(queries)))
     }
+}
+
+// The queries that were made last, so many, in order.
+fn take_queries(
+    alloc: Global,
+    clauses: &mut Vec<Clause<AnyQuery>>,
+    count: u32,
+) -> Result<Vec<Box<AnyQuery>>, Fault> {
+    let mut taken = Vec::new(alloc);
+    for _ in 0..count {
+        taken.push(take_clause(clauses)?)?;
+    }
+    Ok(taken)
 }

@@ -1,12 +1,11 @@
 //! Queries for every document, for none, for terms and for phrases.
 
-use crate::form::Form;
-use crate::terms::{read_placed, read_term, read_terms};
 use cases::{Fault, behind, end_refusals, number, word};
+use cases_given::{Form, read_placed, read_term};
 use qm_query::{
     AllQuery, AnyQuery, BooleanQuery, EmptyQuery, PhrasePrefixQuery, PhraseQuery, TermQuery,
 };
-use qm_schema::{IndexRecordOption, Schema};
+use qm_schema::{IndexRecordOption, Schema, Term};
 use std::alloc::Global;
 
 /// `all`, `none`, `term W`, `basic W`, `multiterms N W..`, and the phrases.
@@ -42,6 +41,15 @@ fn are_counted(words: &[&str], at: usize, count: usize) -> bool {
     }
 }
 
+// The terms of words.
+fn read_terms(alloc: Global, schema: &Schema, words: &[&str]) -> Result<Vec<Term>, Fault> {
+    let mut terms = Vec::new(alloc);
+    for word in words {
+        terms.push(read_term(alloc, schema, word)?)?;
+    }
+    Ok(terms)
+}
+
 fn build_multiterms(alloc: Global, schema: &Schema, form: Form<'_>) -> Result<AnyQuery, Fault> {
     let terms = read_terms(alloc, schema, behind(form.words, 1))?;
     if !are_counted(form.words, 0, terms.len()) {
@@ -71,7 +79,7 @@ fn build_phrase(alloc: Global, schema: &Schema, form: Form<'_>) -> Result<AnyQue
 
 // `phraseat SLOP N OFFSET W ..`; where SLOP is `default`, by the call that has none.
 fn build_placed_phrase(alloc: Global, schema: &Schema, form: Form<'_>) -> Result<AnyQuery, Fault> {
-    let terms = read_placed(alloc, schema, behind(form.words, 2))?;
+    let terms = read_placed(alloc, schema, behind(form.words, 2), usize::MAX)?;
     if !are_counted(form.words, 1, terms.len()) {
         return Err(Fault::NotUnderstood);
     }
@@ -102,7 +110,7 @@ fn build_prefix(alloc: Global, schema: &Schema, form: Form<'_>) -> Result<AnyQue
 
 // `prefixat MAX N OFFSET W ..`; where MAX is `default`, none is set.
 fn build_placed_prefix(alloc: Global, schema: &Schema, form: Form<'_>) -> Result<AnyQuery, Fault> {
-    let terms = read_placed(alloc, schema, behind(form.words, 2))?;
+    let terms = read_placed(alloc, schema, behind(form.words, 2), usize::MAX)?;
     if !are_counted(form.words, 1, terms.len()) {
         return Err(Fault::NotUnderstood);
     }

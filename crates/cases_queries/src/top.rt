@@ -1,7 +1,7 @@
 //! The best documents of all segments.
 
-use crate::world::World;
 use cases::{Fault, Memory, end_refusals, write_space};
+use cases_given::World;
 use qm_docset::Score;
 use qm_postings::DocAddress;
 use qm_query::{Query, TopDocs};
@@ -24,6 +24,25 @@ pub fn write_top<Q: Query>(
     let found = TopDocs::with_limit(limit).search(alloc, query, &world.searcher);
     end_refusals(alloc);
     write_found(&found?, text)
+}
+
+/// Writes how many documents the search for at most so many scores, by the weights that the searcher gives.
+pub fn write_top_scored<Q: Query>(
+    alloc: Global,
+    world: &World,
+    query: &Q,
+    limit: &str,
+    memory: Memory,
+    text: &mut String,
+) -> Result<(), Fault> {
+    let Ok(limit) = limit.parse() else {
+        return Err(Fault::NotUnderstood);
+    };
+    let searcher = &world.searcher;
+    memory.begin(alloc);
+    let found = TopDocs::with_limit(limit).search_counted(alloc, query, searcher, searcher);
+    end_refusals(alloc);
+    Ok(write!(text, "{}", found?.scored)?)
 }
 
 fn write_found(found: &[(Score, DocAddress)], text: &mut String) -> Result<(), Fault> {

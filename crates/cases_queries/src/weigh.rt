@@ -1,8 +1,8 @@
 //! The weight of a query, and what it is weighed under.
 
-use crate::provider::{Manner, OwnProvider};
-use crate::world::World;
+use crate::provider::OwnProvider;
 use cases::{Fault, Memory, end_refusals};
+use cases_given::{Manner, World};
 use qm_postings::{Bm25StatisticsProvider, Searcher};
 use qm_query::{AnyQuery, EnableScoring, Query, TermQuery, fitting_weight};
 use qm_weight::AnyWeight;

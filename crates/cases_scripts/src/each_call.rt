@@ -29,21 +29,46 @@ pub fn ask_each_call(
     let mut ending = Ending::Text;
     // each call before this one has failed, and such runs end alike
     for number in 1..MOST_CALLS {
-        let manner = with_failing(trial.manner, kind, number);
-        let outcome = Trial { manner, ..trial }.outcome(alloc)?;
-        if calls_of(&outcome, kind) < number {
+        let failed = run_failing(alloc, trial, kind, number)?;
+        if failed.calls < number {
             return Ok(ending.write(text)?);
         }
-        if number > 1 && outcome.ending != ending {
+        if number > 1 && failed.ending != ending {
             write!(text, "{number}: ")?;
-            return Ok(outcome.ending.write(text)?);
+            return Ok(failed.ending.write(text)?);
         }
-        if let Some(fault) = fault_of(&outcome, trial.script, kind) {
+        if let Some(fault) = failed.fault {
             return Ok(write!(text, "{number}: {fault}")?);
         }
-        ending = outcome.ending;
+        ending = failed.ending;
     }
     Ok(text.push_str("calls without an end")?)
+}
+
+// What came of a run in which a call fails.
+#[derive(Clone, Copy)]
+struct FailedRun {
+    ending: Ending,
+    // how many such calls there were
+    calls: u64,
+    // what is wrong
+    fault: Option<&'static str>,
+}
+
+// Makes the run in which the call of this number fails.
+fn run_failing(
+    alloc: Global,
+    trial: Trial<'_>,
+    kind: Kind,
+    number: u64,
+) -> Result<FailedRun, Fault> {
+    let manner = with_failing(trial.manner, kind, number);
+    let outcome = Trial { manner, ..trial }.outcome(alloc)?;
+    Ok(FailedRun {
+        ending: outcome.ending,
+        calls: calls_of(&outcome, kind),
+        fault: fault_of(&outcome, trial.script, kind),
+    })
 }
 
 fn with_failing(manner: Manner, kind: Kind, number: u64) -> Manner {

@@ -9,12 +9,17 @@ use std::alloc::Global;
 pub fn ask_each_cut(alloc: Global, trial: Trial<'_>, text: &mut String) -> Result<(), Fault> {
     // all beginnings shorter than this one are answered
     for length in 0..trial.script.len() {
-        let outcome = Trial { length, ..trial }.outcome(alloc)?;
-        if let Some(fault) = fault_of(&outcome, trial) {
+        if let Some(fault) = run_cut(alloc, Trial { length, ..trial })? {
             return Ok(write!(text, "{length}: {fault}")?);
         }
     }
     Ok(text.push_str("answered")?)
+}
+
+// Makes the run of a beginning, and answers what is wrong in it.
+fn run_cut(alloc: Global, trial: Trial<'_>) -> Result<Option<&'static str>, Fault> {
+    let outcome = trial.outcome(alloc)?;
+    Ok(fault_of(&outcome, trial))
 }
 
 // What is wrong in the run of a beginning: the lines that it has whole are answered as in the whole script, and

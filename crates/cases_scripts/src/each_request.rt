@@ -21,19 +21,31 @@ pub fn ask_each_request(alloc: Global, trial: Trial<'_>, text: &mut String) -> R
     // each request before this one was refused, and what came is seen
     for number in 1..MOST_REQUESTS {
         let memory = Memory::Refused(number);
-        let outcome = Trial { memory, ..trial }.outcome(alloc)?;
-        if outcome.is_whole(trial.script) {
-            return if is_awaited(alloc) {
-                Ok(seen.write(text)?)
-            } else {
-                Ok(write!(text, "{number}: goes on behind a refusal")?)
-            };
-        }
-        if !seen.take(alloc, trial.script, &outcome)? {
-            return Ok(write!(text, "{number}: neither answers, nor one refusal")?);
+        match seen.take_run(alloc, Trial { memory, ..trial })? {
+            Came::Refusal => {}
+            Came::Answers => {
+                return if is_awaited(alloc) {
+                    Ok(seen.write(text)?)
+                } else {
+                    Ok(write!(text, "{number}: goes on behind a refusal")?)
+                };
+            }
+            Came::Neither => {
+                return Ok(write!(text, "{number}: neither answers, nor one refusal")?);
+            }
         }
     }
     Ok(text.push_str("requests without an end")?)
+}
+
+// What came of a run.
+#[derive(Clone, Copy)]
+enum Came {
+    // all answers
+    Answers,
+    // a refusal as there may be
+    Refusal,
+    Neither,
 }
 
 // What came where a request was refused.
@@ -52,6 +64,19 @@ impl Seen {
             has_memory: false,
             has_write: false,
             lines: Vec::new(alloc),
+        }
+    }
+
+    // Makes a run, and takes what came of it.
+    fn take_run(&mut self, alloc: Global, trial: Trial<'_>) -> Result<Came, Fault> {
+        let outcome = trial.outcome(alloc)?;
+        if outcome.is_whole(trial.script) {
+            return Ok(Came::Answers);
+        }
+        if self.take(alloc, trial.script, &outcome)? {
+            Ok(Came::Refusal)
+        } else {
+            Ok(Came::Neither)
         }
     }
 

@@ -23,11 +23,6 @@ impl Player for Scripts {
         let mut script = Script::new(alloc);
         let mut manner = Manner::new();
         let rows = take_setting(alloc, block.rows, &mut script, &mut manner)?;
-        // how a run ended is always told
-        match rows.first() {
-            Some(row) if row.call == "status" => {}
-            _ => return Err(Fault::NotUnderstood),
-        }
         let trial = Trial {
             call,
             length: script.len(),
@@ -35,11 +30,35 @@ impl Player for Scripts {
             manner,
             memory: Memory::Ample,
         };
-        let outcome = trial.outcome(alloc)?;
-        compare_answers(block, &script, &outcome, report)?;
-        let mut asked = AskedRun { trial, outcome };
-        play_asked(alloc, &mut asked, rows, report)
+        play_trial(alloc, trial, Block { rows, ..block }, report)
     }
+}
+
+// Makes a run, and plays the rows that ask what came of it.
+fn play_trial(
+    alloc: Global,
+    trial: Trial<'_>,
+    block: Block<'_>,
+    report: &mut Report,
+) -> Result<(), Fault> {
+    // how a run ended is always told
+    match block.rows.first() {
+        Some(row) if row.call == "status" => {}
+        _ => return Err(Fault::NotUnderstood),
+    }
+    let outcome = trial.outcome(alloc)?;
+    let mut asked = AskedRun { trial, outcome };
+    play_outcome(alloc, &mut asked, block, report)
+}
+
+fn play_outcome(
+    alloc: Global,
+    asked: &mut AskedRun<'_>,
+    block: Block<'_>,
+    report: &mut Report,
+) -> Result<(), Fault> {
+    compare_answers(block, asked.trial.script, &asked.outcome, report)?;
+    play_asked(alloc, asked, block.rows, report)
 }
 
 fn read_call(words: &[&str]) -> Option<Call> {

@@ -87,8 +87,8 @@ impl<'a> Trial<'a> {
 
     fn written(self, alloc: Global) -> Result<Outcome, Fault> {
         let watch = Watch::new();
-        let mut input = Input::new(self.script, self.length, self.manner.reads, &watch);
         let mut output = Output::new(alloc, self.manner.writes, self.manner.flushes, &watch)?;
+        let mut input = Input::new(self.script, self.length, self.manner.reads, &watch);
         self.memory.begin(alloc);
         let ending = if self.call == Call::Run {
             end_of_run(alloc, &mut input, &mut output)

@@ -3,7 +3,7 @@
 
 ghost use Rattle.std.specs.Prelude.{◌≡◌, ◌<◌, IfOk, IfSome, None, [], nat_lt};
 ghost use Rattle.example_callers.specs.Found.{StandsFirst, found_count};
-ghost use Rattle.qm_query.specs.TopDocs.{AreTopDocs, all_found};
+ghost use Rattle.qm_query.specs.TopDocs.{AreTopDocs, AreTopDocsBy, all_found};
 
 use qm_docset::Score;
 use qm_postings::{Bm25StatisticsProvider, DocAddress, Searcher};
@@ -41,4 +41,24 @@ pub fn first_page<Q: Query>(
     let has_more = found.len() > size;
     found.truncate(size);
     Ok((found, has_more))
+}
+
+/// The best documents that a query finds by the weights of a provider, at most so many; none where not a single
+/// one was scored, since then nothing is found.
+pub fn page_by<Q: Query, P: Bm25StatisticsProvider>(
+    alloc: Global,
+    query: &Q,
+    searcher: &Searcher,
+    provider: &P,
+    size: usize,
+) -> Result<Option<Vec<(Score, DocAddress)>>, QueryError>
+    ensures some { IfOk result (λ page. IfSome page (λ found.
+        AreTopDocsBy P.Bm25StatisticsProvider provider.now searcher.now (Q.query query.now) size found.items)) }
+    ensures none { IfOk result (λ page. page ≡ None → AreTopDocsBy P.Bm25StatisticsProvider provider.now searcher.now (Q.query query.now) size []) }
+{
+    let found = TopDocs::with_limit(size).search_counted(alloc, query, searcher, provider)?;
+    if found.scored == 0 {
+        return Ok(None);
+    }
+    Ok(Some(found.documents))
 }

@@ -1,3 +1,4 @@
 mod Marks
 mod Cutting
 mod Numbering
+mod SegmentEnds

@@ -9,8 +9,9 @@ use Rattle.qm_postings.specs.Reading.{Reader, deleting}
 use Rattle.qm_postings.specs.Statistics.{DeletesIn}
 use Rattle.qm_postings.specs.declared.address.DocAddress.{DocAddress}
 use Rattle.qm_postings.specs.Segment.{Segment, with_deleted}
-use Rattle.qm_index.specs.Numbers.{IsAddressOf, count_of, deleted_among, document_count}
+use Rattle.qm_index.specs.Numbers.{IsAddressOf, count_of, deleted_among, document_count, ends_from}
 use Rattle.qm_index.specs.Parts.{segments_of}
+use Rattle.qm_index.proofs.SegmentEnds.{ends-set}
 
 -- in the first segment, or behind it
 first_of : (s : Segment) (ss : List Segment) (n : ℕ) → n < length s.documents → deleted_among (s ∷ ss) n ≡ with_deleted s n ∷ ss
@@ -155,6 +156,7 @@ document_count-set (q ∷ rs) (suc k) d r there =
 pub record KeepsParts (ended : ℕ) (before after : List Reader) : Type 0 where
   pub number : length after ≡ length before
   pub count : document_count (take ended after) ≡ document_count (take ended before)
+  pub ends : ends_from 0 (take ended after) ≡ ends_from 0 (take ended before)
   pub parts : drop ended after ≡ drop ended before
 
 pub KeepsParts-ended : (readers after : List Reader) (ended wanted : ℕ) (address : DocAddress) → ended ≤ length readers →
@@ -164,12 +166,18 @@ KeepsParts-ended readers after ended wanted address within at deletes =
     record {
       number = ap length deletes.2 ∙ length-set readers address.segment_ord (deleting deletes.0 address.doc_id);
       count = ap document_count deleted.after ∙ document_count-set (take ended readers) deleted.place deleted.doc deleted.reader deleted.there;
+      ends = ap (ends_from 0) deleted.after ∙ ends-set 0 (take ended readers) deleted.place deleted.doc deleted.reader deleted.there;
       parts = ended-others readers after ended wanted address deletes within at;
     }
 
 pub KeepsParts-same : (readers after : List Reader) (ended : ℕ) → after ≡ readers → KeepsParts ended readers after
 KeepsParts-same readers after ended same =
-    record { number = ap length same; count = ap (λ rs. document_count (take ended rs)) same; parts = ap (drop ended) same }
+    record {
+      number = ap length same;
+      count = ap (λ rs. document_count (take ended rs)) same;
+      ends = ap (λ rs. ends_from 0 (take ended rs)) same;
+      parts = ap (drop ended) same;
+    }
 
 -- what holds of a call that succeeds, or of one that fails
 pub either : {A E P Q : Type 0} (r : Result A E) → OnOk r P → OnErr r Q → P ⊎ Q

@@ -1,5 +1,5 @@
 -- What an index holds: its segments, of which the last is open, and what its searcher says of words.
-use Rattle.std.specs.Prelude.{◌≡◌, ◌<◌, ◌≤◌, ◌+◌, ℕ, Bool, true, false, List, [], ◌∷◌, ◌++◌, length, take, vec_len}
+use Rattle.std.specs.Prelude.{◌≡◌, ◌<◌, ◌≤◌, ◌+◌, ℕ, Bool, true, false, List, [], ◌∷◌, ◌++◌, drop, length, take, vec_len}
 use Rattle.qm_postings.specs.Document.{Draft}
 use Rattle.qm_postings.specs.Reading.{Reader}
 use Rattle.qm_postings.specs.Segment.{Segment, document_of, empty_segment, with_deleted, with_document}
@@ -54,6 +54,10 @@ with_open_deleted s place = record { ended = s.ended; current = with_deleted s.c
 abbrev pub Deletes : ℕ → Indexed → Bool → Indexed → Type 0
 Deletes number s true t = (number < count_of (all_segments s)) × (all_segments t ≡ deleted_among (all_segments s) number)
 Deletes number s false t = (count_of (all_segments s) ≤ number) × (t ≡ s)
+
+-- the parts of the open segment
+abbrev pub open_parts : Index → List Segment
+open_parts i = segments_of (drop i.ended i.searcher.segments)
 
 -- all documents of the open segment are in its parts
 abbrev pub IsRefreshed : Index → Type 0

@@ -13,6 +13,11 @@ count_of segments = sum_by (λ s. length s.documents) segments
 abbrev pub document_count : List Reader → ℕ
 document_count readers = sum_by (λ r. length r.segment.documents) readers
 
+-- the numbers behind the last document of each of them, where the first of them begins at this number
+abbrev pub ends_from : ℕ → List Reader → List ℕ
+ends_from first [] = []
+ends_from first (r ∷ rs) = (first + length r.segment.documents) ∷ ends_from (first + length r.segment.documents) rs
+
 -- The address of the document of this number, where the first of these segments has that number.
 pub record IsAddressOf (readers : List Reader) (first wanted : ℕ) (address : DocAddress) : Type 0 where
   pub place : ℕ
@@ -21,6 +26,12 @@ pub record IsAddressOf (readers : List Reader) (first wanted : ℕ) (address : D
   pub there : slice_get readers place ≡ Some reader
   pub document : address.doc_id < length reader.segment.documents
   pub number : wanted ≡ document_count (take place readers) + address.doc_id
+
+-- there is a document at the address
+pub record HasDocument (readers : List Reader) (address : DocAddress) : Type 0 where
+  pub reader : Reader
+  pub there : slice_get readers address.segment_ord ≡ Some reader
+  pub document : address.doc_id < length reader.segment.documents
 
 -- the segments, where the document of this number is deleted too
 abbrev pub deleted_among : List Segment → ℕ → List Segment

@@ -7,13 +7,13 @@ ghost use Rattle.std.specs.List.Sorted.{IsNonDecreasing};
 ghost use Rattle.std.specs.Option.{ForSome};
 ghost use Rattle.qm_docset.specs.declared.numbers.TheConstants.{TERMINATED};
 ghost use Rattle.qm_postings.specs.Segment.{IsGood};
-ghost use Rattle.qm_postings.specs.Statistics.{with_segments, with_weight};
-ghost use Rattle.qm_index.specs.Numbers.{count_of, deleted_among, document_count};
+ghost use Rattle.qm_postings.specs.Statistics.{with_norms, with_segments, with_weight};
+ghost use Rattle.qm_index.specs.Numbers.{count_of, deleted_among, document_count, ends_from};
 ghost use Rattle.qm_index.specs.OpenDocuments.{IsBadDraft, IsDocumentRefusal, segment_of, undeleted};
 ghost use Rattle.qm_index.specs.Parts.{cut, segments_of};
 ghost use Rattle.qm_index.specs.Texts.{texts_draft};
 
-use crate::addresses::address_among;
+use crate::addresses::{address_among, address_by_ends};
 use crate::open_document::{OpenDocument, add_good_texts, add_texts, delete_marked};
 use qm_docset::{DocId, Score, TERMINATED};
 use qm_postings::{Searcher, SegmentBuilder, SegmentReader};
@@ -38,6 +38,8 @@ pub struct Index {
     ended: usize,
     // how many documents the ended segments have
     ended_documents: u64,
+    // the number behind the last document of each of them
+    ends: Vec<u64>,
     // those of the open segment, of which its parts have the first `built`
     documents: Vec<OpenDocument>,
     built: usize,
@@ -50,6 +52,7 @@ pub struct Index {
     ghost some_built: { built ≤ vec_len documents },
     ghost few: { vec_len documents ≤ TERMINATED },
     ghost counted: { ended_documents ≡ document_count (take ended searcher.segments) },
+    ghost ends_known: { ends.items ≡ ends_from 0 (take ended searcher.segments) },
     ghost small: { ended_documents ≤ ended * TERMINATED },
     ghost built_parts: { document_count (drop ended searcher.segments) ≡ built },
     ghost parts: { segments_of (drop ended searcher.segments) ≡ cut searcher.schema block_len (drop ended searcher.segments) documents.items },
@@ -59,7 +62,7 @@ pub struct Index {
 }
 
 impl Index {
-    ghost use Rattle.qm_index.specs.Indexed.{AreMerged, AreSearched, Deletes, IsAsBuilt, IsIndexRefusal, IsMerged, IsRefreshed, all_segments, empty_index, indexed};
+    ghost use Rattle.qm_index.specs.Indexed.{AreMerged, AreSearched, Deletes, IsAsBuilt, IsIndexRefusal, IsMerged, IsRefreshed, all_segments, empty_index, indexed, open_parts};
     ghost use Rattle.qm_index.specs.Indexed.{statistics, with_document_of, with_open_deleted, with_segment_ended};
 
     /// One open segment without documents. A term weighs `default_weight`, in whole scores, as long as it is
@@ -104,6 +107,7 @@ impl Index {
             block_len,
             ended: 0,
             ended_documents: 0,
+            ends: Vec::new(alloc),
             documents: Vec::new(alloc),
             built: 0,
             builder: None,
@@ -149,8 +153,9 @@ impl Index {
     }
 
     /// Deletes the document of this number over all segments, and answers whether there is one. It keeps
-    /// its number, as all others do; to delete it again changes nothing more. Costs a step for each
-    /// segment, and for the first deletion of a segment, or of a part, one for each of its documents.
+    /// its number, as all others do; to delete it again changes nothing more. Costs a search by halving
+    /// among the segments that were ended, or a step for each part of the open one; and for the first
+    /// deletion of a segment, or of a part, a step for each of its documents.
     ///
     /// Refused with [`QueryError::Memory`] alone, and then nothing was deleted.
     pub fn delete(&mut self, alloc: Global, number: u64) -> Result<bool, QueryError>
@@ -194,6 +199,22 @@ impl Index {
         self.searcher.set_weight(term, weight)
     }
 
+    /// Gives each length id its norm from now on, in words. Takes no memory; costs a copy of the norms.
+    ///
+    /// Refused with [`QueryError::BadNorms`] exactly where a norm is less than the one before it, and then
+    /// nothing has changed.
+    pub fn set_norms(&mut self, norms: &[u32; 256]) -> Result<(), QueryError>
+        ensures set { OnOk result (statistics self.new ≡ with_norms (statistics self.old) norms.now) }
+        ensures unchanged { OnErr result (statistics self.new ≡ statistics self.old) }
+        ensures documents { indexed self.new ≡ indexed self.old }
+        ensures refreshed { IsRefreshed self.old → IsRefreshed self.new }
+        ensures merged { IsMerged self.old → IsMerged self.new }
+        ensures bad_norms { IsErrOf result QueryError.BadNorms ↔ ¬ IsNonDecreasing norms.now }
+        ensures refused { IsOkUnless result QueryError.BadNorms }
+    {
+        self.searcher.set_norms(norms)
+    }
+
     /// Ends the open segment, which is built as one, and opens another. Costs what its documents do.
     ///
     /// Refused with [`QueryError::TooManySegments`] exactly where there are 4294967295 with the open
@@ -213,9 +234,11 @@ impl Index {
         }
         self.take_parts_back();
         let segment = self.build_waiting(alloc)?;
+        self.ends.reserve(1)?;
         self.searcher.push_segment(segment)?;
         self.ended += 1;
         self.ended_documents += self.documents.len() as u64;
+        self.ends.push(self.ended_documents).unwrap();
         self.documents.clear();
         self.built = 0;
         Ok(())
@@ -263,6 +286,7 @@ impl Index {
         ensures statistics { with_segments result.now [] ≡ statistics self.now }
         ensures searched { AreSearched (indexed self.now) result.now.segments }
         ensures merged { IsMerged self.now → AreMerged (indexed self.now) result.now.segments }
+        ensures parts { segments_of (drop (length (indexed self.now).ended) result.now.segments) ≡ open_parts self.now }
         ensures few { document_count result.now.segments ≤ 4294967295 * TERMINATED }
     {
         &self.searcher
@@ -292,7 +316,7 @@ impl Index {
         ensures refused { IsOkUnless result QueryError.Memory }
     {
         let ended = &self.searcher.segment_readers()[..self.ended];
-        let address = address_among(ended, 0, number);
+        let address = address_by_ends(ended, &self.ends, number);
         self.searcher.delete(alloc, address)?;
         Ok(())
     }
@@ -367,6 +391,7 @@ impl Index {
         ensures block_len { self.new.block_len ≡ self.old.block_len }
         ensures ended { self.new.ended ≡ self.old.ended }
         ensures ended_documents { self.new.ended_documents ≡ self.old.ended_documents }
+        ensures ends { self.new.ends ≡ self.old.ends }
         ensures documents { self.new.documents ≡ self.old.documents }
         ensures built { self.new.built ≡ self.old.built }
         ensures taken { self.new.builder ≡ None }
@@ -431,6 +456,7 @@ impl Index {
         ensures block_len { self.new.block_len ≡ self.old.block_len }
         ensures ended { self.new.ended ≡ self.old.ended }
         ensures ended_documents { self.new.ended_documents ≡ self.old.ended_documents }
+        ensures ends { self.new.ends ≡ self.old.ends }
         ensures documents { self.new.documents ≡ self.old.documents }
         ensures built { self.new.built ≡ self.old.built }
         ensures taken { self.new.builder ≡ None }

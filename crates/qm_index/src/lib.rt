@@ -9,4 +9,5 @@ mod addresses;
 mod index;
 mod open_document;
 
+pub use addresses::{address_of, number_of};
 pub use index::Index;

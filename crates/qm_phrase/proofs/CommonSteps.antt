@@ -54,7 +54,7 @@ common_below-same : (sets others : List (List ℕ)) (n : ℕ) → ((x : ℕ) →
 unfolding common_below
 common_below-same sets others n same = count_by-same (is_common sets) (is_common others) 0 n (λ y h. same y)
 
-common-same : (sets others : List (List ℕ)) → ((x : ℕ) → is_common sets x ≡ is_common others x) → common_count sets ≡ common_count others
+pub common-same : (sets others : List (List ℕ)) → ((x : ℕ) → is_common sets x ≡ is_common others x) → common_count sets ≡ common_count others
 unfolding common_count
 common-same sets others same = common_below-same sets others all_places same
 

@@ -1,11 +1,13 @@
 pub mod StartSteps
 pub mod CommonSteps
+pub mod PassedPlaces
 pub mod EachRow
 pub mod TermSteps
 pub mod PhraseSteps
 pub mod TermMoves
 pub mod FullTerms
 pub mod SuffixSteps
+pub mod SuffixTrees
 pub mod PrefixMoves
 pub mod PhraseLists
 pub mod PrefixEntries

@@ -14,10 +14,12 @@ use Rattle.qm_phrase.specs.Phrase.{positions_at, sets_at, shifted_each, starts_a
 use Rattle.qm_phrase.specs.PhrasePrefix.{IsCommonOf, PrefixLists, common_count, full_count, full_sets, greatest_of, has_several, held, lists_at, prefix_count}
 use Rattle.qm_phrase.specs.PhrasePrefix.{suffix_count}
 use Rattle.qm_phrase.specs.Places.{shift_of}
-use Rattle.qm_phrase.specs.PrefixTerms.{ArePrefixTerms, FitIn, HaveGoneOn, IsBareOf, IsCommonBuffer, IsPrefixLook, lists_of}
+use Rattle.qm_phrase.specs.Suffixes.{AreSuffixes, suffix_lists}
+use Rattle.qm_phrase.specs.PrefixTerms.{ArePrefixTerms, HaveGoneOn, IsBareOf, IsCommonBuffer, IsPrefixLook, lists_of}
 use Rattle.qm_phrase.specs.Terms.{AreMovedTo, AreTerms, IsLook, term_starts}
 use Rattle.qm_phrase.specs.declared.places.Places.{Places}
 use Rattle.qm_phrase.specs.declared.prefix_terms.PrefixTerms.{PrefixTerms}
+use Rattle.qm_phrase.specs.declared.suffixes.Suffix.{Suffix}
 use Rattle.qm_phrase.proofs.CommonSteps.{common-fewer, common-lacks, common-listed, common-starts, sum_by-none}
 use Rattle.qm_phrase.proofs.FullTerms.{length-sets_at, sets_at-from}
 use Rattle.qm_phrase.proofs.HandedIn.{uncovered}
@@ -88,25 +90,30 @@ module _ {P : Type 0} (D : Ghosts P) where
       full-starts (lists_of D s) d (omega (arith, paired D s.members.items s.places.items terms)) (omega (arith, terms.some))
 
   -- terms whose rows were moved have gone on
-  pub HaveGoneOn-terms : (doc shift : ℕ) (s : PrefixTerms P) (members : List P) (places : List Places) (suffixes : List P) → AreMovedTo D 0 doc s.members.items
-      s.places.items members places → map (from doc) (lists D suffixes) ≡ map (from doc) (lists D s.suffixes.items) → shift ≡ shift_of s.suffix_places →
-      HaveGoneOn doc (lists_of D s) (record { full_shifts = map shift_of places; full = lists D members; suffix_shift = shift; suffixes = lists D suffixes })
+  pub HaveGoneOn-terms : (doc shift : ℕ) (s : PrefixTerms P) (members : List P) (places : List Places) (suffixes : List (Suffix P)) →
+      AreMovedTo D 0 doc s.members.items s.places.items members places →
+      map (from doc) (suffix_lists D suffixes) ≡ map (from doc) (suffix_lists D s.suffixes.items) → shift ≡ shift_of s.suffix_places →
+      HaveGoneOn doc (lists_of D s) (record { full_shifts = map shift_of places; full = lists D members; suffix_shift = shift; suffixes = suffix_lists D suffixes })
   HaveGoneOn-terms doc shift s members places suffixes moved same level =
-      let new : PrefixLists = record { full_shifts = map shift_of places; full = lists D members; suffix_shift = shift; suffixes = lists D suffixes } in
+      let new : PrefixLists = record {
+        full_shifts = map shift_of places;
+        full = lists D members;
+        suffix_shift = shift;
+        suffixes = suffix_lists D suffixes;
+      } in
       let long = length-map members D.entries in
       let starts : (d : ℕ) → full_count new d ≡ term_starts D 0 members places d =
       λ d. full-starts new d (omega (arith, paired D members places moved.valid)) (omega (arith, moved.valid.some)) in
       HaveGoneOn-lists doc (lists_of D s) new level same moved.shifts moved.lists (λ d h. starts d ∙ moved.behind d h)
 
   -- and are terms still
-  pub ArePrefixTerms-moved : (u : PrefixTerms P) (members : List P) (places : List Places) (suffixes : List P) → u.members.items ≡ members →
+  pub ArePrefixTerms-moved : (u : PrefixTerms P) (members : List P) (places : List Places) (suffixes : List (Suffix P)) → u.members.items ≡ members →
       u.places.items ≡ places → u.suffixes.items ≡ suffixes → AreTerms D members places → IsCommonBuffer D members places u.common →
-      All D.valid suffixes → FitIn D suffixes u.suffix_places → shift_of u.suffix_places ≤ 4294967295 → ArePrefixTerms D u
-  ArePrefixTerms-moved u members places suffixes members_are places_are suffixes_are full common valid fit shift = record {
+      AreSuffixes D suffixes u.suffix_places → shift_of u.suffix_places ≤ 4294967295 → ArePrefixTerms D u
+  ArePrefixTerms-moved u members places suffixes members_are places_are suffixes_are full common row shift = record {
     full = rw (members_are, places_are) full;
     common = rw (members_are, places_are) common;
-    suffixes = rw suffixes_are valid;
-    fit = rw suffixes_are fit;
+    suffixes = rw suffixes_are row;
     shift = shift;
   }
 
@@ -118,7 +125,7 @@ module _ {P : Type 0} (D : Ghosts P) where
 
   -- what was counted of a document
   pub counted-is : (s : PrefixTerms P) (doc count : ℕ) (common : List ℕ) → IsCommonOf (full_sets (lists_of D s) doc) common → count
-      ≡ min 4294967295 (sum_by (shared_with (shift_of s.suffix_places) common doc) (lists D s.suffixes.items)) → count ≡ held (prefix_count (lists_of D s) doc)
+      ≡ min 4294967295 (sum_by (shared_with (shift_of s.suffix_places) common doc) (suffix_lists D s.suffixes.items)) → count ≡ held (prefix_count (lists_of D s) doc)
   counted-is s doc count common is counted = counted ∙ ap (min 4294967295) (prefix-listed (lists_of D s) doc common is)
 
   -- terms in the midst of a search

@@ -52,11 +52,11 @@ Ascends-lower low least [] h a = tt
 Ascends-lower low least (p ∷ ps) h a = (omega arith, a.1, a.2)
 
 -- a set that ascends does so from its first place on
-Ascends-first : (low : ℕ) (s : List ℕ) → low ≤ first_place s → Ascends 0 s → Ascends low s
+pub Ascends-first : (low : ℕ) (s : List ℕ) → low ≤ first_place s → Ascends 0 s → Ascends low s
 Ascends-first low [] h a = tt
 Ascends-first low (p ∷ ps) h a = (h, a.1, a.2)
 
-is_in-below : (y low : ℕ) (s : List ℕ) → y < low → Ascends low s → is_in y s ≡ false
+pub is_in-below : (y low : ℕ) (s : List ℕ) → y < low → Ascends low s → is_in y s ≡ false
 is_in-below y low [] h a = refl
 is_in-below y low (p ∷ ps) h a = let rest = is_in-below y (p + 1) ps (omega arith) a.2 in rw (ne_eqb y p (omega arith)) rest
 
@@ -105,7 +105,7 @@ Ascends-past low x (p ∷ ps) a =
       | inr apart ↦ rw (ne_eqb p x apart) a
     ]
 
-first_place-ascends : (low : ℕ) (s : List ℕ) → low ≤ all_places → Ascends low s → low ≤ first_place s
+pub first_place-ascends : (low : ℕ) (s : List ℕ) → low ≤ all_places → Ascends low s → low ≤ first_place s
 first_place-ascends low [] h a = h
 first_place-ascends low (p ∷ ps) h a = a.0
 

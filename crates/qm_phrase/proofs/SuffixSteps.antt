@@ -1,20 +1,12 @@
 -- A term that begins with the prefix, as it is taken to a document.
-use Rattle.std.proofs.Common.{◌≡◌, ℕ, zero, suc, ◌+◌, ◌<◌, ◌≤◌, List, [], ◌∷◌, ◌++◌, min, length, map, take, drop, get_or, refl, ap, sym, ◌∙◌, arith}
-use Rattle.std.specs.List.{sum_by}
-use Rattle.std.proofs.lemmas.List.{get_or-map, length-map}
-use Rattle.std.proofs.lemmas.List.Sums.{sum_by_more}
+use Rattle.std.proofs.Common.{◌≡◌, ℕ, ◌<◌, List, [], ◌∷◌, min, ap, sym, ◌∙◌, arith}
 use Rattle.qm_combine.proofs.Uniting.{entries_of-ahead}
 use Rattle.qm_docset.proofs.Gathering.{entries_of-from}
 use Rattle.qm_docset.specs.Entry.{AreEntries, Entry, Limits, from, head_document, head_positions}
-use Rattle.qm_docset.specs.Lists.{bounds}
-use Rattle.qm_docset.specs.declared.docset.DocSet.{Ghosts}
 use Rattle.qm_docset.specs.declared.numbers.TheConstants.{TERMINATED}
 use Rattle.qm_postings.specs.Positions.{shifted}
 use Rattle.qm_phrase.specs.Phrase.{positions_at}
 use Rattle.qm_phrase.specs.PhrasePrefix.{common_count}
-use Rattle.qm_phrase.specs.Places.{room_of}
-use Rattle.qm_phrase.specs.PrefixTerms.{FitIn}
-use Rattle.qm_phrase.specs.declared.places.Places.{Places}
 use Rattle.qm_phrase.proofs.CommonSteps.{common-lacks}
 use Rattle.qm_phrase.proofs.PhraseSteps.{positions_at-here}
 
@@ -40,28 +32,3 @@ none-shared shift positions common none =
 -- how many of some places a term has in a document
 abbrev pub shared_with : ℕ → List ℕ → ℕ → List Entry → ℕ
 shared_with shift common d es = common_count (shifted shift (positions_at d es) ∷ common ∷ [])
-
--- one more term is counted
-pub counted-more : (shift d i count more sum : ℕ) (common : List ℕ) (all : List (List Entry)) (es : List Entry) → i < length all → get_or all i [] ≡ es →
-    count ≡ min 4294967295 (sum_by (shared_with shift common d) (take i all)) → more ≡ min 4294967295 (shared_with shift common d es) →
-    sum ≡ min 4294967295 (count + more) → sum ≡ min 4294967295 (sum_by (shared_with shift common d) (take (i + 1) all))
-counted-more shift d i count more sum common all es below is counted one both =
-    omega (arith, sum_by_more (shared_with shift common d) all i [] below, ap (shared_with shift common d) is, counted, one, both)
-
--- in a row that is changed one after another the next stands as it did
-pub each_next : {Y : Type 0} (g : Y → Y) (ys : List Y) (i : ℕ) (e : Y) → get_or (map g (take i ys) ++ drop i ys) i e ≡ get_or ys i e
-each_next g [] zero e = refl
-each_next g [] (suc i) e = refl
-each_next g (y ∷ ys) zero e = refl
-each_next g (y ∷ ys) (suc i) e = each_next g ys i e
-
-module _ {P : Type 0} (D : Ghosts P) where
-  -- terms that have moved have room in the buffer as before
-  pub FitIn-kept : (members new : List P) (row row_new : Places) → FitIn D members row →
-      bounds D new ≡ bounds D members → room_of row ≤ room_of row_new → FitIn D new row_new
-  FitIn-kept members new row row_new fit same more k d below =
-      let within : k < length members = omega (arith, ap length same, length-map members D.limits, length-map new D.limits) in
-      let own = get_or-map D.limits new k d (D.limits d) below in
-      let was = get_or-map D.limits members k d (D.limits d) within in
-      let level : D.limits (get_or new k d) ≡ D.limits (get_or members k d) = sym own ∙ ap (λ r. get_or r k (D.limits d)) same ∙ was in
-      omega (arith, ap (λ (l : Limits). l.room) level, fit k d within, more)

@@ -6,6 +6,7 @@ pub mod Terms
 pub mod PhraseScorer
 pub mod PhrasePrefix
 pub mod PhrasePrefixFacts
+pub mod Suffixes
 pub mod PrefixTerms
 pub mod PhrasePrefixScorer
 pub mod PostingsWithOffset

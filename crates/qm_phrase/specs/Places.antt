@@ -1,5 +1,5 @@
 -- What a row of a term's places shows, as a count passes them one after another.
-use Rattle.std.specs.Prelude.{ℕ, ◌+◌, ◌<◌, ◌≤◌, ◌==◌, if◌then◌else◌, List, [], ◌∷◌, drop, max, min, vec_capacity}
+use Rattle.std.specs.Prelude.{◌≡◌, ℕ, ◌+◌, ◌<◌, ◌≤◌, ◌==◌, if◌then◌else◌, List, [], ◌∷◌, All, drop, max, min, take, vec_capacity}
 use Rattle.qm_postings.specs.Positions.{shifted}
 use Rattle.qm_phrase.specs.Starts.{all_places}
 use Rattle.qm_phrase.specs.declared.places.Places.{Places}
@@ -43,3 +43,9 @@ greatest_first (s ∷ sets) = max (first_place s) (greatest_first sets)
 abbrev pub past : ℕ → List ℕ → List ℕ
 past x [] = []
 past x (p ∷ ps) = if p == x then ps else (p ∷ ps)
+
+-- so many places, all below another, were passed of those that were left
+pub record HasPassed (place : ℕ) (old new : List ℕ) : Type 0 where
+  pub number : ℕ
+  pub left : new ≡ drop number old
+  pub below : All (λ p. p < place) (take number old)

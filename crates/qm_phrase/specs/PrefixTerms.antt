@@ -1,11 +1,12 @@
 -- What the terms of a phrase prefix show, as a cursor moves them.
-use Rattle.std.specs.Prelude.{◌≡◌, ℕ, ◌<◌, ◌≤◌, List, All, Result, Ok, Err, map, slice_index_or}
+use Rattle.std.specs.Prelude.{◌≡◌, ℕ, ◌<◌, ◌≤◌, List, Result, Ok, Err, map, slice_index_or}
 use Rattle.qm_docset.specs.Entry.{no_limits}
 use Rattle.qm_docset.specs.Lists.{lists, bounds}
 use Rattle.qm_docset.specs.declared.docset.DocSet.{Ghosts}
 use Rattle.qm_docset.specs.declared.numbers.TheConstants.{TERMINATED}
 use Rattle.qm_phrase.specs.PhrasePrefix.{PrefixLists, full_count, has_several, held, prefix_count}
 use Rattle.qm_phrase.specs.Places.{room_of, shift_of}
+use Rattle.qm_phrase.specs.Suffixes.{AreSuffixes, suffix_lists}
 use Rattle.qm_phrase.specs.Terms.{AreTerms}
 use Rattle.qm_phrase.specs.declared.places.Places.{Places}
 use Rattle.qm_phrase.specs.declared.prefix_terms.PrefixTerms.{PrefixTerms}
@@ -46,16 +47,11 @@ module _ {P : Type 0} (D : Ghosts P) where
     pub shift : shift_of common ≡ slice_index_or (map shift_of places) 0 0
     pub room : (slice_index_or (bounds D members) 0 no_limits).room ≤ room_of common
 
-  -- postings each of which has room for its positions in one buffer
-  abbrev pub FitIn : List P → Places → Type 0
-  FitIn suffixes row = All (λ m. (D.limits m).room ≤ room_of row) suffixes
-
   -- the terms of a phrase prefix, each a cursor, with room for their positions
   pub record ArePrefixTerms (s : PrefixTerms P) : Type 0 where
     pub full : AreTerms D s.members.items s.places.items
     pub common : IsCommonBuffer s.members.items s.places.items s.common
-    pub suffixes : All D.valid s.suffixes.items
-    pub fit : FitIn s.suffixes.items s.suffix_places
+    pub suffixes : AreSuffixes D s.suffixes.items s.suffix_places
     pub shift : shift_of s.suffix_places ≤ 4294967295
 
   -- what they hold
@@ -64,5 +60,5 @@ module _ {P : Type 0} (D : Ghosts P) where
     full_shifts = map shift_of s.places.items;
     full = lists D s.members.items;
     suffix_shift = shift_of s.suffix_places;
-    suffixes = lists D s.suffixes.items;
+    suffixes = suffix_lists D s.suffixes.items;
   }

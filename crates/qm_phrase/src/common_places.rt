@@ -36,8 +36,9 @@ pub(crate) fn collect_common(rows: &mut [Places], common: &mut Places)
     }
 }
 
-/// How many places of a row are among the common ones, held at 4294967295. The two are merged: it
-/// takes at most the number of their places.
+/// How many places of a row are among the common ones, held at 4294967295. The two are merged, and what
+/// lies before the first place of the other is passed at once: it takes at most the number of their
+/// places, and at most that of either times the logarithm of the other.
 pub(crate) fn count_shared(common: &mut Places, row: &mut Places) -> u32
     requires common { Ascends 0 (places_of common.old) }
     requires row { Ascends 0 (places_left row.old) }
@@ -52,7 +53,8 @@ pub(crate) fn count_shared(common: &mut Places, row: &mut Places) -> u32
     let mut count = 0;
     while count < u32::MAX {
         let (place, other) = (row.first(), common.first());
-        if place.max(other) == ALL_PLACES {
+        let greatest = place.max(other);
+        if greatest == ALL_PLACES {
             break;
         }
         if place == other {
@@ -61,6 +63,8 @@ pub(crate) fn count_shared(common: &mut Places, row: &mut Places) -> u32
         let least = place.min(other);
         row.pass(least);
         common.pass(least);
+        row.pass_below(greatest);
+        common.pass_below(greatest);
     }
     count
 }

@@ -30,10 +30,11 @@ use std::alloc::Global;
 /// held alike, at its length id; with a weight and one full term the weight's boost; and else 1.
 ///
 /// The full terms are asked for their documents in turn, and positions are read only of documents that
-/// all of them have. Only where they have a place in common, the terms that begin with the prefix are
-/// sought there. To count a document costs at most the number of its full terms' places times the
-/// number of these terms, and then, for each term that begins with the prefix, its places and the
-/// common ones. No call takes memory.
+/// all of them have. Only where they have a place in common, terms that begin with the prefix are
+/// sought there: those that may have the document, by what they answered before. To count a document
+/// costs at most the number of its full terms' places times the number of these terms. Then each term
+/// that is sought costs the logarithm of how many begin with the prefix, and where it has the document
+/// its places and the common ones. No call takes memory.
 #[derive(Drop)]
 pub struct PhrasePrefixScorer<'a, P> {
     terms: PrefixTerms<P>,
@@ -145,7 +146,7 @@ impl<'a, P: Postings> DocSet for PhrasePrefixScorer<'a, P> {
         self.terms.cost()
     }
 
-    ghost ascending = { λ s h. AreEntries-prefix s.similarity_weight (norm_ids s.fieldnorm_reader) (record { full_shifts = map shift_of s.terms.places.items; full = map P.entries s.terms.members.items; suffix_shift = shift_of s.terms.suffix_places; suffixes = map P.entries s.terms.suffixes.items }) };
+    ghost ascending = { λ s h. AreEntries-prefix s.similarity_weight (norm_ids s.fieldnorm_reader) (record { full_shifts = map shift_of s.terms.places.items; full = map P.entries s.terms.members.items; suffix_shift = shift_of s.terms.suffix_places; suffixes = map (λ suffix. P.entries suffix.postings) s.terms.suffixes.items }) };
 }
 
 impl<'a, P: Postings> Scorer for PhrasePrefixScorer<'a, P> {

@@ -3,9 +3,9 @@
 ghost use Rattle.std.specs.Prelude.{◌≡◌, ◌<◌, ◌≤◌, ◌++◌, ◌∷◌, [], IfOk, length, min};
 ghost use Rattle.qm_docset.specs.Entry.{head_document, head_positions};
 ghost use Rattle.qm_postings.specs.Positions.{shifted};
-ghost use Rattle.qm_phrase.specs.Places.{first_place, past, places_left, places_of, room_of, shift_of};
+ghost use Rattle.qm_phrase.specs.Places.{Ascends, HasPassed, first_place, past, places_left, places_of, room_of, shift_of};
 
-use qm_docset::TERMINATED;
+use qm_docset::{TERMINATED, gallop};
 use qm_postings::Postings;
 use std::alloc::{AllocError, Global};
 
@@ -58,6 +58,22 @@ impl Places {
     {
         if self.first() == place {
             self.passed += 1;
+        }
+    }
+
+    /// Passes the places below this one. Costs the logarithm of their number.
+    pub(crate) fn pass_below(&mut self, place: u64)
+        requires { Ascends 0 (places_left self.old) }
+        ensures left { HasPassed place (places_left self.old) (places_left self.new) }
+        ensures all { places_of self.new ≡ places_of self.old }
+        ensures shift { shift_of self.new ≡ shift_of self.old }
+        ensures room { room_of self.new ≡ room_of self.old }
+    {
+        if self.passed < self.positions.len() {
+            let position = place.saturating_sub(u64::from(self.shift));
+            let target = position.min(u64::from(u32::MAX)) as u32;
+            let left = &self.positions[self.passed..];
+            self.passed += gallop(left, 0, target);
         }
     }
 

@@ -7,7 +7,7 @@ ghost use Rattle.qm_phrase.specs.PrefixTerms.{ArePrefixTerms, HaveGoneOn, IsFirs
 use crate::full_terms::look_at_full;
 use crate::offsets::{greatest_offset, split_terms};
 use crate::places::Places;
-use crate::suffixes::count_suffixes;
+use crate::suffixes::{Suffix, count_suffixes, row_of_suffixes};
 use qm_docset::{DocId, DocSet, TERMINATED};
 use qm_postings::Postings;
 use std::alloc::{AllocError, Global};
@@ -28,7 +28,7 @@ pub(crate) struct PrefixTerms<P> {
     members: Vec<P>,
     places: Vec<Places>,
     common: Places,
-    suffixes: Vec<P>,
+    suffixes: Vec<Suffix<P>>,
     suffix_places: Places,
 }
 
@@ -55,6 +55,7 @@ impl<P: Postings> PrefixTerms<P> {
         let common = Places::with_room(alloc, places[0].shift, members[0].max_term_freq())?;
         let shift = greatest.saturating_sub(suffix_pos) as u32;
         let suffix_places = Places::with_room(alloc, shift, greatest_freq(&suffixes))?;
+        let suffixes = row_of_suffixes(alloc, suffixes, &suffix_places)?;
         Ok(PrefixTerms {
             members,
             places,
@@ -83,7 +84,7 @@ impl<P: Postings> PrefixTerms<P> {
     {
         let full = look_at_full(&mut self.members, &mut self.places, &mut self.common, doc)?;
         let suffix_places = &mut self.suffix_places;
-        match count_suffixes(&mut self.suffixes, suffix_places, &mut self.common, doc) {
+        match count_suffixes(&mut self.suffixes, suffix_places, &mut self.common, doc).0 {
             0 => Err(doc + 1),
             prefix => Ok(PrefixCounts { prefix, full }),
         }
@@ -138,7 +139,7 @@ impl<P: Postings> PrefixTerms<P> {
             cost = cost.saturating_add(member.cost());
         }
         for suffix in &self.suffixes {
-            cost = cost.saturating_add(suffix.cost());
+            cost = cost.saturating_add(suffix.postings.cost());
         }
         cost
     }

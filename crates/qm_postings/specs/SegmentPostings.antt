@@ -41,6 +41,10 @@ looked_block s = cond (nat_lt s.cursor (length s.arrays.documents.now)) (slice_i
 abbrev pub LooksHere : SegmentPostings → Type 0
 LooksHere s = looked_block s ≡ looked_at 0 (head_document (postings_left s)) (postings_blocks s)
 
+-- of two states of a cursor: the block looked at is the same
+abbrev pub LooksAs : SegmentPostings → SegmentPostings → Type 0
+LooksAs s t = looked_block t ≡ looked_block s
+
 -- A cursor over postings: its place is among them, and where positions are read it knows where those
 -- of one posting begin that it stands on or has gone by. The block that it knows begins no later. A block
 -- that it was made to look at is the one of its place, or one behind it.

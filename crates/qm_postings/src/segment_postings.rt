@@ -9,7 +9,7 @@ ghost use Rattle.qm_docset.specs.Lists.{Lists};
 ghost use Rattle.qm_postings.specs.Blocks.{AreAboveLeast, Block, EndBelow, block_at, block_read, looked_at, no_block};
 ghost use Rattle.qm_postings.specs.Positions.{HasAdded, shifted};
 ghost use Rattle.qm_postings.specs.SegmentPostingsFacts.{AreEntries-postings, ArePositions-postings};
-ghost use Rattle.qm_postings.specs.SegmentPostings.{IsPostings, LooksHere, ReadsAs, looked_block, looked_number};
+ghost use Rattle.qm_postings.specs.SegmentPostings.{IsPostings, LooksAs, LooksHere, ReadsAs, looked_block, looked_number};
 ghost use Rattle.qm_postings.specs.SegmentPostings.{postings_blocks, postings_left, postings_limits, reads};
 ghost use Rattle.qm_postings.specs.Stored.{frequency_read};
 ghost use Rattle.qm_postings.specs.TermArrays.{AreArrays, KeepsBlocksBy, array_limits, stored};
@@ -290,6 +290,7 @@ impl<'a> SegmentPostings<'a> {
         ensures entries { postings_left self.new ≡ postings_left self.old }
         ensures limits { postings_limits self.new ≡ postings_limits self.old }
         ensures kept { (s : _) → ReadsAs s self.old → ReadsAs s self.new }
+        ensures stays { LooksAs self.old self.new }
         ensures valid { IsPostings self.new }
     {
         let arrays = self.arrays;
@@ -424,7 +425,10 @@ impl<'a> DocSet for SegmentPostings<'a> {
     ghost ascending = { λ s h. AreEntries-postings s h };
 }
 
+/// The block looked at stays in calls that answer positions.
 impl<'a> Postings for SegmentPostings<'a> {
+    ghost stays = { LooksAs };
+
     fn term_freq(&self) -> u32 {
         match self.reading {
             FreqReadingOption::ReadFreq => self.arrays.frequencies.at(self.cursor),
@@ -451,6 +455,7 @@ impl<'a> Postings for SegmentPostings<'a> {
         ensures entries { postings_left self.new ≡ postings_left self.old }
         ensures limits { postings_limits self.new ≡ postings_limits self.old }
         ensures kept { (s : _) → ReadsAs s self.old → ReadsAs s self.new }
+        ensures stays { LooksAs self.old self.new }
         ensures valid { IsPostings self.new }
     {
         let positions = self.positions_here();

@@ -17,7 +17,7 @@ use Rattle.qm_schema.specs.declared.occur.Occur.TheVariants.{Should}
 use Rattle.qm_weight.specs.Explanations.{IsExplained, IsExplainRefusal}
 use Rattle.qm_weight.specs.Scorers.{IsRefusalOf}
 use Rattle.qm_weight.specs.Tree as tree
-use Rattle.qm_weight.specs.Tree.{LeavesFit, Placed, Tree, clauses_scoring, is_scoring}
+use Rattle.qm_weight.specs.Tree.{LeavesFit, Tree, is_scoring}
 use Rattle.qm_weight.specs.Weights.{placed_at, prefix_alone}
 use Rattle.qm_query.specs.EnableScoring.{is_enabled, provider_of, schema_of}
 use Rattle.qm_query.specs.Fields.{is_served, keeps_positions, phrase_field_refusal, prefix_field_refusal, refusal_without_index, refusal_without_positions}
@@ -28,9 +28,9 @@ use Rattle.qm_query.specs.Query.{subquery, no_disjunct, disjunct}
 use Rattle.qm_query.specs.QueryScorers.{FitsAtOne, QueryFits}
 use Rattle.qm_query.specs.QueryTree.{clause_trees, disjunct_trees, if_scoring, leaf_weighing, query_tree, read_option}
 use Rattle.qm_query.specs.ScoringTrees.{scoring_if_enabled}
-use Rattle.qm_query.specs.Searches.{IsCountOf, IsCountRefusal, IsExplainedIn, IsExplanationOf, IsUnexplained, IsUnexplainedIn, count_in, with_scores}
+use Rattle.qm_query.specs.Searches.{IsCountOf, IsCountRefusal, IsExplainedIn, IsExplanationOf, IsUnexplained, IsUnexplainedIn, count_in, scoring_by, with_scores}
 use Rattle.qm_query.specs.Searches.{without_scores}
-use Rattle.qm_query.specs.TopDocs.{AreBestOf, AreTopDocs, FitsFor, IsRefusalFor, IsTopDocsRefusal}
+use Rattle.qm_query.specs.TopDocs.{AreBestOf, AreTopDocsBy, FitsFor, IsRefusalFor, IsScoredFor, IsScoredIn, IsTopDocsRefusalBy, matching_in}
 use Rattle.qm_query.specs.WeightRefusals.{IsByProvider, IsClauseRefused, IsDisjunctRefused, IsLeafRefusal, IsPrefixByProvider, IsRefused, IsWeightRefusal}
 use Rattle.qm_query.specs.declared.enable_scoring.EnableScoring.{EnableScoring}
 use Rattle.qm_query.specs.declared.enable_scoring.EnableScoring.TheVariants.{Enabled, Disabled}
@@ -212,21 +212,23 @@ module _ (S : Ghosts Searched) (searcher : Searched) (under : EnableScoring Sear
 
 -- ---- explanations
 
-module _ (S : Ghosts Searched) (searcher : Searched) (q : Query) where
-  on_tree : (u : EnableScoring Searched) → provider_of u ≡ Some searcher → query_tree S u q ≡ query_tree S (with_scores searcher) q
+-- two values with the same provider
+module _ {P : Type 0} (S : Ghosts P) (given : P) (searcher : Searched) (q : Query) where
+  on_tree : (u : EnableScoring P) → provider_of u ≡ Some given → query_tree S u q ≡ query_tree S (scoring_by given searcher) q
   on_tree (Enabled s provider) on =
-      let here : provider.now ≡ searcher = cc in
-      same_tree S (Enabled s provider) (with_scores searcher) refl
+      let here : provider.now ≡ given = cc in
+      same_tree S (Enabled s provider) (scoring_by given searcher) refl
       (λ terms i. Some (record { weight = S.weight_of (here i) terms; norms = S.norms_of (here i); boost = 1 })) q
   on_tree (Disabled schema s) on = cc
 
-  on_refusal : (u : EnableScoring Searched) (error : QueryError) → provider_of u ≡ Some searcher →
-      schema_of u ≡ searcher.schema → IsWeightRefusal S u q error → IsWeightRefusal S (with_scores searcher) q error
+  on_refusal : (u : EnableScoring P) (error : QueryError) → provider_of u ≡ Some given →
+      schema_of u ≡ searcher.schema → IsWeightRefusal S u q error → IsWeightRefusal S (scoring_by given searcher) q error
   on_refusal (Enabled s provider) error on fields refused =
-      let here : provider.now ≡ searcher = cc in
-      same_weight_refusal S (Enabled s provider) (with_scores searcher) fields (λ terms e by. subst (λ p. S.may_refuse p terms e) here by) q error refused
+      let here : provider.now ≡ given = cc in
+      same_weight_refusal S (Enabled s provider) (scoring_by given searcher) fields (λ terms e by. subst (λ p. S.may_refuse p terms e) here by) q error refused
   on_refusal (Disabled schema s) error on fields refused = cc
 
+module _ (S : Ghosts Searched) (searcher : Searched) (q : Query) where
   explains_tree : (segment : Segment) (d : ℕ) (value : ℤ) (t : Tree) → t ≡ query_tree S (with_scores searcher) q →
       IsExplained t 1 segment d value → IsExplanationOf S searcher q segment d value
   explains_tree segment d value t same explained =
@@ -253,62 +255,68 @@ module _ (S : Ghosts Searched) (searcher : Searched) (under : EnableScoring Sear
     pub explained : (r : Result E QueryError) → IfOk r (λ e. IsExplained t 1 reader.segment d (value e)) →
         IfOk r (λ e. IsExplainedIn S searcher q found d (value e))
     explained (Ok e) h = subst (λ o. IsExplainedIn S searcher q o d (value e)) (sym there)
-        (explains_tree S searcher q reader.segment d (value e) t (same ∙ on_tree S searcher q under on) h)
+        (explains_tree S searcher q reader.segment d (value e) t (same ∙ on_tree S searcher searcher q under on) h)
     explained (Err e) h = h
 
     pub unexplained : (r : Result E QueryError) → IfErr r (IsExplainRefusal t 1 reader.segment d) → IfErr r (IsUnexplainedIn S searcher q found ord d)
     unexplained (Ok e) h = h
     unexplained (Err e) h =
         subst (λ o. IsUnexplainedIn S searcher q o ord d e) (sym there)
-        (unexplained_tree S searcher q reader.segment d e (subst (λ u. IsExplainRefusal u 1 reader.segment d e) (same ∙ on_tree S searcher q under on) h))
+        (unexplained_tree S searcher q reader.segment d e (subst (λ u. IsExplainRefusal u 1 reader.segment d e) (same ∙ on_tree S searcher searcher q under on) h))
 
   pub unweighed : (error : QueryError) → ((terms : List TermKey) (e : QueryError) → S.may_refuse searcher terms e → IsOfWeights e) →
       schema_of under ≡ searcher.schema → IsWeightRefusal S under q error → IsUnexplainedIn S searcher q found ord d error
   unweighed error asked fields refused =
-      let here = on_refusal S searcher q under error on fields refused in
+      let here = on_refusal S searcher searcher q under error on fields refused in
       subst (λ o. IsUnexplainedIn S searcher q o ord d error) (sym there)
       (unweighed_tree S searcher q reader.segment d error (weight_refusal_of_weights S (with_scores searcher) asked q error here) here)
 
 -- ---- the best documents
 
 -- what a query's own weight finds best, the query does; and so it is refused
-module _ (S : Ghosts Searched) (searcher : Searched) (under : EnableScoring Searched) (q : Query) (on : provider_of under ≡ Some searcher) where
+module _ {P : Type 0} (S : Ghosts P) (given : P) (searcher : Searched) (under : EnableScoring P) (q : Query) (on : provider_of under ≡ Some given) where
   module _ (t : Tree) (same : t ≡ query_tree S under q) where
-    searched_tree : t ≡ query_tree S (with_scores searcher) q
-    searched_tree = same ∙ on_tree S searcher q under on
+    searched_tree : t ≡ query_tree S (scoring_by given searcher) q
+    searched_tree = same ∙ on_tree S given searcher q under on
 
     searched_scores : IsTrue (is_scoring t)
-    searched_scores = subst (λ u. IsTrue (is_scoring u)) (sym searched_tree) (scoring_if_enabled S (with_scores searcher) q refl)
+    searched_scores = subst (λ u. IsTrue (is_scoring u)) (sym searched_tree) (scoring_if_enabled S (scoring_by given searcher) q refl)
 
     pub found_best : {V : Type 0} (items : V → List (ℤ × DocAddress)) (k : ℕ) (r : Result V QueryError) →
-        IfOk r (λ v. IsTrue (is_scoring t) → AreBestOf k t searcher.segments (items v)) → IfOk r (λ v. AreTopDocs S searcher q k (items v))
+        IfOk r (λ v. IsTrue (is_scoring t) → AreBestOf k t searcher.segments (items v)) → IfOk r (λ v. AreTopDocsBy S given searcher q k (items v))
     found_best items k (Ok v) found = record { are = subst (λ u. AreBestOf k u searcher.segments (items v)) searched_tree (found searched_scores) }
     found_best items k (Err e) found = found
 
-    pub best_fits : (k : ℕ) → FitsAtOne t → FitsFor S (with_scores searcher) q k
+    pub scored_for : {V : Type 0} (items : V → ℕ) (scored : V → ℕ) (r : Result V QueryError) →
+        IfOk r (λ v. IsScoredIn t searcher.segments (items v) (scored v)) → IfOk r (λ v. IsScoredFor S given searcher q (items v) (scored v))
+    scored_for items scored (Ok v) made =
+        record { at_least = made.at_least; at_most = omega (arith, made.at_most, ap (λ u. matching_in u searcher.segments) searched_tree) }
+    scored_for items scored (Err e) made = made
+
+    pub best_fits : (k : ℕ) → FitsAtOne t → FitsFor S (scoring_by given searcher) q k
     best_fits zero fits = subst LeavesFit searched_tree fits.leaves
     best_fits (suc k) fits = subst FitsAtOne searched_tree fits
 
     -- .. where none is wanted
-    pub leaves_fit : (k : ℕ) → k ≡ 0 → LeavesFit t → FitsFor S (with_scores searcher) q k
+    pub leaves_fit : (k : ℕ) → k ≡ 0 → LeavesFit t → FitsFor S (scoring_by given searcher) q k
     leaves_fit zero zero_is leaves = subst LeavesFit searched_tree leaves
     leaves_fit (suc k) zero_is leaves = absurd (omega (arith, zero_is))
 
-    refused_for : (k : ℕ) (e : QueryError) → 0 < k → IsRefusalOf t 1 e → IsRefusalFor S (with_scores searcher) q k e
+    refused_for : (k : ℕ) (e : QueryError) → 0 < k → IsRefusalOf t 1 e → IsRefusalFor S (scoring_by given searcher) q k e
     refused_for zero e some refused = absurd (omega (arith, some))
     refused_for (suc k) e some refused = inr (subst (λ u. IsRefusalOf u 1 e) searched_tree refused)
 
-    pub best_refused : {V : Type 0} (k : ℕ) (r : Result V QueryError) → 0 < k → IfErr r (IsRefusalOf t 1) → IfErr r (IsTopDocsRefusal S searcher q k)
+    pub best_refused : {V : Type 0} (k : ℕ) (r : Result V QueryError) → 0 < k → IfErr r (IsRefusalOf t 1) → IfErr r (IsTopDocsRefusalBy S given searcher q k)
     best_refused k (Ok v) some refused = refused
     best_refused k (Err e) some refused = record { refused = refused_for k e some refused }
 
-  unweighed_for : (k : ℕ) (error : QueryError) → IsWeightRefusal S (with_scores searcher) q error → IsRefusalFor S (with_scores searcher) q k error
+  unweighed_for : (k : ℕ) (error : QueryError) → IsWeightRefusal S (scoring_by given searcher) q error → IsRefusalFor S (scoring_by given searcher) q k error
   unweighed_for zero error refused = refused
   unweighed_for (suc k) error refused = inl refused
 
   pub best_unweighed : (k : ℕ) (error : QueryError) → schema_of under ≡ searcher.schema → IsWeightRefusal S under q error →
-      IsTopDocsRefusal S searcher q k error
-  best_unweighed k error fields refused = record { refused = unweighed_for k error (on_refusal S searcher q under error on fields refused) }
+      IsTopDocsRefusalBy S given searcher q k error
+  best_unweighed k error fields refused = record { refused = unweighed_for k error (on_refusal S given searcher q under error on fields refused) }
 
 -- ---- what holds anyway
 

@@ -1,13 +1,13 @@
 -- What is kept of the documents that a search has gone through: step by step the best of them.
-use Rattle.std.specs.Prelude.{◌≡◌, ℕ, ℤ, pos, ◌≤ℤ◌, Bool, true, false, if◌then◌else◌, List, [], ◌∷◌, ◌++◌, All, Result, Ok, Err, IfOk, IsTrue, filter, length}
+use Rattle.std.specs.Prelude.{◌≡◌, ℕ, ◌+◌, ◌≤◌, ℤ, pos, ◌≤ℤ◌, Bool, true, false, if◌then◌else◌, List, [], ◌∷◌, ◌++◌, All, IsTrue, filter, length}
 use Rattle.std.specs.Prelude.{map, take}
 use Rattle.std.specs.BinaryHeap.{heap_items}
 use Rattle.std.specs.List.{fold}
 use Rattle.std.specs.Ordering.{is_lt}
 use Rattle.std.specs.declared.cmp.Ordering.TheVariants.{Less}
 use Rattle.std.proofs.Common.{arith, refl, sym, ap, subst, ◌∙◌, get_or, inl, inr}
-use Rattle.std.proofs.lemmas.Int.{ints}
-use Rattle.std.proofs.lemmas.List.{append-nil, append_assoc, map-append, take-map, take_all}
+use Rattle.std.proofs.lemmas.Int.{by_lt_z, ints}
+use Rattle.std.proofs.lemmas.List.{append-nil, append_assoc, length-map, length-take, map-append, take-map, take_all}
 use Rattle.std.proofs.lemmas.List.Elements.{All-cons, All-from_recursion, All-head, All-map, All-nil, All-tail, All-take}
 use Rattle.std.proofs.lemmas.List.Sums.{fold-append}
 use Rattle.qm_docset.specs.Entry.{Entry}
@@ -17,17 +17,24 @@ use Rattle.qm_postings.specs.Address.{address_cmp}
 use Rattle.qm_postings.specs.Reading.{Reader}
 use Rattle.qm_postings.specs.Segment.{Segment, is_alive}
 use Rattle.qm_postings.specs.declared.address.DocAddress.{DocAddress}
+use Rattle.qm_term.specs.HitRuns.{calls_of, count_above, one_if_above}
+use Rattle.qm_term.specs.Runs.{InRange, Plain, Turn}
+use Rattle.qm_term.specs.RunsFacts.{Plain-enters}
+use Rattle.qm_term.specs.TermBlocks.{hits}
+use Rattle.qm_term.specs.declared.wand.ticks.WandCount.{WandCount}
+use Rattle.qm_term.proofs.WandPlain.{is_above}
 use Rattle.qm_weight.specs.Best.{best, by_score}
 use Rattle.qm_weight.specs.Tree.{Tree, is_scoring, list, matching, score}
+use Rattle.qm_weight.specs.TreeRuns.{PrunesTreeBy}
 use Rattle.qm_query.specs.KeptDocument.{IsThreshold, answer_of, kept_of, ranked, worst_last}
-use Rattle.qm_query.specs.KeptDocuments.{AreBest, Collects, ranked_kept}
+use Rattle.qm_query.specs.KeptDocuments.{AreBest, AreKeptToo, Collects, CollectsAll, CollectsAt, ranked_kept}
 use Rattle.qm_query.specs.Ranking.{put, ranked_with}
-use Rattle.qm_query.specs.TopDocs.{AreBestOf, AreByAddress, alive_matches, alive_matches_from, score_first}
+use Rattle.qm_query.specs.TopDocs.{AreBestOf, AreByAddress, IsScoredIn, alive_matches, alive_matches_from, matching_in, score_first}
 use Rattle.qm_query.specs.TopDocsOrder.{AreByAddress-from}
 use Rattle.qm_query.specs.declared.top_docs.kept_document.KeptDocument.{KeptDocument}
 use Rattle.qm_query.specs.declared.top_docs.kept_documents.KeptDocuments.{KeptDocuments}
 use Rattle.qm_query.proofs.KeptOrder.{lt-behind, no_lesser, not_under, ranked-by_score}
-use Rattle.qm_query.proofs.RankingFacts.{All-ranking, length-ranking, ranked_with-last, ranked_with-take}
+use Rattle.qm_query.proofs.RankingFacts.{All-ranking, length-put, length-ranking, ranked_with-last, ranked_with-take}
 
 All-front : {X : Type 0} (P : X → Type 0) (xs ys : List X) → All P (xs ++ ys) → All P xs
 All-front P [] ys all = All-nil P
@@ -122,6 +129,50 @@ module _ (ord : ℕ) (segment : Segment) (ds : List (DocAddress × ℤ)) (e : En
       IsThreshold kept.limit (heap_items kept.documents) threshold → pos e.score ≤ℤ threshold → KeepsBest kept (entered ord segment ds e)
   KeepsBest-passed kept threshold now is low = passed_by (is_alive segment e.document) kept threshold now is low
 
+-- of one document more there is at most one more kept
+more-kept : (alive : Bool) (limit : ℕ) (document : KeptDocument) (old new : List KeptDocument) →
+    new ≡ (if alive then ranked_with worst_last limit document old else old) → length new ≤ 1 + length old
+more-kept true limit document old new is =
+    let same : length new ≡ length (take limit (put worst_last document old)) = ap length is in
+    omega (arith, same, length-take limit (put worst_last document old), length-put worst_last document old)
+more-kept false limit document old new is =
+    let same : length new ≡ length old = ap length is in
+    omega (arith, same)
+
+-- ---- a run of a callback shows one of a part of its state
+
+-- where each call does to what is shown of the state what a call there does, and what holds before it holds after it
+module _ {F G : Type 0} (call : F → ℕ → ℤ → ℤ → F → Type 0) (shown_call : G → ℕ → ℤ → ℤ → G → Type 0) (shown : F → G) (holds : F → Type 0)
+    (shows : (f h : F) (d : ℕ) (s after : ℤ) → holds f → call f d s after h → holds h × shown_call (shown f) d s after (shown h)) where
+  turn-holds : (th after : ℤ) (f h : F) (d : ℕ) (s : ℤ) → holds f → Turn call th f d s after h → holds h
+  turn-holds th after f h d s now turn =
+      by_lt_z th s (λ above. (shows f h d s after now (turn.called above)).0) (λ low. subst holds (sym (turn.same_callback low)) now)
+
+  turn-shown : (th after : ℤ) (f h : F) (d : ℕ) (s : ℤ) → holds f → Turn call th f d s after h → Turn shown_call th (shown f) d s after (shown h)
+  turn-shown th after f h d s now turn = record {
+    called = λ above. (shows f h d s after now (turn.called above)).1;
+    same_threshold = turn.same_threshold;
+    same_callback = λ low. ap shown (turn.same_callback low);
+  }
+
+  Plain-holding : (th last : ℤ) (f g : F) (es : List Entry) (ths : List ℤ) → holds f → Plain call th f es ths last g →
+      holds g × Plain shown_call th (shown f) es ths last (shown g)
+  Plain-holding th last f g [] [] now run = (subst holds (sym run.1) now, (run.0, ap shown run.1))
+  Plain-holding th last f g [] (t ∷ ths) now run = absurd run
+  Plain-holding th last f g (e ∷ es) [] now run = absurd run
+  Plain-holding th last f g (e ∷ es) (t ∷ ths) now run =
+      let r = run.1 in
+      let rest = Plain-holding r.0 last r.1 g es ths (turn-holds th r.0 f r.1 e.document (pos e.score) now r.2) r.3 in
+      (rest.0, (run.0, (r.0, shown r.1, turn-shown th r.0 f r.1 e.document (pos e.score) now r.2, rest.1)))
+
+-- the same where what holds tells of the state that the run begins with
+pub Plain-shown : {F G : Type 0} (call : F → ℕ → ℤ → ℤ → F → Type 0) (shown_call : G → ℕ → ℤ → ℤ → G → Type 0) (shown : F → G)
+    (holds : F → F → Type 0) (th last : ℤ) (f g : F) (es : List Entry) (ths : List ℤ) → Plain call th f es ths last g →
+    ((k h : F) (d : ℕ) (s after : ℤ) → holds f k → call k d s after h → holds f h × shown_call (shown k) d s after (shown h)) → holds f f →
+    holds f g × Plain shown_call th (shown f) es ths last (shown g)
+Plain-shown call shown_call shown holds th last f g es ths run shows now =
+    Plain-holding call shown_call shown (holds f) shows th last f g es ths now run
+
 -- ---- all entries of a segment
 
 entered_by : (ord : ℕ) (ds : List (DocAddress × ℤ)) (e : Entry) (es : List Entry) (alive : Bool) →
@@ -143,6 +194,91 @@ entered-list ord tree segment ds =
     ∙ ap (λ l. ds ++ map (pair_of ord) l) (filter-map (λ e. is_alive segment e.document) (λ d. scored d (score tree 1 segment d)) (matching tree segment))
     ∙ ap (λ l. ds ++ l) (map-map (pair_of ord) (λ d. scored d (score tree 1 segment d)) (filter (is_alive segment) (matching tree segment)))
 
+-- ---- a run of calls over a segment
+
+-- of such a run the best documents are kept, of those before it and of the segment's
+module _ (ord : ℕ) (tree : Tree) (segment : Segment) (old new : KeptDocuments) (scored : ℕ) (made : CollectsAll ord tree segment old scored new) where
+  abbrev collects : KeptDocuments → ℕ → ℤ → ℤ → KeptDocuments → Type 0
+  collects = InRange (CollectsAt ord segment)
+
+  kept_after : (before : List (DocAddress × ℤ)) →
+      (KeepsBest old before → KeepsBest new (fold (entered ord segment) before made.run.entries)) × (new.limit ≡ old.limit)
+  kept_after before =
+      let run = made.run.run in
+      let all = Plain-enters collects (λ first bar kept ds. (KeepsBest old before → KeepsBest kept ds) ×
+      IsThreshold kept.limit (heap_items kept.documents) bar × (kept.limit ≡ old.limit)) (entered ord segment) old
+      (λ bar after kept next ds e now above call.
+      let at = call.1 in (
+        λ begun. KeepsBest-collected ord segment ds e kept next (now.0 begun) at.before at.limit at.collected,
+        at.threshold,
+        at.limit ∙ now.2,
+      ))
+      (λ bar kept ds e now low. (λ begun. KeepsBest-passed ord segment ds e kept bar (now.0 begun) now.1 low, now.1, now.2))
+      made.run.entries run.thresholds made.threshold run.last new before (λ begun. begun, made.is_kept, refl) run.calls in
+      (all.0, all.2)
+
+  pub AreKeptToo-collected : AreKeptToo ord tree segment old new
+  AreKeptToo-collected = record {
+    limit = (kept_after []).1;
+    best = λ on before up now.
+        subst (KeepsBest new) (ap (fold (entered ord segment) before) (made.run.listed.scores on) ∙ entered-list ord tree segment before)
+        ((kept_after before).0 (λ by. now)) up;
+  }
+
+-- a call keeps one document more at most
+collected-more : (ord : ℕ) (segment : Segment) (d : ℕ) (s answer : ℤ) (old new : KeptDocuments) → CollectsAt ord segment old d s answer new →
+    new.refused ≡ false → length (ranked_kept new) ≤ 1 + length (ranked_kept old)
+collected-more ord segment d s answer old new at fine =
+    let document : KeptDocument = record { score = s; address = record { segment_ord = ord; doc_id = d } } in
+    more-kept (is_alive segment d) old.limit document (ranked_kept old) (ranked_kept new) (at.collected fine)
+
+-- so there are at most as many more as there were calls
+kept-calls : (ord : ℕ) (segment : Segment) (th last : ℤ) (old new : KeptDocuments) (es : List Entry) (ths : List ℤ) →
+    Plain (InRange (CollectsAt ord segment)) th old es ths last new → new.refused ≡ false →
+    (old.refused ≡ false) × (length (ranked_kept new) ≤ length (ranked_kept old) + calls_of ths (hits es))
+unfolding hits count_above
+kept-calls ord segment th last old new [] [] run fine = (subst (λ k. k.refused ≡ false) run.1 fine, omega (arith, ap (λ k. length (ranked_kept k)) run.1))
+kept-calls ord segment th last old new [] (t ∷ ths) run fine = absurd run
+kept-calls ord segment th last old new (e ∷ es) [] run fine = absurd run
+kept-calls ord segment th last old new (e ∷ es) (t ∷ ths) run fine =
+    let r = run.1 in
+    let rest = kept-calls ord segment r.0 last r.1 new es ths r.3 fine in
+    by_lt_z th (pos e.score)
+    (λ above.
+    let at = (r.2.called above).1 in (
+      at.before rest.0,
+      omega (
+        arith,
+        rest.1,
+        collected-more ord segment e.document (pos e.score) r.0 old r.1 at rest.0,
+        ap (λ n. one_if_above n e.score) run.0,
+        is_above th e.score above,
+      ),
+    ))
+    (λ low.
+    let same = r.2.same_callback low in (
+      subst (λ k. k.refused ≡ false) same rest.0,
+      omega (arith, rest.1, ap (λ k. length (ranked_kept k)) same),
+    ))
+
+pub kept-scored : (ord : ℕ) (tree : Tree) (segment : Segment) (old new : KeptDocuments) (scored : ℕ) → CollectsAll ord tree segment old scored new →
+    new.refused ≡ false → (old.refused ≡ false) × (length (ranked_kept new) ≤ length (ranked_kept old) + scored)
+kept-scored ord tree segment old new scored made fine =
+    let run = made.run.run in
+    let more = kept-calls ord segment made.threshold run.last old new made.run.entries run.thresholds run.calls fine in
+    (more.0, omega (arith, more.1, run.at_least, made.counted))
+
+-- No more are scored than match.
+pub ticks-matching : {F : Type 0} (step : F → ℕ → ℤ → ℤ → F → Type 0) (tree : Tree) (segment : Segment) (th : ℤ) (f g : F) (count : WandCount) →
+    PrunesTreeBy step tree 1 segment th f count g → count.ticks ≤ length (matching tree segment)
+ticks-matching step tree segment th f g count made =
+    omega (arith, made.run.at_most, length-map made.entries (λ (e : Entry). e.document), ap length made.listed.documents)
+
+pub scored-matching : (ord : ℕ) (tree : Tree) (segment : Segment) (old new : KeptDocuments) (scored : ℕ) → CollectsAll ord tree segment old scored new →
+    scored ≤ length (matching tree segment)
+scored-matching ord tree segment old new scored made =
+    omega (arith, ticks-matching (CollectsAt ord segment) tree segment made.threshold old new made.count made.run, made.counted)
+
 -- ---- the answer
 
 pub best-answered : (k : ℕ) (ds : List (DocAddress × ℤ)) → AreByAddress ds → map answer_of (take k (ranked (map kept_of ds))) ≡ map score_first (best k ds)
@@ -150,12 +286,20 @@ best-answered k ds up =
     ap (λ l. map answer_of (take k l)) (ranked-by_score ds up)
     ∙ ap (map answer_of) (take-map kept_of k (by_score ds)) ∙ map-map answer_of kept_of (take k (by_score ds))
 
-module _ {V E : Type 0} (items : V → List (ℤ × DocAddress)) (kept : KeptDocuments) (k : ℕ) (tree : Tree) (segments : List Reader) (limit : kept.limit ≡ k)
+module _ {V : Type 0} (items : V → List (ℤ × DocAddress)) (kept : KeptDocuments) (k : ℕ) (tree : Tree) (segments : List Reader) (limit : kept.limit ≡ k)
     (best_kept : IsTrue (is_scoring tree) → AreBest kept (alive_matches_from 0 tree segments)) where
   -- what is kept of all segments is answered
-  pub AreBestOf-kept : (r : Result V E) → IfOk r (λ v. items v ≡ map answer_of (ranked_kept kept)) →
-      IfOk r (λ v. kept.refused ≡ false) → IfOk r (λ v. IsTrue (is_scoring tree) → AreBestOf k tree segments (items v))
-  AreBestOf-kept (Ok v) same ok = λ on.
+  pub AreBestOf-kept : (v : V) → items v ≡ map answer_of (ranked_kept kept) → kept.refused ≡ false → IsTrue (is_scoring tree) →
+      AreBestOf k tree segments (items v)
+  AreBestOf-kept v same ok on =
       same ∙ ap (map answer_of) (best_kept on ok) ∙ ap (λ n. map answer_of (take n (ranked (map kept_of (alive_matches_from 0 tree segments))))) limit
       ∙ best-answered k (alive_matches_from 0 tree segments) (AreByAddress-from 0 tree segments)
-  AreBestOf-kept (Err e) same ok = same
+
+-- no fewer were scored than are answered, and no more than match
+pub IsScoredIn-kept : {V : Type 0} (items : V → List (ℤ × DocAddress)) (kept : KeptDocuments) (tree : Tree) (segments : List Reader) (scored : ℕ)
+    → (kept.refused ≡ false → length (ranked_kept kept) ≤ scored) → scored ≤ matching_in tree segments →
+    (v : V) → items v ≡ map answer_of (ranked_kept kept) → kept.refused ≡ false → IsScoredIn tree segments (length (items v)) scored
+IsScoredIn-kept items kept tree segments scored fewer most v same fine = record {
+  at_least = omega (arith, fewer fine, ap length same, length-map (ranked_kept kept) answer_of);
+  at_most = most;
+}

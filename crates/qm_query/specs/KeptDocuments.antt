@@ -3,8 +3,10 @@ use Rattle.std.specs.Prelude.{◌≡◌, ℕ, ℤ, false, if◌then◌else◌, I
 use Rattle.std.specs.BinaryHeap.{heap_items}
 use Rattle.qm_postings.specs.Segment.{Segment, is_alive}
 use Rattle.qm_postings.specs.declared.address.DocAddress.{DocAddress}
+use Rattle.qm_term.specs.declared.wand.ticks.WandCount.{WandCount}
 use Rattle.qm_weight.specs.Tree.{Tree, is_scoring}
-use Rattle.qm_query.specs.KeptDocument.{kept_of, ranked, worst_last}
+use Rattle.qm_weight.specs.TreeRuns.{PrunesTreeBy}
+use Rattle.qm_query.specs.KeptDocument.{IsThreshold, kept_of, ranked, worst_last}
 use Rattle.qm_query.specs.Ranking.{ranked_with}
 use Rattle.qm_query.specs.TopDocs.{AreByAddress, alive_matches}
 use Rattle.qm_query.specs.declared.top_docs.kept_document.KeptDocument.{KeptDocument}
@@ -19,6 +21,23 @@ abbrev pub Collects : ℕ → Segment → ℕ → ℤ → KeptDocuments → Kept
 Collects ord segment d s old new =
     ranked_kept new ≡ (if is_alive segment d then ranked_with worst_last old.limit
     (record { score = s; address = record { segment_ord = ord; doc_id = d } }) (ranked_kept old) else ranked_kept old)
+
+-- What a call for a document of the segment of that number makes of those that are kept: it is taken in, unless it was
+-- deleted, and the answer is the threshold after it. Nothing is known of them once memory was refused.
+pub record CollectsAt (ord : ℕ) (segment : Segment) (old : KeptDocuments) (d : ℕ) (s answer : ℤ) (new : KeptDocuments) : Type 0 where
+  pub limit : new.limit ≡ old.limit
+  pub before : new.refused ≡ false → old.refused ≡ false
+  pub threshold : IsThreshold new.limit (heap_items new.documents) answer
+  pub collected : new.refused ≡ false → Collects ord segment d s old new
+
+-- The documents of the segment of that number are gone through by a run of such calls, which begins with the threshold
+-- of those that were kept before: so no call is made that could not change them. So many documents were scored.
+pub record CollectsAll (ord : ℕ) (tree : Tree) (segment : Segment) (old : KeptDocuments) (scored : ℕ) (new : KeptDocuments) : Type 0 where
+  pub threshold : ℤ
+  pub is_kept : IsThreshold old.limit (heap_items old.documents) threshold
+  pub count : WandCount
+  pub run : PrunesTreeBy (CollectsAt ord segment) tree 1 segment threshold old count new
+  pub counted : count.ticks ≡ scored
 
 -- the best of some documents are kept, unless memory was refused
 abbrev pub AreBest : KeptDocuments → List (DocAddress × ℤ) → Type 0

@@ -23,9 +23,13 @@ use Rattle.qm_query.specs.declared.enable_scoring.EnableScoring.TheVariants.{Ena
 abbrev pub lent : {X : Type 0} → X → Bor X
 lent x = record { ref_ptr = (0, 0); now = x }
 
+-- scores are wanted, by the weights that a provider gives
+abbrev pub scoring_by : {P : Type 0} → P → Searched → EnableScoring P
+scoring_by provider searcher = Enabled (lent searcher) (lent provider)
+
 -- scores are wanted, by the weights that the searcher gives
 abbrev pub with_scores : Searched → EnableScoring Searched
-with_scores searcher = Enabled (lent searcher) (lent searcher)
+with_scores searcher = scoring_by searcher searcher
 
 -- the documents alone are wanted
 abbrev pub without_scores : Searched → EnableScoring Searched

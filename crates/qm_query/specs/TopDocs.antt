@@ -1,5 +1,5 @@
 -- The best of all documents that a query finds in the segments of a searcher.
-use Rattle.std.specs.Prelude.{◌≡◌, ◌⊎◌, ℕ, zero, suc, ℤ, pos, ◌<ℤ◌, List, [], ◌∷◌, ◌++◌, All, length, map}
+use Rattle.std.specs.Prelude.{◌≡◌, ◌⊎◌, ℕ, zero, suc, ℤ, pos, ◌<ℤ◌, ◌≤◌, List, [], ◌∷◌, ◌++◌, All, length, map}
 use Rattle.std.specs.List.{sum_by}
 use Rattle.std.specs.declared.cmp.Ordering.TheVariants.{Less}
 use Rattle.qm_docset.specs.Entry.{FirstAndOthers}
@@ -12,11 +12,11 @@ use Rattle.qm_postings.specs.declared.statistics.Bm25StatisticsProvider.{Ghosts}
 use Rattle.qm_schema.specs.declared.error.QueryError.{QueryError}
 use Rattle.qm_weight.specs.Best.{best}
 use Rattle.qm_weight.specs.Counts.{alive_matching}
-use Rattle.qm_weight.specs.Tree.{LeavesFit, Tree, score}
+use Rattle.qm_weight.specs.Tree.{LeavesFit, Tree, matching, score}
 use Rattle.qm_query.specs.Query.{Query}
 use Rattle.qm_query.specs.QueryScorers.{IsQueryRefusal, QueryFits}
 use Rattle.qm_query.specs.QueryTree.{query_tree}
-use Rattle.qm_query.specs.Searches.{with_scores}
+use Rattle.qm_query.specs.Searches.{scoring_by}
 use Rattle.qm_query.specs.WeightRefusals.{IsWeightRefusal}
 use Rattle.qm_query.specs.declared.enable_scoring.EnableScoring.{EnableScoring}
 
@@ -35,9 +35,18 @@ abbrev pub alive_matches_from : ℕ → Tree → List Reader → List (DocAddres
 alive_matches_from ord tree [] = []
 alive_matches_from ord tree (reader ∷ readers) = alive_matches ord tree reader.segment ++ alive_matches_from (suc ord) tree readers
 
--- all documents that the query finds and that were not deleted, each with its score, by address
+-- all documents that the query finds and that were not deleted, each with its score by what a provider says that
+-- words weigh, by address
+abbrev pub all_found_by : {P : Type 0} → Ghosts P → P → Searched → Query → List (DocAddress × ℤ)
+all_found_by S provider searcher query = alive_matches_from 0 (query_tree S (scoring_by provider searcher) query) searcher.segments
+
+-- the same where the searcher says it
 abbrev pub all_found : Ghosts Searched → Searched → Query → List (DocAddress × ℤ)
-all_found S searcher query = alive_matches_from 0 (query_tree S (with_scores searcher) query) searcher.segments
+all_found S searcher query = all_found_by S searcher searcher query
+
+-- how many documents of all segments a tree matches, deleted ones too
+abbrev pub matching_in : Tree → List Reader → ℕ
+matching_in tree segments = sum_by (λ reader. length (matching tree reader.segment)) segments
 
 -- each comes before all behind it by address
 abbrev pub AreByAddress : List (DocAddress × ℤ) → Type 0
@@ -59,9 +68,25 @@ abbrev pub AreInOrder : List (ℤ × DocAddress) → Type 0
 AreInOrder [] = Unit {0}
 AreInOrder (d ∷ ds) = FirstAndOthers (All (StandsBefore d) ds) (AreInOrder ds)
 
--- These are the best k: by score downwards, and where the scores are the same by address upwards.
-pub record AreTopDocs (S : Ghosts Searched) (searcher : Searched) (query : Query) (k : ℕ) (found : List (ℤ × DocAddress)) : Type 0 where
-  pub are : found ≡ map score_first (best k (all_found S searcher query))
+-- These are the best k: by score downwards, and where the scores are the same by address upwards. A provider says
+-- what words weigh.
+pub record AreTopDocsBy {P : Type 0} (S : Ghosts P) (provider : P) (searcher : Searched) (query : Query)
+    (k : ℕ) (found : List (ℤ × DocAddress)) : Type 0 where
+  pub are : found ≡ map score_first (best k (all_found_by S provider searcher query))
+
+-- the same where the searcher says it
+abbrev pub AreTopDocs : Ghosts Searched → Searched → Query → ℕ → List (ℤ × DocAddress) → Type 0
+AreTopDocs S searcher query k found = AreTopDocsBy S searcher searcher query k found
+
+-- To find so many documents no fewer were scored, and no more than the query matches.
+pub record IsScoredFor {P : Type 0} (S : Ghosts P) (provider : P) (searcher : Searched) (query : Query) (found scored : ℕ) : Type 0 where
+  pub at_least : found ≤ scored
+  pub at_most : scored ≤ matching_in (query_tree S (scoring_by provider searcher) query) searcher.segments
+
+-- the same of a tree
+pub record IsScoredIn (tree : Tree) (segments : List Reader) (found scored : ℕ) : Type 0 where
+  pub at_least : found ≤ scored
+  pub at_most : scored ≤ matching_in tree segments
 
 -- What fits where so many are wanted: of none what the words of each leaf weigh, which is a score, and of some
 -- the query.
@@ -74,9 +99,13 @@ abbrev pub IsRefusalFor : {P : Type 0} → Ghosts P → EnableScoring P → Quer
 IsRefusalFor S under query zero error = IsWeightRefusal S under query error
 IsRefusalFor S under query (suc k) error = IsQueryRefusal S under query 1 error
 
--- a search for so many, which wants scores, is refused so
-pub record IsTopDocsRefusal (S : Ghosts Searched) (searcher : Searched) (query : Query) (k : ℕ) (error : QueryError) : Type 0 where
-  pub refused : IsRefusalFor S (with_scores searcher) query k error
+-- a search for so many, which wants scores by what a provider says, is refused so
+pub record IsTopDocsRefusalBy {P : Type 0} (S : Ghosts P) (provider : P) (searcher : Searched) (query : Query) (k : ℕ) (error : QueryError) : Type 0 where
+  pub refused : IsRefusalFor S (scoring_by provider searcher) query k error
+
+-- the same where the searcher says it
+abbrev pub IsTopDocsRefusal : Ghosts Searched → Searched → Query → ℕ → QueryError → Type 0
+IsTopDocsRefusal S searcher query k error = IsTopDocsRefusalBy S searcher searcher query k error
 
 -- the same of a tree
 abbrev pub AreBestOf : ℕ → Tree → List Reader → List (ℤ × DocAddress) → Type 0

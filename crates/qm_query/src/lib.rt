@@ -42,4 +42,4 @@ pub use phrase_query::PhraseQuery;
 pub use query::{Query, QueryClone};
 pub use scorers::query_scorer;
 pub use term_query::TermQuery;
-pub use top_docs::TopDocs;
+pub use top_docs::{CountedDocs, TopDocs};

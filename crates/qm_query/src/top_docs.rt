@@ -1,12 +1,13 @@
 //! The best documents of all segments of a searcher.
 
-ghost use Rattle.std.specs.Prelude.{◌≡◌, ◌<◌, IfErr, IfOk, IsTrue, OnOk};
+ghost use Rattle.std.specs.Prelude.{◌≡◌, ◌<◌, ◌≤◌, IfErr, IfOk, IsTrue, length};
+ghost use Rattle.qm_docset.specs.declared.numbers.TheConstants.{TERMINATED};
 ghost use Rattle.qm_weight.specs.Scorers.{IsRefusalOf};
 ghost use Rattle.qm_weight.specs.Tree.{is_scoring};
 ghost use Rattle.qm_weight.specs.Weights.{tree_of};
-ghost use Rattle.qm_query.specs.KeptDocuments.{AreKeptToo};
-ghost use Rattle.qm_query.specs.Searches.{with_scores};
-ghost use Rattle.qm_query.specs.TopDocs.{AreBestOf, AreTopDocs, FitsFor, IsTopDocsRefusal, alive_in};
+ghost use Rattle.qm_query.specs.KeptDocuments.{CollectsAll};
+ghost use Rattle.qm_query.specs.Searches.{scoring_by, with_scores};
+ghost use Rattle.qm_query.specs.TopDocs.{AreBestOf, AreTopDocs, AreTopDocsBy, FitsFor, IsScoredFor, IsScoredIn, IsTopDocsRefusal, IsTopDocsRefusalBy, alive_in};
 
 mod kept_document;
 mod kept_documents;
@@ -21,6 +22,16 @@ use qm_schema::QueryError;
 use qm_weight::{AnyWeight, Weight};
 use std::alloc::Global;
 use std::marker::Model;
+
+/// The best documents that a search found, and what it took.
+#[derive(Debug, Drop)]
+pub struct CountedDocs {
+    /// The best documents, each with its score, in points, and its address: by score downwards, then by
+    /// address upwards.
+    pub documents: Vec<(Score, DocAddress)>,
+    /// How many documents of all segments were scored.
+    pub scored: u64,
+}
 
 /// The best documents that a query finds, at most so many: tantivy's `TopDocs`.
 ///
@@ -72,35 +83,69 @@ impl TopDocs {
         ensures fits { IfOk result (λ _. FitsFor ⟦<Searcher as Bm25StatisticsProvider>⟧ (with_scores searcher.now) (Q.query query.now) self.now) }
         ensures refused { IfErr result (IsTopDocsRefusal ⟦<Searcher as Bm25StatisticsProvider>⟧ searcher.now (Q.query query.now) self.now) }
     {
-        let weight = query.weight(alloc, EnableScoring::enabled_from_searcher(searcher))?;
+        let found = self.search_counted(alloc, query, searcher, searcher)?;
+        Ok(found.documents)
+    }
+
+    /// The same, by what any provider says that terms weigh and what the norms of the length ids are, and with it
+    /// how many documents were scored: no fewer than are answered, and no more than the query matches.
+    pub fn search_counted<Q: Query, P: Bm25StatisticsProvider>(
+        &self,
+        alloc: Global,
+        query: &Q,
+        searcher: &Searcher,
+        statistics_provider: &P,
+    ) -> Result<CountedDocs, QueryError>
+        ensures best { IfOk result (λ found. AreTopDocsBy
+            P.Bm25StatisticsProvider statistics_provider.now searcher.now (Q.query query.now) self.now found.documents.items) }
+        ensures scored { IfOk result (λ found. IsScoredFor
+            P.Bm25StatisticsProvider statistics_provider.now searcher.now (Q.query query.now) (length found.documents.items) found.scored) }
+        ensures fits { IfOk result (λ _.
+            FitsFor P.Bm25StatisticsProvider (scoring_by statistics_provider.now searcher.now) (Q.query query.now) self.now) }
+        ensures refused { IfErr result
+            (IsTopDocsRefusalBy P.Bm25StatisticsProvider statistics_provider.now searcher.now (Q.query query.now) self.now) }
+    {
+        let scoring = EnableScoring::enabled_from_statistics_provider(
+            statistics_provider,
+            searcher,
+        );
+        let weight = query.weight(alloc, scoring)?;
         if self.limit == 0 {
-            return Ok(Vec::new(alloc));
+            return Ok(CountedDocs {
+                documents: Vec::new(alloc),
+                scored: 0,
+            });
         }
         check_fits(&weight)?;
         best_alive(&weight, alloc, searcher, self.limit)
     }
 }
 
-// The best documents of all segments that match and weren't deleted, where some are wanted.
+// The best documents of all segments that match and weren't deleted, where some are wanted, and how many were
+// scored to find them.
 fn best_alive(
     weight: &AnyWeight,
     alloc: Global,
     searcher: &Searcher,
     limit: usize,
-) -> Result<Vec<(Score, DocAddress)>, QueryError>
+) -> Result<CountedDocs, QueryError>
     requires some { 0 < limit }
-    ensures best { IfOk result (λ found. IsTrue (is_scoring (tree_of weight.now)) → AreBestOf limit (tree_of weight.now) searcher.now.segments found.items) }
+    ensures best { IfOk result (λ found.
+        IsTrue (is_scoring (tree_of weight.now)) → AreBestOf limit (tree_of weight.now) searcher.now.segments found.documents.items) }
+    ensures scored { IfOk result (λ found. IsScoredIn (tree_of weight.now) searcher.now.segments (length found.documents.items) found.scored) }
     ensures refused { IfErr result (IsRefusalOf (tree_of weight.now) 1) }
 {
     let room = limit.min(count_alive_documents(searcher));
     let mut kept = KeptDocuments::with_limit(alloc, limit, room)?;
+    let mut scored: u64 = 0;
     let mut segment_ord = 0;
     // the best documents of the segments so far are kept
     for reader in searcher.segment_readers() {
-        collect_segment(weight, alloc, reader, segment_ord, &mut kept)?;
+        scored += collect_segment(weight, alloc, reader, segment_ord, &mut kept)?;
         segment_ord += 1;
     }
-    kept.into_best(alloc)
+    let documents = kept.into_best(alloc)?;
+    Ok(CountedDocs { documents, scored })
 }
 
 // How many documents of all segments weren't deleted.
@@ -115,23 +160,27 @@ fn count_alive_documents(searcher: &Searcher) -> usize
     count
 }
 
-// Enters the documents of one more segment that match and weren't deleted, by a pruned run.
+// Enters the documents of one more segment that match and weren't deleted, by a pruned run from the threshold of those
+// that are kept so far. Answers how many documents were scored.
 fn collect_segment(
     weight: &AnyWeight,
     alloc: Global,
     reader: &SegmentReader,
     segment_ord: u32,
     kept: &mut KeptDocuments,
-) -> Result<(), QueryError>
-    ensures kept { OnOk result (AreKeptToo segment_ord (tree_of weight.now) reader.now.segment kept.old kept.new) }
+) -> Result<u64, QueryError>
+    ensures kept { IfOk result (λ scored. CollectsAll segment_ord (tree_of weight.now) reader.now.segment kept.old scored kept.new) }
+    ensures few { IfOk result (λ scored. scored ≤ TERMINATED) }
     ensures refused { IfErr result (IsRefusalOf (tree_of weight.now) 1) }
 {
+    // no more documents than a cursor may stand on
+    let _documents = reader.max_doc();
     let threshold = kept.threshold();
-    weight.for_each_pruning(
+    let count = weight.for_each_pruning_counted(
         alloc,
         threshold,
         reader,
         &mut |doc, score| { kept.collect(reader, segment_ord, doc, score) },
     )?;
-    Ok(())
+    Ok(count.ticks as u64)
 }

@@ -1,9 +1,11 @@
 -- What is answered where a query was listed, or was not.
 use Rattle.std.proofs.Common.{◌≡◌, ◌⊎◌, inl, inr, ℕ, ℤ, Bool, true, false, List, [], ◌∷◌, ◌++◌, length, arith, Option, None, Result, Ok, Err, IfOk, IfErr, OnOk}
-use Rattle.std.proofs.Common.{refl, sym, subst, ◌∙◌, ◌+◌, length-append}
+use Rattle.std.proofs.Common.{refl, sym, subst, ap, ◌∙◌, ◌+◌, drop, length-append}
+use Rattle.std.proofs.Math.Seq.{drop-append_seam}
+use Rattle.std.specs.List.{drop-map}
 use Rattle.std.specs.Borrow.{Bor}
 use Rattle.std.specs.List.{range_with_len}
-use Rattle.qm_index.specs.Indexed.{AreMerged, AreSearched, all_segments}
+use Rattle.qm_index.specs.Indexed.{AreMerged, AreSearched, all_segments, open_parts}
 use Rattle.qm_index.specs.Parts.{segments_of}
 use Rattle.qm_postings.specs.Reading.{Reader}
 use Rattle.qm_postings.specs.Statistics.{Searched}
@@ -18,17 +20,19 @@ use Rattle.qm_script.specs.AllSegments.{all_listed}
 use Rattle.qm_script.specs.Answers.{AnswersQuery, IsLineRefusal, IsListingAnswer}
 use Rattle.qm_script.specs.Asked.{Builds, asked}
 use Rattle.qm_script.specs.Found.{found_above, found_above_in_parts, found_alive, found_best}
-use Rattle.qm_script.specs.PrefixFree.{has_no_prefix}
-use Rattle.qm_script.specs.Prefixes.{has_prefix}
+use Rattle.qm_script.specs.PrefixFree.{all_prefixes}
+use Rattle.qm_script.specs.Prefixes.{has_failing}
 use Rattle.qm_script.specs.ProgramNumbers.{ungiven_weight}
+use Rattle.qm_script.specs.Reached.{is_reached}
 use Rattle.qm_script.specs.Script as language
-use Rattle.qm_script.specs.ScriptSegments.{Script}
+use Rattle.qm_script.specs.ScriptSegments.{IsReachedBy, IsWhole, Script, script}
 use Rattle.qm_script.specs.State.{State}
 use Rattle.qm_script.specs.Text.{IsListing, listing_text}
 use Rattle.qm_script.specs.Under.{IsForDocuments, IsForScores, IsScoreRefusal, tree_of}
 use Rattle.qm_script.specs.declared.answer.Answer.{Answer}
+use Rattle.qm_script.specs.declared.corpus.Corpus.{Corpus}
 use Rattle.qm_script.specs.declared.answer.Answer.TheVariants.{Refused}
-use Rattle.qm_script.proofs.AskedTrees.{asked-free}
+use Rattle.qm_script.proofs.AskedTrees.{asked-passes}
 use Rattle.qm_script.proofs.BestListings.{best-one_part, best-segments}
 use Rattle.qm_script.proofs.CountLemmas.{counted-one_part, counted-segments}
 use Rattle.qm_script.proofs.OverParts.{listed-few_parts, listed-one_part, listed-parts, listed-segments}
@@ -88,76 +92,61 @@ pub behind_nothing : (text more : List ℕ) → length text ≡ 0 → text ++ mo
 behind_nothing [] more empty = refl
 behind_nothing (b ∷ text) more empty = absurd (omega (arith, empty))
 
--- the open segment may be in parts where the query has no prefix
-by-prefix : (scored b : Bool) (enable : EnableScoring Searched) (s : Script) (q : language.Query) (query : Query) (readers : List Reader) →
-    has_prefix q ≡ b → asked q ≡ Ok query → AreSearched s readers → (b ≡ true → AreMerged s readers) →
-    all_listed scored (tree_of enable query) (segments_of readers) ≡ all_listed scored (tree_of enable query) (all_segments s)
-by-prefix scored true enable s q query readers has built are whole = listed-one_part (tree_of enable query) scored s readers (whole refl)
-by-prefix scored false enable s q query readers has built are whole =
-    let free : has_no_prefix (tree_of enable query) ≡ true =
-    subst (λ r. IfOk r (λ p. has_no_prefix (tree_of enable p) ≡ true)) built (asked-free enable q has) in
-    listed-segments (tree_of enable query) scored s readers free are
-
-pub parts-same : (scored b : Bool) (enable : EnableScoring Searched) (s : Script) (q : language.Query) (query : Query) (readers : List Reader) →
-    b ≡ has_prefix q → asked q ≡ Ok query → AreSearched s readers → (b ≡ true → AreMerged s readers) →
-    all_listed scored (tree_of enable query) (segments_of readers) ≡ all_listed scored (tree_of enable query) (all_segments s)
-parts-same scored b enable s q query readers has built are whole = by-prefix scored b enable s q query readers (sym has) built are whole
-
--- ---- a pruned run
-
 -- the first segments are the ended ones
 ended-length : (s : Script) (ended : ℕ) → length (all_segments s) ≡ ended + 1 → ended ≡ length s.ended
 ended-length s ended number = let whole = length-append s.ended (s.current ∷ []) in omega (arith, number)
 
-above-by-prefix : (threshold : ℤ) (b : Bool) (enable : EnableScoring Searched) (s : Script) (q : language.Query) (query : Query)
-    (ended : ℕ) (readers : List Reader) → has_prefix q ≡ b → asked q ≡ Ok query → ended ≡ length s.ended → AreSearched s readers →
-    (b ≡ true → AreMerged s readers) →
-    found_above_in_parts threshold enable query ended (segments_of readers) ≡ found_above threshold enable query (all_segments s)
-above-by-prefix threshold true enable s q query ended readers has built number are whole =
-    let one = whole refl in
-    pruned-segments (tree_of enable query) threshold s readers one.searched
-    (listed-few_parts (tree_of enable query) true s.current one.searched.parts one.one one.searched.of_current) ended number
-above-by-prefix threshold false enable s q query ended readers has built number are whole =
-    let free : has_no_prefix (tree_of enable query) ≡ true =
-    subst (λ r. IfOk r (λ p. has_no_prefix (tree_of enable p) ≡ true)) built (asked-free enable q has) in
-    pruned-segments (tree_of enable query) threshold s readers are
-    (listed-parts (tree_of enable query) true s.current are.parts free are.of_current) ended number
+-- ---- over the parts of the open segment
 
-pub above-same : (threshold : ℤ) (b : Bool) (enable : EnableScoring Searched) (s : Script) (q : language.Query) (query : Query) (ended : ℕ)
-    (readers : List Reader) → b ≡ has_prefix q → asked q ≡ Ok query → length (all_segments s) ≡ ended + 1 → AreSearched s readers →
-    (b ≡ true → AreMerged s readers) →
-    found_above_in_parts threshold enable query ended (segments_of readers) ≡ found_above threshold enable query (all_segments s)
-above-same threshold b enable s q query ended readers has built number are whole =
-    above-by-prefix threshold b enable s q query ended readers (sym has) built (ended-length s ended number) are whole
+-- the open segment is in one part, or no prefix of a query begins more terms of its parts than it is expanded to
+abbrev pub IsExpanded : language.Query → Script → List Reader → Type 0
+IsExpanded q s readers = AreMerged s readers ⊎ (has_failing (is_reached (segments_of (drop (length s.ended) readers))) q ≡ false)
 
--- ---- a count
+-- so it is where a corpus was built for the query
+pub expanded-built : (q : language.Query) (s : Script) (corpus : Corpus) (readers : List Reader) → script corpus ≡ s →
+    (IsWhole corpus → AreMerged (script corpus) readers) → segments_of (drop (length (script corpus).ended) readers) ≡ open_parts corpus.index →
+    IsWhole corpus ⊎ IsReachedBy q corpus → IsExpanded q s readers
+expanded-built q s corpus readers same whole parts (inl one) = inl (subst (λ t. AreMerged t readers) same (whole one))
+expanded-built q s corpus readers same whole parts (inr reached) =
+    let known = ap (λ (t : Script). segments_of (drop (length t.ended) readers)) (sym same) ∙ parts in
+    inr (ap (λ ps. has_failing (is_reached ps) q) known ∙ reached)
 
-counted-by-prefix : (b : Bool) (enable : EnableScoring Searched) (s : Script) (q : language.Query) (query : Query) (readers : List Reader) →
-    has_prefix q ≡ b → asked q ≡ Ok query → AreSearched s readers → (b ≡ true → AreMerged s readers) →
-    found_alive enable query (segments_of readers) ≡ found_alive enable query (all_segments s)
-counted-by-prefix true enable s q query readers has built are whole = counted-one_part (tree_of enable query) s readers (whole refl)
-counted-by-prefix false enable s q query readers has built are whole =
-    let free : has_no_prefix (tree_of enable query) ≡ true =
-    subst (λ r. IfOk r (λ p. has_no_prefix (tree_of enable p) ≡ true)) built (asked-free enable q has) in
-    counted-segments (tree_of enable query) s readers free are
+-- the parts are the segments behind those that were ended
+parts-behind : (s : Script) (readers : List Reader) (are : AreSearched s readers) → segments_of (drop (length s.ended) readers) ≡ are.parts
+parts-behind s readers are =
+    sym (drop-map (λ (r : Reader). r.segment) (length s.ended) readers) ∙ ap (drop (length s.ended)) are.all ∙ drop-append_seam s.ended are.parts
 
-pub counted-same : (b : Bool) (enable : EnableScoring Searched) (s : Script) (q : language.Query) (query : Query) (readers : List Reader) →
-    b ≡ has_prefix q → asked q ≡ Ok query → AreSearched s readers → (b ≡ true → AreMerged s readers) →
-    found_alive enable query (segments_of readers) ≡ found_alive enable query (all_segments s)
-counted-same b enable s q query readers has built are whole = counted-by-prefix b enable s q query readers (sym has) built are whole
+module _ (enable : EnableScoring Searched) (s : Script) (q : language.Query) (query : Query) (readers : List Reader) (built : asked q ≡ Ok query)
+    (are : AreSearched s readers) where
+  -- then the prefixes of its tree are expanded to all terms of the parts
+  all-expanded : has_failing (is_reached (segments_of (drop (length s.ended) readers))) q ≡ false →
+      all_prefixes (is_reached are.parts) (tree_of enable query) ≡ true
+  all-expanded pass =
+      let same = ap (λ ps. has_failing (is_reached ps) q) (sym (parts-behind s readers are)) ∙ pass in
+      subst (λ r. IfOk r (λ p. all_prefixes (is_reached are.parts) (tree_of enable p) ≡ true)) built (asked-passes (is_reached are.parts) enable q same)
 
--- ---- the best
+  pub parts-same : (scored : Bool) → IsExpanded q s readers →
+      all_listed scored (tree_of enable query) (segments_of readers) ≡ all_listed scored (tree_of enable query) (all_segments s)
+  parts-same scored (inl one) = listed-one_part (tree_of enable query) scored s readers one
+  parts-same scored (inr pass) = listed-segments (tree_of enable query) scored s readers are (all-expanded pass)
 
-best-by-prefix : (count : ℕ) (b : Bool) (enable : EnableScoring Searched) (s : Script) (q : language.Query) (query : Query) (readers : List Reader) →
-    has_prefix q ≡ b → asked q ≡ Ok query → AreSearched s readers → (b ≡ true → AreMerged s readers) →
-    found_best count enable query (segments_of readers) ≡ found_best count enable query (all_segments s)
-best-by-prefix count true enable s q query readers has built are whole = best-one_part (tree_of enable query) count s readers (whole refl)
-best-by-prefix count false enable s q query readers has built are whole =
-    let free : has_no_prefix (tree_of enable query) ≡ true =
-    subst (λ r. IfOk r (λ p. has_no_prefix (tree_of enable p) ≡ true)) built (asked-free enable q has) in
-    best-segments (tree_of enable query) count s readers free are
+  -- a pruned run
+  pub above-same : (threshold : ℤ) (ended : ℕ) → length (all_segments s) ≡ ended + 1 → IsExpanded q s readers →
+      found_above_in_parts threshold enable query ended (segments_of readers) ≡ found_above threshold enable query (all_segments s)
+  above-same threshold ended number (inl one) =
+      pruned-segments (tree_of enable query) threshold s readers one.searched
+      (listed-few_parts (tree_of enable query) true s.current one.searched.parts one.one one.searched.of_current) ended (ended-length s ended number)
+  above-same threshold ended number (inr pass) =
+      pruned-segments (tree_of enable query) threshold s readers are
+      (listed-parts (tree_of enable query) true s.current are.parts (all-expanded pass) are.of_current) ended (ended-length s ended number)
 
-pub best-same : (count : ℕ) (b : Bool) (enable : EnableScoring Searched) (s : Script) (q : language.Query) (query : Query) (readers : List Reader) →
-    b ≡ has_prefix q → asked q ≡ Ok query → AreSearched s readers → (b ≡ true → AreMerged s readers) →
-    found_best count enable query (segments_of readers) ≡ found_best count enable query (all_segments s)
-best-same count b enable s q query readers has built are whole = best-by-prefix count b enable s q query readers (sym has) built are whole
+  -- a count
+  pub counted-same : IsExpanded q s readers → found_alive enable query (segments_of readers) ≡ found_alive enable query (all_segments s)
+  counted-same (inl one) = counted-one_part (tree_of enable query) s readers one
+  counted-same (inr pass) = counted-segments (tree_of enable query) s readers are (all-expanded pass)
+
+  -- the best
+  pub best-same : (count : ℕ) → IsExpanded q s readers →
+      found_best count enable query (segments_of readers) ≡ found_best count enable query (all_segments s)
+  best-same count (inl one) = best-one_part (tree_of enable query) count s readers one
+  best-same count (inr pass) = best-segments (tree_of enable query) count s readers are (all-expanded pass)

@@ -14,7 +14,8 @@ use Rattle.qm_postings.specs.declared.address.DocAddress.{DocAddress}
 use Rattle.qm_query.specs.TopDocs.{addressed, alive_matches, alive_matches_from, score_first}
 use Rattle.qm_query.specs.TopDocsFacts.{All-placed}
 use Rattle.qm_script.specs.BestListed.{alive_listed, alive_listed_from, best_listed, firsts_from, found_item, number_at, scored_item}
-use Rattle.qm_script.specs.PrefixFree.{has_no_prefix}
+use Rattle.qm_script.specs.PrefixFree.{all_prefixes}
+use Rattle.qm_script.specs.Reached.{is_reached}
 use Rattle.qm_script.specs.ScriptSegments.{Script}
 use Rattle.qm_weight.specs.Best.{best, by_score, placed}
 use Rattle.qm_weight.specs.Counts.{alive_matching}
@@ -153,13 +154,14 @@ module _ (tree : Tree) where
       ∙ ap (λ l. picked (items tree (scored_flag tree) first s) ++ l) (listed-picked next segments)
       ∙ sym (picked-append (items tree (scored_flag tree) first s) (items_from tree (scored_flag tree) next segments))
 
-  -- a tree without prefixes
-  pub best-segments : (k : ℕ) (script : Script) (readers : List Reader) → has_no_prefix tree ≡ true → AreSearched script readers →
-      best_listed k tree (segments_of readers) ≡ best_listed k tree (all_segments script)
-  best-segments k script readers free are =
+  -- a tree whose prefixes are expanded to all terms of the parts
+  pub best-segments : (k : ℕ) (script : Script) (readers : List Reader) (are : AreSearched script readers) →
+      all_prefixes (is_reached are.parts) tree ≡ true → best_listed k tree (segments_of readers) ≡ best_listed k tree (all_segments script)
+  best-segments k script readers are pass =
       ap (λ l. map scored_item (best k l)) (listed-picked 0 (segments_of readers)
-      ∙ ap picked (items-segments tree (scored_flag tree) script readers free
-      (λ n s t d e schema document alive. λ i. (alive i, (n, pos (score-same tree free s t d e schema document 1 i)))) are)
+      ∙ ap picked (items-segments tree (scored_flag tree) script readers are pass
+      (λ n s t d e reach reach_too schema document alive.
+      λ i. (alive i, (n, pos (score-same (is_reached are.parts) tree pass s t reach reach_too d e schema document 1 i)))))
       ∙ sym (listed-picked 0 (all_segments script)))
 
   -- any tree, where the open segment is in one part at most

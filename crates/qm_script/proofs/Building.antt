@@ -14,7 +14,8 @@ use Rattle.qm_schema.specs.declared.error.QueryError.TheVariants.{EmptyPrefix, M
 use Rattle.qm_schema.specs.declared.occur.Occur.{Occur}
 use Rattle.qm_script.specs.Asked.{asked, clauses_asked, disjuncts_asked, disjunction_max_asked, phrase_asked, phrase_prefix_asked, prefix_parts, term_of}
 use Rattle.qm_script.specs.Asked.{unless, ◌>>=◌}
-use Rattle.qm_script.specs.Prefixes.{has_prefix, have_clauses_prefix, have_queries_prefix}
+use Rattle.qm_script.specs.PrefixFree.{PrefixTest}
+use Rattle.qm_script.specs.Prefixes.{has_failing, have_clauses_failing, have_queries_failing}
 use Rattle.qm_script.specs.Script as language
 use Rattle.qm_script.specs.Script.{clauses_of, queries_of}
 use Rattle.qm_script.specs.Spelled.{clause_of, query_of}
@@ -149,26 +150,26 @@ module _ (xs : List (Occur × SpelledQuery)) (i : ℕ) (x : Occur × SpelledQuer
       ∙ ap (λ l. with_front front (clauses_asked (clauses_of l))) clause-next
       ∙ ap (λ r. with_front front (r >>= λ p. rest >>= λ cs. Ok ((x.0, p) ∷ cs))) is_refused
 
-  pub clauses-prefix-step : (whole : Bool) → has_prefix (query_of x.1) ≡ false → have_clauses_prefix (clauses_of (drop i (map clause_of xs))) ≡ whole →
-      have_clauses_prefix (clauses_of (drop (i + 1) (map clause_of xs))) ≡ whole
-  clauses-prefix-step whole fails kept =
-      ap (λ b. b || have_clauses_prefix (clauses_of (drop (i + 1) (map clause_of xs)))) (sym fails)
-      ∙ ap (λ l. have_clauses_prefix (clauses_of l)) (sym clause-next) ∙ kept
+  pub clauses-prefix-step : (test : PrefixTest) (whole : Bool) → has_failing test (query_of x.1) ≡ false → have_clauses_failing test (clauses_of (drop i (map clause_of xs))) ≡ whole →
+      have_clauses_failing test (clauses_of (drop (i + 1) (map clause_of xs))) ≡ whole
+  clauses-prefix-step test whole fails kept =
+      ap (λ b. b || have_clauses_failing test (clauses_of (drop (i + 1) (map clause_of xs)))) (sym fails)
+      ∙ ap (λ l. have_clauses_failing test (clauses_of l)) (sym clause-next) ∙ kept
 
-  pub clauses-prefix-found : (whole : Bool) → has_prefix (query_of x.1) ≡ true →
-      have_clauses_prefix (clauses_of (drop i (map clause_of xs))) ≡ whole → whole ≡ true
-  clauses-prefix-found whole holds kept =
-      sym kept ∙ ap (λ l. have_clauses_prefix (clauses_of l)) clause-next
-      ∙ ap (λ b. b || have_clauses_prefix (clauses_of (drop (i + 1) (map clause_of xs)))) holds
+  pub clauses-prefix-found : (test : PrefixTest) (whole : Bool) → has_failing test (query_of x.1) ≡ true →
+      have_clauses_failing test (clauses_of (drop i (map clause_of xs))) ≡ whole → whole ≡ true
+  clauses-prefix-found test whole holds kept =
+      sym kept ∙ ap (λ l. have_clauses_failing test (clauses_of l)) clause-next
+      ∙ ap (λ b. b || have_clauses_failing test (clauses_of (drop (i + 1) (map clause_of xs)))) holds
 
 pub clauses-done : (xs : List (Occur × SpelledQuery)) (i : ℕ) (front : List (Occur × Query)) (whole : Result (List (Occur × Query)) QueryError) →
     length xs ≤ i → with_front front (clauses_asked (clauses_of (drop i (map clause_of xs)))) ≡ whole → whole ≡ Ok front
 clauses-done xs i front whole past kept =
     sym kept ∙ ap (λ l. with_front front (clauses_asked (clauses_of l))) (none_left clause_of xs i past) ∙ ap made (append-nil front)
 
-pub clauses-prefix-done : (xs : List (Occur × SpelledQuery)) (i : ℕ) (whole : Bool) → length xs ≤ i →
-    have_clauses_prefix (clauses_of (drop i (map clause_of xs))) ≡ whole → whole ≡ false
-clauses-prefix-done xs i whole past kept = sym kept ∙ ap (λ l. have_clauses_prefix (clauses_of l)) (none_left clause_of xs i past)
+pub clauses-prefix-done : (test : PrefixTest) (xs : List (Occur × SpelledQuery)) (i : ℕ) (whole : Bool) → length xs ≤ i →
+    have_clauses_failing test (clauses_of (drop i (map clause_of xs))) ≡ whole → whole ≡ false
+clauses-prefix-done test xs i whole past kept = sym kept ∙ ap (λ l. have_clauses_failing test (clauses_of l)) (none_left clause_of xs i past)
 
 module _ (xs : List SpelledQuery) (i : ℕ) (x : SpelledQuery) (below : i < length xs) (is : x ≡ get_or xs i x) where
   disjunct-next : drop i (map query_of xs) ≡ query_of x ∷ drop (i + 1) (map query_of xs)
@@ -191,23 +192,23 @@ module _ (xs : List SpelledQuery) (i : ℕ) (x : SpelledQuery) (below : i < leng
       ∙ ap (λ l. with_front front (disjuncts_asked (queries_of l))) disjunct-next
       ∙ ap (λ r. with_front front (r >>= λ p. rest >>= λ qs. Ok (p ∷ qs))) is_refused
 
-  pub queries-prefix-step : (whole : Bool) → has_prefix (query_of x) ≡ false → have_queries_prefix (queries_of (drop i (map query_of xs))) ≡ whole →
-      have_queries_prefix (queries_of (drop (i + 1) (map query_of xs))) ≡ whole
-  queries-prefix-step whole fails kept =
-      ap (λ b. b || have_queries_prefix (queries_of (drop (i + 1) (map query_of xs)))) (sym fails)
-      ∙ ap (λ l. have_queries_prefix (queries_of l)) (sym disjunct-next) ∙ kept
+  pub queries-prefix-step : (test : PrefixTest) (whole : Bool) → has_failing test (query_of x) ≡ false → have_queries_failing test (queries_of (drop i (map query_of xs))) ≡ whole →
+      have_queries_failing test (queries_of (drop (i + 1) (map query_of xs))) ≡ whole
+  queries-prefix-step test whole fails kept =
+      ap (λ b. b || have_queries_failing test (queries_of (drop (i + 1) (map query_of xs)))) (sym fails)
+      ∙ ap (λ l. have_queries_failing test (queries_of l)) (sym disjunct-next) ∙ kept
 
-  pub queries-prefix-found : (whole : Bool) → has_prefix (query_of x) ≡ true →
-      have_queries_prefix (queries_of (drop i (map query_of xs))) ≡ whole → whole ≡ true
-  queries-prefix-found whole holds kept =
-      sym kept ∙ ap (λ l. have_queries_prefix (queries_of l)) disjunct-next
-      ∙ ap (λ b. b || have_queries_prefix (queries_of (drop (i + 1) (map query_of xs)))) holds
+  pub queries-prefix-found : (test : PrefixTest) (whole : Bool) → has_failing test (query_of x) ≡ true →
+      have_queries_failing test (queries_of (drop i (map query_of xs))) ≡ whole → whole ≡ true
+  queries-prefix-found test whole holds kept =
+      sym kept ∙ ap (λ l. have_queries_failing test (queries_of l)) disjunct-next
+      ∙ ap (λ b. b || have_queries_failing test (queries_of (drop (i + 1) (map query_of xs)))) holds
 
 pub disjuncts-done : (xs : List SpelledQuery) (i : ℕ) (front : List Query) (whole : Result (List Query) QueryError) →
     length xs ≤ i → with_front front (disjuncts_asked (queries_of (drop i (map query_of xs)))) ≡ whole → whole ≡ Ok front
 disjuncts-done xs i front whole past kept =
     sym kept ∙ ap (λ l. with_front front (disjuncts_asked (queries_of l))) (none_left query_of xs i past) ∙ ap made (append-nil front)
 
-pub queries-prefix-done : (xs : List SpelledQuery) (i : ℕ) (whole : Bool) → length xs ≤ i →
-    have_queries_prefix (queries_of (drop i (map query_of xs))) ≡ whole → whole ≡ false
-queries-prefix-done xs i whole past kept = sym kept ∙ ap (λ l. have_queries_prefix (queries_of l)) (none_left query_of xs i past)
+pub queries-prefix-done : (test : PrefixTest) (xs : List SpelledQuery) (i : ℕ) (whole : Bool) → length xs ≤ i →
+    have_queries_failing test (queries_of (drop i (map query_of xs))) ≡ whole → whole ≡ false
+queries-prefix-done test xs i whole past kept = sym kept ∙ ap (λ l. have_queries_failing test (queries_of l)) (none_left query_of xs i past)

@@ -8,7 +8,8 @@ use Rattle.qm_index.specs.Parts.{segments_of}
 use Rattle.qm_postings.specs.Reading.{Reader}
 use Rattle.qm_postings.specs.Segment.{Segment, is_alive}
 use Rattle.qm_script.specs.Counts.{alive_count}
-use Rattle.qm_script.specs.PrefixFree.{has_no_prefix}
+use Rattle.qm_script.specs.PrefixFree.{all_prefixes}
+use Rattle.qm_script.specs.Reached.{is_reached}
 use Rattle.qm_script.specs.ScriptSegments.{Script}
 use Rattle.qm_weight.specs.Counts as one
 use Rattle.qm_weight.specs.Tree.{Tree, matching}
@@ -46,12 +47,12 @@ module _ (tree : Tree) where
         length-append (filter (λ b. b) (items tree flag first s)) (filter (λ b. b) all),
       )
 
-  -- a tree without prefixes
-  pub counted-segments : (script : Script) (readers : List Reader) → has_no_prefix tree ≡ true → AreSearched script readers →
+  -- a tree whose prefixes are expanded to all terms of the parts
+  pub counted-segments : (script : Script) (readers : List Reader) (are : AreSearched script readers) → all_prefixes (is_reached are.parts) tree ≡ true →
       alive_count tree (segments_of readers) ≡ alive_count tree (all_segments script)
-  counted-segments script readers free are =
+  counted-segments script readers are pass =
       counted-items 0 (segments_of readers)
-      ∙ ap trues (items-segments tree flag script readers free (λ n s t d e schema document alive. alive) are)
+      ∙ ap trues (items-segments tree flag script readers are pass (λ n s t d e reach reach_too schema document alive. alive))
       ∙ sym (counted-items 0 (all_segments script))
 
   -- any tree, where the open segment is in one part at most

@@ -13,7 +13,9 @@ mod Running
 mod ReadBack
 mod LineReadBack
 mod States
+mod PrefixDocuments
 mod TreeParts
+mod ReachedParts
 mod PartListings
 mod OverParts
 mod AskedTrees
@@ -22,6 +24,7 @@ mod Building
 mod ListedSegments
 mod Answering
 mod SpelledForms
+mod LastWords
 mod CountLemmas
 mod BestListings
 mod PrunedParts

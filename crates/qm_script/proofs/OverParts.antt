@@ -9,7 +9,8 @@ use Rattle.qm_script.specs.AllSegments.{all_listed, listed, listed_from, wanted_
 use Rattle.qm_index.specs.Indexed.{AreMerged, AreSearched, all_segments}
 use Rattle.qm_index.specs.Parts.{AreParts, segments_of}
 use Rattle.qm_script.specs.Parts.{document_count}
-use Rattle.qm_script.specs.PrefixFree.{has_no_prefix}
+use Rattle.qm_script.specs.PrefixFree.{PrefixTest, all_prefixes}
+use Rattle.qm_script.specs.Reached.{is_reached}
 use Rattle.qm_script.specs.ScriptSegments.{Script}
 use Rattle.qm_weight.specs.Tree.{Tree}
 use Rattle.qm_script.proofs.PartListings.{IsByDocument, IsByDocuments, items-few_parts, items-few_segments, items-parts, items-segments, items_from}
@@ -25,19 +26,21 @@ module _ (tree : Tree) where
   listed-items scored first [] = refl
   listed-items scored first (s ∷ segments) = ap (λ l. listed scored tree first s ++ l) (listed-items scored (first + length s.documents) segments)
 
-  by-document : (scored : Bool) → has_no_prefix tree ≡ true → IsByDocument (numbered_item scored)
-  by-document false free n s t d e schema document alive = refl
-  by-document true free n s t d e schema document alive = ap (λ k. (n, Some (pos k))) (score-same tree free s t d e schema document 1)
+  by-document : (test : PrefixTest) (scored : Bool) → all_prefixes test tree ≡ true → IsByDocument test (numbered_item scored)
+  by-document test false pass n s t d e reach reach_too schema document alive = refl
+  by-document test true pass n s t d e reach reach_too schema document alive =
+      ap (λ k. (n, Some (pos k))) (score-same test tree pass s t reach reach_too d e schema document 1)
 
   by-documents : (scored : Bool) → IsByDocuments (numbered_item scored)
   by-documents false n s t d schema documents alive = refl
   by-documents true n s t d schema documents alive = ap (λ k. (n, Some (pos k))) (score-documents s t schema documents tree 1 d)
 
-  -- the parts of a segment, for a tree without prefixes
-  pub listed-parts : (scored : Bool) (whole : Segment) (parts : List Segment) → has_no_prefix tree ≡ true →
+  -- the parts of a segment, for a tree whose prefixes are expanded to all of their terms
+  pub listed-parts : (scored : Bool) (whole : Segment) (parts : List Segment) → all_prefixes (is_reached parts) tree ≡ true →
       AreParts whole parts → (first : ℕ) → listed_from scored tree first parts ≡ listed scored tree first whole
-  listed-parts scored whole parts free are first =
-      listed-items scored first parts ∙ items-parts tree (numbered_item scored) free (by-document scored free) whole first parts are
+  listed-parts scored whole parts pass are first =
+      listed-items scored first parts
+      ∙ items-parts tree (numbered_item scored) whole first parts pass (by-document (is_reached parts) scored pass) are
 
   -- for any tree, where there is one part at most
   pub listed-few_parts : (scored : Bool) (whole : Segment) (parts : List Segment) → length parts < 2 →
@@ -45,12 +48,12 @@ module _ (tree : Tree) where
   listed-few_parts scored whole parts few are first =
       listed-items scored first parts ∙ items-few_parts tree (numbered_item scored) (by-documents scored) first whole parts few are
 
-  -- a tree without prefixes
-  pub listed-segments : (scored : Bool) (script : Script) (readers : List Reader) → has_no_prefix tree ≡ true →
-      AreSearched script readers → all_listed scored tree (segments_of readers) ≡ all_listed scored tree (all_segments script)
-  listed-segments scored script readers free are =
+  -- a tree whose prefixes are expanded to all terms of the parts
+  pub listed-segments : (scored : Bool) (script : Script) (readers : List Reader) (are : AreSearched script readers) →
+      all_prefixes (is_reached are.parts) tree ≡ true → all_listed scored tree (segments_of readers) ≡ all_listed scored tree (all_segments script)
+  listed-segments scored script readers are pass =
       listed-items scored 0 (segments_of readers)
-      ∙ items-segments tree (numbered_item scored) script readers free (by-document scored free) are
+      ∙ items-segments tree (numbered_item scored) script readers are pass (by-document (is_reached are.parts) scored pass)
       ∙ sym (listed-items scored 0 (all_segments script))
 
   -- any tree, where the open segment is in one part at most

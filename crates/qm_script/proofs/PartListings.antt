@@ -2,7 +2,7 @@
 -- segment.
 use Rattle.std.proofs.Common.{◌≡◌, ℕ, ◌+◌, ◌-◌, ◌<◌, ◌≤◌, ◌&&◌, true, not, List, [], ◌∷◌, ◌++◌, length, map, filter, ap, sym, ◌∙◌, arith}
 use Rattle.std.proofs.Common.{append-nil, add-zero, zero-add, lt-ltb, le-ltb, inl, inr, drop, length-take}
-use Rattle.std.specs.List.{range_with_len}
+use Rattle.std.specs.List.{AllByRecursion, range_with_len}
 use Rattle.std.proofs.lemmas.Bool.{cases_lt}
 use Rattle.std.proofs.lemmas.List.{get_or-drop, get_or-take, length-drop, map-append, take_all}
 use Rattle.std.proofs.lemmas.List.Elements.{filter-append}
@@ -11,16 +11,20 @@ use Rattle.qm_index.specs.Parts.{AreParts, ArePartsFrom, part_of, segments_of}
 use Rattle.qm_postings.specs.Reading.{Reader}
 use Rattle.qm_postings.specs.Segment.{Segment, is_alive, is_deleted, no_document}
 use Rattle.qm_postings.proofs.DeletedDocuments.{among_members}
-use Rattle.qm_script.specs.PrefixFree.{has_no_prefix}
+use Rattle.qm_script.specs.PrefixFree.{PrefixTest, all_prefixes}
+use Rattle.qm_script.specs.Reached.{Reaches, is_reached}
 use Rattle.qm_script.specs.ScriptSegments.{Script}
 use Rattle.qm_weight.specs.Tree.{Tree, matches, matching}
+use Rattle.qm_script.proofs.PrefixDocuments.{document_at}
+use Rattle.qm_script.proofs.ReachedParts.{parts-reach, whole-reaches}
 use Rattle.qm_script.proofs.Ranges.{map-filter-shifted, range-append}
-use Rattle.qm_script.proofs.TreeParts.{document_at, matches-same, matching-documents}
+use Rattle.qm_script.proofs.TreeParts.{matches-same, matching-documents}
 
--- an item is made of its number, the schema, one document, and whether this was deleted
-abbrev pub IsByDocument : {Y : Type 0} → (ℕ → Segment → ℕ → Y) → Type 0
-IsByDocument item = (n : ℕ) (s t : Segment) (d e : ℕ) → s.schema ≡ t.schema → document_at s d ≡ document_at t e →
-    is_alive s d ≡ is_alive t e → item n s d ≡ item n t e
+-- An item is made of its number, the schema, one document, and whether this was deleted, where a prefix that passes the
+-- test is expanded to all terms that begin with it.
+abbrev pub IsByDocument : {Y : Type 0} → PrefixTest → (ℕ → Segment → ℕ → Y) → Type 0
+IsByDocument test item = (n : ℕ) (s t : Segment) (d e : ℕ) → Reaches test s → Reaches test t → s.schema ≡ t.schema →
+    document_at s d ≡ document_at t e → is_alive s d ≡ is_alive t e → item n s d ≡ item n t e
 
 -- an item is made of its number, the schema and the documents, and of which are deleted
 abbrev pub IsByDocuments : {Y : Type 0} → (ℕ → Segment → ℕ → Y) → Type 0
@@ -70,7 +74,8 @@ module _ {Y : Type 0} (tree : Tree) (item : ℕ → Segment → ℕ → Y) where
   items_from first [] = []
   items_from first (s ∷ ss) = items first s ++ items_from (first + length s.documents) ss
 
-  module _ (free : has_no_prefix tree ≡ true) (item-same : IsByDocument item) (whole : Segment) (first : ℕ) where
+  module _ (test : PrefixTest) (pass : all_prefixes test tree ≡ true) (item-same : IsByDocument test item)
+      (whole : Segment) (reach : Reaches test whole) (first : ℕ) where
     -- the items of n documents of the whole, from document a on
     abbrev stretch : ℕ → ℕ → List Y
     stretch a n = map (λ d. item (first + d) whole d) (filter (matches tree whole) (range_with_len a n))
@@ -82,9 +87,9 @@ module _ {Y : Type 0} (tree : Tree) (item : ℕ → Segment → ℕ → Y) where
         ∙ map-append (λ d. item (first + d) whole d) (filter (matches tree whole) (range_with_len a n)) (filter (matches tree whole) (range_with_len (a + n) m))
 
     -- a part of it
-    part : (before : ℕ) (p : Segment) → p ≡ part_of whole before (length p.documents) → before + length p.documents ≤ length whole.documents →
-        items (first + before) p ≡ stretch before (length p.documents)
-    part before p is within =
+    part : (before : ℕ) (p : Segment) → Reaches test p → p ≡ part_of whole before (length p.documents) →
+        before + length p.documents ≤ length whole.documents → items (first + before) p ≡ stretch before (length p.documents)
+    part before p reach_part is within =
         let schema : p.schema ≡ whole.schema = ap (λ s. s.schema) is in
         let document : (d : ℕ) → d < length p.documents → document_at p (0 + d) ≡ document_at whole (before + d) =
         λ d below. ap (document_at p) (zero-add d) ∙ document-part whole p before is d below in
@@ -92,32 +97,38 @@ module _ {Y : Type 0} (tree : Tree) (item : ℕ → Segment → ℕ → Y) where
         λ d below. ap (is_alive p) (zero-add d) ∙ alive-part whole p before is within d below in
         map-filter-shifted (matches tree p) (matches tree whole) (λ d. item (first + before + d) p d)
         (λ d. item (first + d) whole d) 0 before (length p.documents)
-        (λ d below. matches-same tree free p whole (0 + d) (before + d) schema (document d below))
+        (λ d below. matches-same test tree pass p whole reach_part reach (0 + d) (before + d) schema (document d below))
         (λ d below.
         let number : first + before + (0 + d) ≡ first + (before + d) = omega arith in
         ap (λ n. item n p (0 + d)) number
-        ∙ item-same (first + (before + d)) p whole (0 + d) (before + d) schema (document d below) (alive d below))
+        ∙ item-same (first + (before + d)) p whole (0 + d) (before + d) reach_part reach schema (document d below) (alive d below))
 
     -- all parts from some on
-    parts-from : (before : ℕ) (parts : List Segment) → before ≤ length whole.documents → ArePartsFrom before whole parts →
-        items_from (first + before) parts ≡ stretch before (length whole.documents - before)
-    parts-from before [] below are = let none : length whole.documents - before ≡ 0 = omega (arith, are) in ap (stretch before) (sym none)
-    parts-from before (p ∷ parts) below are =
+    parts-from : (before : ℕ) (parts : List Segment) → AllByRecursion (Reaches test) parts → before ≤ length whole.documents →
+        ArePartsFrom before whole parts → items_from (first + before) parts ≡ stretch before (length whole.documents - before)
+    parts-from before [] each below are = let none : length whole.documents - before ≡ 0 = omega (arith, are) in ap (stretch before) (sym none)
+    parts-from before (p ∷ parts) each below are =
         let n = length p.documents in
         let within = part-within whole p before are.0 below in
         let number : first + before + n ≡ first + (before + n) = omega arith in
         let all : n + (length whole.documents - (before + n)) ≡ length whole.documents - before = omega (arith, within) in
-        ap (λ l. l ++ items_from (first + before + n) parts) (part before p are.0 within)
+        ap (λ l. l ++ items_from (first + before + n) parts) (part before p each.0 are.0 within)
         ∙ ap (λ k. stretch before n ++ items_from k parts) number
-        ∙ ap (λ l. stretch before n ++ l) (parts-from (before + n) parts within are.1)
+        ∙ ap (λ l. stretch before n ++ l) (parts-from (before + n) parts each.1 within are.1)
         ∙ sym (stretch-append before n (length whole.documents - (before + n)))
         ∙ ap (stretch before) all
 
     -- all parts
-    pub items-parts : (parts : List Segment) → AreParts whole parts → items_from first parts ≡ items first whole
-    items-parts parts are =
+    stretch-parts : (parts : List Segment) → AllByRecursion (Reaches test) parts → AreParts whole parts → items_from first parts ≡ items first whole
+    stretch-parts parts each are =
         let all : length whole.documents - 0 ≡ length whole.documents = omega arith in
-        ap (λ k. items_from k parts) (sym (add-zero first)) ∙ parts-from 0 parts (omega arith) are ∙ ap (stretch 0) all
+        ap (λ k. items_from k parts) (sym (add-zero first)) ∙ parts-from 0 parts each (omega arith) are ∙ ap (stretch 0) all
+
+  -- the parts of a segment, where prefixes are expanded to all of their terms
+  pub items-parts : (whole : Segment) (first : ℕ) (parts : List Segment) → all_prefixes (is_reached parts) tree ≡ true →
+      IsByDocument (is_reached parts) item → AreParts whole parts → items_from first parts ≡ items first whole
+  items-parts whole first parts pass item-same are =
+      stretch-parts (is_reached parts) pass item-same whole (whole-reaches whole parts are) first parts (parts-reach parts) are
 
   -- one part, whatever the tree
   module _ (item-same : IsByDocuments item) where
@@ -144,13 +155,13 @@ module _ {Y : Type 0} (tree : Tree) (item : ℕ → Segment → ℕ → Y) where
 -- ---- the segments of a script, of which the open one is in parts
 
 module _ {Y : Type 0} (tree : Tree) (item : ℕ → Segment → ℕ → Y) (script : Script) (readers : List Reader) where
-  -- a tree without prefixes
-  pub items-segments : has_no_prefix tree ≡ true → IsByDocument item → AreSearched script readers →
+  -- a tree whose prefixes are expanded to all of their terms
+  pub items-segments : (are : AreSearched script readers) → all_prefixes (is_reached are.parts) tree ≡ true → IsByDocument (is_reached are.parts) item →
       items_from tree item 0 (segments_of readers) ≡ items_from tree item 0 (all_segments script)
-  items-segments free item-same are =
+  items-segments are pass item-same =
       ap (items_from tree item 0) are.all
       ∙ items_from-append tree item 0 script.ended are.parts script.current
-      (λ n. items-parts tree item free item-same script.current n are.parts are.of_current)
+      (λ n. items-parts tree item script.current n are.parts pass item-same are.of_current)
 
   -- any tree, where the open segment has at most one part
   pub items-few_segments : IsByDocuments item → (are : AreSearched script readers) →

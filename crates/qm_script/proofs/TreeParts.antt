@@ -1,28 +1,21 @@
 -- What a query's tree matches and scores over the parts of a segment is what it does over the segment.
-use Rattle.std.proofs.Common.{◌≡◌, ℕ, ◌+◌, ◌*◌, Bool, true, false, ◌&&◌, if◌then◌else◌, List, [], ◌∷◌, length, map, filter, slice_index_or}
+use Rattle.std.proofs.Common.{◌≡◌, ℕ, ◌+◌, ◌*◌, Bool, true, false, ◌&&◌, if◌then◌else◌, List, [], ◌∷◌, length, map, filter}
 use Rattle.std.proofs.Common.{Option, None, Some, refl, ap, sym, ◌∙◌}
 use Rattle.std.proofs.lemmas.Bool.{false≢true}
 use Rattle.std.specs.List.{range_with_len, sum}
 use Rattle.qm_docset.specs.Gather.{scored}
-use Rattle.qm_schema.specs.Schema.{FieldFacts}
 use Rattle.qm_schema.specs.declared.occur.Occur.{Occur}
 use Rattle.qm_schema.specs.declared.occur.Occur.TheVariants.{Should, Must, MustNot}
 use Rattle.qm_term.specs.Bm25.{Weighing}
-use Rattle.qm_postings.specs.Segment.{Document, Segment, frequency, no_document}
+use Rattle.qm_postings.specs.Segment.{Segment, frequency}
 use Rattle.qm_weight.specs.Tree.{Tree, Clauses, all, none, term, phrase, phrase_prefix, boolean, boost, constant, clause, no_clause, boolean_matches}
 use Rattle.qm_weight.specs.Tree.{clause_matches, clause_scores, combined, field_of, full_places, list, matches, matching, occurs_as, phrase_count, Placed}
 use Rattle.qm_weight.specs.Tree.{prefix_score, score, weighed}
-use Rattle.qm_script.specs.PrefixFree.{has_no_prefix, clauses_have_no_prefix}
+use Rattle.qm_script.specs.PrefixFree.{PrefixTest, all_prefixes, clauses_all_prefixes}
+use Rattle.qm_script.specs.Reached.{Reaches}
+use Rattle.qm_script.proofs.PrefixDocuments.{alone, document_at, prefix_matches-alone}
 
--- ---- one document decides, where there is no prefix
-
--- document d, and nothing where there is none
-abbrev pub document_at : Segment → ℕ → Document
-document_at s d = slice_index_or s.documents d no_document
-
--- a segment of one document
-abbrev alone : List FieldFacts → Document → Segment
-alone schema document = record { schema = schema; block_len = 0; documents = document ∷ []; deleted = [] }
+-- ---- one document decides, where each prefix is expanded to all terms that begin with it
 
 -- both halves of what is true
 
@@ -34,70 +27,79 @@ and-right : (a b : Bool) → (a && b) ≡ true → b ≡ true
 and-right true b both = both
 and-right false b both = absurd (false≢true both)
 
-mutual
-  matches-alone : (tree : Tree) (s : Segment) (d : ℕ) → has_no_prefix tree ≡ true → matches tree s d ≡ matches tree (alone s.schema (document_at s d)) 0
-  matches-alone all s d free = refl
-  matches-alone none s d free = refl
-  matches-alone (term t option weight) s d free = refl
-  matches-alone (phrase terms slop weight) s d free = refl
-  matches-alone (phrase_prefix full prefix most weight) s d free = absurd (false≢true free)
-  matches-alone (boolean scoring minimum combiner clauses) s d free =
-      let must = clause_matches-alone clauses Must s d free in
-      let should = clause_matches-alone clauses Should s d free in
-      let must_not = clause_matches-alone clauses MustNot s d free in
-      λ i. boolean_matches minimum (must i) (should i) (must_not i)
-  matches-alone (boost k inside) s d free = matches-alone inside s d free
-  matches-alone (constant k inside) s d free = matches-alone inside s d free
-
-  clause_matches-alone : (clauses : Clauses) (wanted : Occur) (s : Segment) (d : ℕ) → clauses_have_no_prefix clauses ≡ true →
-      clause_matches clauses wanted s d ≡ clause_matches clauses wanted (alone s.schema (document_at s d)) 0
-  clause_matches-alone no_clause wanted s d free = refl
-  clause_matches-alone (clause occur inside clauses) wanted s d free =
-      let here = matches-alone inside s d (and-left (has_no_prefix inside) (clauses_have_no_prefix clauses) free) in
-      let others = clause_matches-alone clauses wanted s d (and-right (has_no_prefix inside) (clauses_have_no_prefix clauses) free) in
-      λ i. if occurs_as wanted occur then here i ∷ others i else others i
-
 weighed-alone : (s : Segment) (weight : Option Weighing) (b field d count : ℕ) →
     weighed s weight b field d count ≡ weighed (alone s.schema (document_at s d)) weight b field 0 count
 weighed-alone s None b field d count = refl
 weighed-alone s (Some weight) b field d count = refl
 
-mutual
-  score-alone : (tree : Tree) (b : ℕ) (s : Segment) (d : ℕ) → has_no_prefix tree ≡ true → score tree b s d ≡ score tree b (alone s.schema (document_at s d)) 0
-  score-alone all b s d free = refl
-  score-alone none b s d free = refl
-  score-alone (term t option weight) b s d free = weighed-alone s weight b t.field d (frequency s option t d)
-  score-alone (phrase terms slop weight) b s d free = weighed-alone s weight b (field_of terms) d (phrase_count s terms slop d)
-  score-alone (phrase_prefix full prefix most weight) b s d free = absurd (false≢true free)
-  score-alone (boolean scoring minimum combiner clauses) b s d free =
-      let must = clause_scores-alone clauses Must b s d free in
-      let should = clause_scores-alone clauses Should b s d free in
-      λ i. sum (must i) + combined combiner (should i)
-  score-alone (boost k inside) b s d free = score-alone inside (b * k) s d free
-  score-alone (constant k inside) b s d free = refl
+prefix_score-alone : (s : Segment) (full : List Placed) (prefix : Placed) (weight : Option Weighing) (b d : ℕ) →
+    prefix_score s full prefix weight b d ≡ prefix_score (alone s.schema (document_at s d)) full prefix weight b 0
+prefix_score-alone s [] prefix weight b d = refl
+prefix_score-alone s (t ∷ []) prefix None b d = refl
+prefix_score-alone s (t ∷ []) prefix (Some weight) b d = refl
+prefix_score-alone s (t ∷ u ∷ full) prefix weight b d =
+    weighed-alone s weight b t.term.field d (length (full_places s (t ∷ u ∷ full) prefix d))
 
-  clause_scores-alone : (clauses : Clauses) (wanted : Occur) (b : ℕ) (s : Segment) (d : ℕ) → clauses_have_no_prefix clauses ≡ true →
-      clause_scores clauses wanted b s d ≡ clause_scores clauses wanted b (alone s.schema (document_at s d)) 0
-  clause_scores-alone no_clause wanted b s d free = refl
-  clause_scores-alone (clause occur inside clauses) wanted b s d free =
-      let first = and-left (has_no_prefix inside) (clauses_have_no_prefix clauses) free in
-      let here = matches-alone inside s d first in
-      let scored_here = score-alone inside b s d first in
-      let others = clause_scores-alone clauses wanted b s d (and-right (has_no_prefix inside) (clauses_have_no_prefix clauses) free) in
-      λ i. if occurs_as wanted occur && here i then scored_here i ∷ others i else others i
+module _ (test : PrefixTest) (s : Segment) (d : ℕ) (reach : Reaches test s) where
+  mutual
+    matches-alone : (tree : Tree) → all_prefixes test tree ≡ true → matches tree s d ≡ matches tree (alone s.schema (document_at s d)) 0
+    matches-alone all pass = refl
+    matches-alone none pass = refl
+    matches-alone (term t option weight) pass = refl
+    matches-alone (phrase terms slop weight) pass = refl
+    matches-alone (phrase_prefix full prefix most weight) pass = prefix_matches-alone s d full prefix most (reach prefix.term most pass)
+    matches-alone (boolean scoring minimum combiner clauses) pass =
+        let must = clause_matches-alone clauses Must pass in
+        let should = clause_matches-alone clauses Should pass in
+        let must_not = clause_matches-alone clauses MustNot pass in
+        λ i. boolean_matches minimum (must i) (should i) (must_not i)
+    matches-alone (boost k inside) pass = matches-alone inside pass
+    matches-alone (constant k inside) pass = matches-alone inside pass
+
+    clause_matches-alone : (clauses : Clauses) (wanted : Occur) → clauses_all_prefixes test clauses ≡ true →
+        clause_matches clauses wanted s d ≡ clause_matches clauses wanted (alone s.schema (document_at s d)) 0
+    clause_matches-alone no_clause wanted pass = refl
+    clause_matches-alone (clause occur inside clauses) wanted pass =
+        let here = matches-alone inside (and-left (all_prefixes test inside) (clauses_all_prefixes test clauses) pass) in
+        let others = clause_matches-alone clauses wanted (and-right (all_prefixes test inside) (clauses_all_prefixes test clauses) pass) in
+        λ i. if occurs_as wanted occur then here i ∷ others i else others i
+
+  mutual
+    score-alone : (tree : Tree) (b : ℕ) → all_prefixes test tree ≡ true → score tree b s d ≡ score tree b (alone s.schema (document_at s d)) 0
+    score-alone all b pass = refl
+    score-alone none b pass = refl
+    score-alone (term t option weight) b pass = weighed-alone s weight b t.field d (frequency s option t d)
+    score-alone (phrase terms slop weight) b pass = weighed-alone s weight b (field_of terms) d (phrase_count s terms slop d)
+    score-alone (phrase_prefix full prefix most weight) b pass = prefix_score-alone s full prefix weight b d
+    score-alone (boolean scoring minimum combiner clauses) b pass =
+        let must = clause_scores-alone clauses Must b pass in
+        let should = clause_scores-alone clauses Should b pass in
+        λ i. sum (must i) + combined combiner (should i)
+    score-alone (boost k inside) b pass = score-alone inside (b * k) pass
+    score-alone (constant k inside) b pass = refl
+
+    clause_scores-alone : (clauses : Clauses) (wanted : Occur) (b : ℕ) → clauses_all_prefixes test clauses ≡ true →
+        clause_scores clauses wanted b s d ≡ clause_scores clauses wanted b (alone s.schema (document_at s d)) 0
+    clause_scores-alone no_clause wanted b pass = refl
+    clause_scores-alone (clause occur inside clauses) wanted b pass =
+        let first = and-left (all_prefixes test inside) (clauses_all_prefixes test clauses) pass in
+        let here = matches-alone inside first in
+        let scored_here = score-alone inside b first in
+        let others = clause_scores-alone clauses wanted b (and-right (all_prefixes test inside) (clauses_all_prefixes test clauses) pass) in
+        λ i. if occurs_as wanted occur && here i then scored_here i ∷ others i else others i
 
 -- two segments of one schema, which have the same document here and there
 
-module _ (tree : Tree) (free : has_no_prefix tree ≡ true) (s t : Segment) (d e : ℕ)
-    (schema : s.schema ≡ t.schema) (document : document_at s d ≡ document_at t e) where
+module _ (test : PrefixTest) (tree : Tree) (pass : all_prefixes test tree ≡ true) (s t : Segment) (reach : Reaches test s) (reach_too : Reaches test t)
+    (d e : ℕ) (schema : s.schema ≡ t.schema) (document : document_at s d ≡ document_at t e) where
   same : alone s.schema (document_at s d) ≡ alone t.schema (document_at t e)
   same = ap (λ f. alone f (document_at s d)) schema ∙ ap (λ x. alone t.schema x) document
 
   pub matches-same : matches tree s d ≡ matches tree t e
-  matches-same = matches-alone tree s d free ∙ ap (λ a. matches tree a 0) same ∙ sym (matches-alone tree t e free)
+  matches-same = matches-alone test s d reach tree pass ∙ ap (λ a. matches tree a 0) same ∙ sym (matches-alone test t e reach_too tree pass)
 
   pub score-same : (b : ℕ) → score tree b s d ≡ score tree b t e
-  score-same b = score-alone tree b s d free ∙ ap (λ a. score tree b a 0) same ∙ sym (score-alone tree b t e free)
+  score-same b = score-alone test s d reach tree b pass ∙ ap (λ a. score tree b a 0) same ∙ sym (score-alone test t e reach_too tree b pass)
 
 -- ---- the schema and the documents decide, whatever the tree
 

@@ -2,8 +2,9 @@ pub mod ProgramNumbers
 pub mod Asked
 pub mod Weights
 pub mod State
-pub mod Prefixes
 pub mod PrefixFree
+pub mod Reached
+pub mod Prefixes
 pub mod Under
 pub mod Found
 pub mod Text

@@ -1,8 +1,11 @@
 -- The segments of a script: those that were ended, and the open one, which may be kept in parts.
-use Rattle.std.specs.Prelude.{ℕ, List}
-use Rattle.qm_index.specs.Indexed.{Indexed, IsMerged, IsRefreshed, empty_index, indexed}
+use Rattle.std.specs.Prelude.{◌≡◌, ℕ, false, List}
+use Rattle.qm_index.specs.Indexed.{Indexed, IsMerged, IsRefreshed, empty_index, indexed, open_parts}
 use Rattle.qm_schema.specs.Schema.{FieldFacts}
+use Rattle.qm_script.specs.Prefixes.{has_failing}
 use Rattle.qm_script.specs.ProgramNumbers.{block_length}
+use Rattle.qm_script.specs.Reached.{is_reached}
+use Rattle.qm_script.specs.Script.{Query}
 use Rattle.qm_script.specs.TextSegments.{with_text}
 use Rattle.qm_script.specs.declared.corpus.Corpus.{Corpus}
 
@@ -25,6 +28,10 @@ IsWhole c = IsMerged c.index
 -- all documents of the open segment are in its parts
 abbrev pub IsBuilt : Corpus → Type 0
 IsBuilt c = IsRefreshed c.index
+
+-- each phrase prefix of a query begins at most as many terms of the parts of the open segment as it is expanded to
+abbrev pub IsReachedBy : Query → Corpus → Type 0
+IsReachedBy q c = has_failing (is_reached (open_parts c.index)) q ≡ false
 
 -- a script's beginning: no segment was ended, and the open one has no document
 abbrev pub empty_script : List FieldFacts → Script

@@ -10,7 +10,6 @@ use crate::best::write_best;
 use crate::build_query::build_query;
 use crate::corpus::Corpus;
 use crate::counting::write_count;
-use crate::has_prefix::has_prefix;
 use crate::listing::write_matches;
 use crate::parse::Command;
 use crate::pruning::write_pruned;
@@ -141,7 +140,7 @@ fn list_documents(
 {
     match build_query(alloc, spelled) {
         Ok(query) => {
-            corpus.build_segments(alloc, has_prefix(spelled))?;
+            corpus.build_segments(alloc, spelled)?;
             let searcher = corpus.searcher();
             let enable = EnableScoring::disabled_from_searcher(searcher);
             let written = write_matches(alloc, searcher.segment_readers(), enable, &query, text);
@@ -165,7 +164,7 @@ fn count_matches(
 {
     match build_query(alloc, spelled) {
         Ok(query) => {
-            corpus.build_segments(alloc, has_prefix(spelled))?;
+            corpus.build_segments(alloc, spelled)?;
             let written = write_count(alloc, corpus.searcher(), &query, text);
             Ok(answer_listing(written))
         }
@@ -187,7 +186,7 @@ fn list_scores(
 {
     match build_query(alloc, spelled) {
         Ok(query) => {
-            corpus.build_segments(alloc, has_prefix(spelled))?;
+            corpus.build_segments(alloc, spelled)?;
             let searcher = corpus.searcher();
             let enable = EnableScoring::enabled_from_searcher(searcher);
             let written = write_matches(alloc, searcher.segment_readers(), enable, &query, text);
@@ -212,7 +211,7 @@ fn list_above(
 {
     match build_query(alloc, spelled) {
         Ok(query) => {
-            corpus.build_segments(alloc, has_prefix(spelled))?;
+            corpus.build_segments(alloc, spelled)?;
             let searcher = corpus.searcher();
             let written = write_pruned(
                 alloc,
@@ -244,7 +243,7 @@ fn list_best(
 {
     match build_query(alloc, spelled) {
         Ok(query) => {
-            corpus.build_segments(alloc, has_prefix(spelled))?;
+            corpus.build_segments(alloc, spelled)?;
             let written = write_best(alloc, corpus.searcher(), &query, count, text);
             Ok(answer_listing(written))
         }

@@ -1,6 +1,6 @@
 //! The documents of a script, and the weights of its words.
 
-ghost use Rattle.std.specs.Prelude.{◌≡◌, ◌↔◌, ◌+◌, true, ◌≤◌, ◌*◌, ◌⊎◌, IfErr, IfOk, IsErrOf, IsOkUnless, OnErr, OnOk, length, map, nat_abs, string_bytes};
+ghost use Rattle.std.specs.Prelude.{◌≡◌, ◌↔◌, ◌+◌, ◌≤◌, ◌*◌, ◌⊎◌, IfErr, IfOk, IsErrOf, IsOkUnless, OnErr, OnOk, drop, length, map, nat_abs, string_bytes};
 ghost use Rattle.std.specs.FinMap.{empty, insert};
 ghost use Rattle.std.specs.List.{range_with_len};
 ghost use Rattle.std.specs.List.Sorted.{IsNonDecreasing};
@@ -13,7 +13,9 @@ ghost use Rattle.qm_script.specs.ProgramNumbers.{most_segments, ungiven_weight};
 ghost use Rattle.qm_script.specs.TextSegments.{IsTextRefusal};
 ghost use Rattle.qm_script.specs.Weights.{IsWeighedBy};
 
+use crate::has_cut::has_cut;
 use crate::non_negative_score::NonNegativeScore;
+use crate::spelled_query::SpelledQuery;
 use crate::terms::{body, word_term};
 use qm_docset::Score;
 use qm_index::Index;
@@ -37,9 +39,11 @@ pub(crate) struct Corpus {
 }
 
 impl Corpus {
-    ghost use Rattle.qm_index.specs.Indexed.{AreMerged, AreSearched, Deletes, all_segments, with_segment_ended};
+    ghost use Rattle.qm_index.specs.Indexed.{AreMerged, AreSearched, Deletes, all_segments, open_parts, with_segment_ended};
+    ghost use Rattle.qm_index.specs.Parts.{segments_of};
     ghost use Rattle.qm_script.specs.Answers.{IsLastSegment, IsNotRefused};
-    ghost use Rattle.qm_script.specs.ScriptSegments.{IsBuilt, IsWhole, script, with_document_of};
+    ghost use Rattle.qm_script.specs.ScriptSegments.{IsBuilt, IsReachedBy, IsWhole, script, with_document_of};
+    ghost use Rattle.qm_script.specs.Spelled.{query_of};
     ghost use Rattle.qm_script.specs.Start.{start_script};
 
     /// A script at its beginning: one open segment without documents, and no weight.
@@ -106,20 +110,29 @@ impl Corpus {
         self.index.set_weight(term, weight.score())
     }
 
-    /// Builds what is to be searched of all documents, for [`Corpus::searcher`]; the open segment as one
-    /// where it is to be whole, which costs all its documents. Its only error is the want of memory.
-    pub(crate) fn build_segments(&mut self, alloc: Global, is_whole: bool) -> Result<(), AllocError>
+    /// Builds what is to be searched of all documents for a query, for [`Corpus::searcher`]. Costs what the documents do
+    /// that came since the last time; and all documents of the open segment, which is built as one, where a prefix in
+    /// the query begins more terms of its parts than it may be expanded to. Its only error is the want of memory.
+    pub(crate) fn build_segments(
+        &mut self,
+        alloc: Global,
+        query: &SpelledQuery,
+    ) -> Result<(), AllocError>
         ensures script { script self.new ≡ script self.old }
         ensures weights { statistics self.new.index ≡ statistics self.old.index }
         ensures built { OnOk result (IsBuilt self.new) }
-        ensures whole { OnOk result (is_whole ≡ true → IsWhole self.new) }
+        ensures expanded { OnOk result (IsWhole self.new ⊎ IsReachedBy (query_of query.now) self.new) }
     {
-        let built = if is_whole {
-            self.index.merge(alloc)
-        } else {
-            self.index.refresh(alloc)
-        };
-        match built {
+        match self.index.refresh(alloc) {
+            Ok(()) => {}
+            Err(_) => return Err(AllocError),
+        }
+        let ended = self.index.ended();
+        let parts = &self.index.searcher().segment_readers()[ended..];
+        if !has_cut(query, parts) {
+            return Ok(());
+        }
+        match self.index.merge(alloc) {
             Ok(()) => Ok(()),
             Err(_) => Err(AllocError),
         }
@@ -131,6 +144,7 @@ impl Corpus {
         requires built { IsBuilt self.now }
         ensures segments { AreSearched (script self.now) result.now.segments }
         ensures whole { IsWhole self.now → AreMerged (script self.now) result.now.segments }
+        ensures parts { segments_of (drop (length (script self.now).ended) result.now.segments) ≡ open_parts self.now.index }
         ensures few { document_count (map (λ r. r.segment) result.now.segments) ≤ most_segments * TERMINATED }
         ensures weights { IsWeighedBy (statistics self.now.index).weights result.now }
         ensures fields { result.now.schema ≡ (script self.now).current.schema }

@@ -12,7 +12,7 @@ mod corpus;
 mod counting;
 mod document_line;
 mod form;
-mod has_prefix;
+mod has_cut;
 mod item_writer;
 mod lines;
 mod listing;

@@ -1,21 +1,41 @@
--- How many blocks are left of a run over one list: a block that is passed is one less.
-use Rattle.std.proofs.Common.{◌≡◌, ℕ, suc, zero, ◌+◌, ◌-◌, ◌<◌, ◌≤◌, true, false, List, [], ◌∷◌, length, get_or, map, sym, ap, refl, ◌∙◌, arith, inl, inr, min}
-use Rattle.std.specs.Prelude.{nat_le, nat_lt}
-use Rattle.std.proofs.lemmas.Bool.{cases_lt, le-leb, lt-leb, lt-ltb, le-ltb}
+-- How many blocks are left of a run over one list: a block that is passed is one less, and each has a document.
+use Rattle.std.proofs.Common.{◌≡◌, ℕ, suc, zero, ◌+◌, ◌-◌, ◌*◌, ◌<◌, ◌≤◌, true, false, cond, List, [], ◌∷◌, drop, length, get_or, map, sym, ap, refl, ◌∙◌}
+use Rattle.std.proofs.Common.{arith, inl, inr}
+use Rattle.std.specs.Prelude.{nat_le}
+use Rattle.std.proofs.lemmas.Bool.{cases_lt, le-leb, lt-leb}
 use Rattle.std.proofs.lemmas.List.{get_or-map, length-map}
-use Rattle.qm_docset.specs.Entry.{head_document}
+use Rattle.qm_combine.specs.RescoredFacts.{from-rescored, head_document-rescored}
+use Rattle.qm_docset.proofs.GallopFacts.{rises}
+use Rattle.qm_docset.proofs.PlacesLeft.{document_at}
+use Rattle.qm_docset.specs.Entry.{Entry, from, head_document}
+use Rattle.qm_docset.specs.EntryFacts.{from-keep, from-nil}
 use Rattle.qm_docset.specs.declared.numbers.TheConstants.{TERMINATED}
-use Rattle.qm_postings.proofs.BlockLemmas.{block_of_place, blocks_count, infos_count, ends_at_end, head_end}
-use Rattle.qm_postings.specs.Blocks.{no_block as no_postings_block}
-use Rattle.qm_postings.specs.SegmentPostings.{postings_blocks}
-use Rattle.qm_term.specs.Members.{Block, blocks_from, blocks_left, end_at}
-use Rattle.qm_term.specs.Pivot.{head}
-use Rattle.qm_term.specs.TermBlocks.{member_of}
-use Rattle.qm_term.specs.TermScorer.{scored_by, scored_blocks}
-use Rattle.qm_term.proofs.WandMembers.{head-hits}
-use Rattle.qm_term.specs.TermScorer.{IsTermScorer, scored_left}
+use Rattle.qm_postings.proofs.BlockLemmas.{block_last, block_of_place, block_of_start, blocks_count, end_inside, end_last, end_reaches, ends_at_end, ends_rise}
+use Rattle.qm_postings.proofs.BlockLemmas.{first_at, head_end, head_here, infos_count, more_block, rises_strictly}
+use Rattle.qm_postings.proofs.PostingsLeft.{from_behind, named}
+use Rattle.qm_postings.specs.Blocks.{Block as PostingsBlock, block_at, no_block as no_postings_block}
+use Rattle.qm_postings.specs.FieldNorms.{is_made_constant, norm_ids}
+use Rattle.qm_postings.specs.Kept.{end_of}
+use Rattle.qm_postings.specs.SegmentPostings.{IsPostings, postings_blocks, postings_left}
+use Rattle.qm_postings.specs.TermArrays.{stored}
+use Rattle.qm_postings.specs.declared.segment_postings.SegmentPostings.{SegmentPostings}
+use Rattle.qm_term.specs.Bm25Weight.{weighing}
+use Rattle.qm_term.specs.Members.{Block, end_at, hit_document, hits_from}
+use Rattle.qm_term.specs.RunScorers.{IsRunScorer, first_of, wand_member}
+use Rattle.qm_term.specs.SingleRun.{FillsBlocks}
+use Rattle.qm_term.specs.TermBlocks.{hits, member_of}
+use Rattle.qm_term.specs.TermScorer.{IsTermScorer, scored_by, scored_blocks, scored_left}
 use Rattle.qm_term.specs.TermScorerFacts.{scored-document}
 use Rattle.qm_term.specs.declared.term_scorer.TermScorer.{TermScorer}
+use Rattle.qm_term.specs.declared.wand.front.TermScorerWithMaxScore.{TermScorerWithMaxScore}
+use Rattle.qm_term.proofs.WandMembers.{from-hits, head-hits, scored_at}
+use Rattle.std.specs.Prelude.{All}
+use Rattle.std.proofs.lemmas.List.Elements.{All-head}
+
+-- how many blocks end at or past a document
+unfoldable pub blocks_left : ℕ → List Block → ℕ
+blocks_left d [] = 0
+blocks_left d (b ∷ bs) = cond (nat_le d b.last) 1 0 + blocks_left d bs
 
 left-here : (d : ℕ) (b : Block) (bs : List Block) → d ≤ b.last → blocks_left d (b ∷ bs) ≡ 1 + blocks_left d bs
 unfolding blocks_left
@@ -73,30 +93,6 @@ left-one d (suc b) (y ∷ bs) x l h =
     let rest = left-one d b bs x (omega arith) h in
     elim (cases_lt y.last d) [ inl past ↦ omega (arith, left-past d y bs past, rest) | inr here ↦ omega (arith, left-here d y bs here) ]
 
-pub from-below : (d : ℕ) (bs : List Block) → d < TERMINATED → blocks_from d bs ≡ blocks_left d bs
-from-below d bs l = let is : nat_lt d TERMINATED ≡ true = lt-ltb d TERMINATED l in rw is refl
-
-pub from-end : (d : ℕ) (bs : List Block) → TERMINATED ≤ d → blocks_from d bs ≡ 0
-from-end d bs l = let is : nat_lt d TERMINATED ≡ false = le-ltb d TERMINATED l in rw is refl
-
-pub from-length : (d : ℕ) (bs : List Block) → blocks_from d bs ≤ length bs
-from-length d bs =
-    elim (cases_lt d TERMINATED) [ inl below ↦ omega (arith, from-below d bs below, left-length d bs) | inr end ↦ omega (arith, from-end d bs end) ]
-
--- a turn: a block is passed, or a document
-pub from-step : (d e : ℕ) (bs : List Block) → d < TERMINATED → d < e → blocks_from e bs ≤ blocks_from d bs
-from-step d e bs below less = elim (cases_lt e TERMINATED) [
-  | inl more ↦ omega (arith, from-below d bs below, from-below e bs more, left-fewer d e bs (omega arith))
-  | inr end ↦ omega (arith, from-end e bs end)
-]
-
-pub from-passed : (d e : ℕ) (bs : List Block) → d < TERMINATED → d < e → 0 < blocks_left d bs →
-    min (end_at d bs + 1) TERMINATED ≤ e → blocks_from e bs + 1 ≤ blocks_from d bs
-from-passed d e bs below less some past = elim (cases_lt e TERMINATED) [
-  | inl more ↦ omega (arith, from-below d bs below, from-below e bs more, left-passed d e bs (omega arith) (omega arith) more)
-  | inr end ↦ omega (arith, from-end e bs end, from-below d bs below)
-]
-
 -- where a scorer has documents its last block ends at the end
 pub some_left : (s : TermScorer) → IsTermScorer s → head_document (scored_left s) < TERMINATED → (d : ℕ) → d < TERMINATED → 0 < blocks_left d (scored_blocks s)
 unfolding scored_blocks
@@ -120,10 +116,137 @@ some_left s h here d below =
     let last = ap (λ (x : Block). x.last) (get_or-map f (postings_blocks p) b no_postings_block (f no_postings_block) (omega (arith, long))) in
     left-one d b (map f (postings_blocks p)) (f no_postings_block) (omega (arith, length-map (postings_blocks p) f, long)) (omega (arith, last, end))
 
-pub some_left-member : (s : TermScorer) → IsTermScorer s → head (member_of s) < TERMINATED → (d : ℕ) → d < TERMINATED → 0 < blocks_left d (member_of s).blocks
-unfolding member_of
-some_left-member s h here d below = some_left s h (omega (arith, here, head-hits (scored_left s))) d below
+-- ---- each block has a document
 
-pub blocks-member : (s : TermScorer) → length (member_of s).blocks ≡ length (scored_blocks s)
-unfolding member_of
-blocks-member s = refl
+head_from : (t : ℕ) (es : List Entry) → t ≤ head_document es → t ≤ TERMINATED → head_document (from t es) ≡ head_document es
+head_from t [] h end = ap head_document (from-nil t)
+head_from t (e ∷ es) h end = ap head_document (from-keep t e es h)
+
+-- behind the last document of a block, that is not the last, stands the first one of the next
+module _ (p : SegmentPostings) (h : IsPostings p) (b : ℕ) (inside : b < length p.arrays.blocks.now)
+    (below : end_of p.arrays.block_len p.arrays.documents.now b < TERMINATED)
+    (started : p.cursor < length p.arrays.documents.now) (reached : head_document (postings_left p) ≤ end_of p.arrays.block_len p.arrays.documents.now b) where
+  abbrev docs : List ℕ
+  docs = p.arrays.documents.now
+
+  abbrev bl : ℕ
+  bl = p.arrays.block_len
+
+  abbrev end : ℕ
+  end = end_of bl docs b
+
+  abbrev place : ℕ
+  place = (b + 1) * bl
+
+  more : place < length docs
+  more = elim (cases_lt place (length docs)) [ inl l ↦ l | inr past ↦ absurd (omega (arith, end_last bl docs b past, below)) ]
+
+  long : bl ≤ place
+  long = omega (arith, more_block b bl)
+
+  last_here : end ≡ get_or docs (place - 1) 0
+  last_here = end_inside bl docs b more
+
+  behind : end < get_or docs place 0
+  behind = omega (arith, last_here, rises_strictly docs h.arrays.documents (place - 1) place (omega (arith, long, h.arrays.block_len)) more)
+
+  from_cursor : p.cursor ≤ place
+  from_cursor = elim (cases_lt place p.cursor) [
+    | inl past ↦ absurd (omega (
+      arith,
+      rises_strictly docs h.arrays.documents (place - 1) p.cursor (omega arith) started,
+      last_here,
+      head_here p h started,
+      reached,
+    ))
+    | inr before ↦ before
+  ]
+
+  passed : (k : ℕ) → p.cursor ≤ k → k < p.cursor + (place - p.cursor) → get_or docs k 0 < suc end
+  passed k up lt = omega (arith, rises docs h.arrays.documents.ascending k (place - 1) (omega (arith, from_cursor)) (omega (arith, more)), last_here)
+
+  -- the document behind it
+  next_document : head_document (from (suc end) (postings_left p)) ≡ get_or docs place 0
+  next_document =
+      let es = stored p.reading p.arrays in
+      let on : p.cursor + (place - p.cursor) ≡ place = omega (arith, from_cursor) in
+      let there : head_document (drop place es) ≡ get_or docs place 0 = document_at place es docs 0 (named p) more in
+      ap head_document (sym (from_behind (suc end) p.cursor (place - p.cursor) es docs (named p) (omega (arith, below)) (omega (arith, on, more)) passed))
+      ∙ ap (λ n. head_document (from (suc end) (drop n es))) on
+      ∙ head_from (suc end) (drop place es) (omega (arith, there, behind)) (omega (arith, below)) ∙ there
+
+  next_below : get_or docs place 0 < TERMINATED
+  next_below = h.arrays.documents.below_end place 0 more
+
+  small : b + 1 < length p.arrays.blocks.now
+  small = omega (arith, infos_count p.reading p.arrays h.arrays, block_of_start (b + 1) (length docs) bl h.arrays.block_len more)
+
+  next_reached : get_or docs place 0 ≤ end_of bl docs (b + 1)
+  next_reached =
+      end_reaches bl docs h.arrays.documents h.arrays.block_len (b + 1) place more (omega (arith, more_block (b + 1) bl, h.arrays.block_len))
+
+  -- is in the block that is the first to end behind it
+  next_block : (block_at (suc end) (postings_blocks p)).last ≡ end_of bl docs (b + 1)
+  next_block =
+      let found = first_at (suc end) (b + 1) (postings_blocks p) no_postings_block
+      (omega (arith, small, blocks_count p.reading p.arrays h.arrays, infos_count p.reading p.arrays h.arrays))
+      (omega (arith, block_last p.reading p.arrays h.arrays (b + 1) no_postings_block small, next_reached, behind))
+      (λ k lt. omega (
+        arith,
+        ends_rise p.reading p.arrays h.arrays k b no_postings_block (omega arith) inside,
+        block_last p.reading p.arrays h.arrays b no_postings_block inside,
+      )) in
+      ap (λ (x : PostingsBlock). x.last) found ∙ block_last p.reading p.arrays h.arrays (b + 1) no_postings_block small
+
+  next_within : get_or docs place 0 ≤ (block_at (suc end) (postings_blocks p)).last
+  next_within = omega (arith, next_block, next_reached)
+
+-- a block that ends before the end has a number
+place_of_end : (d : ℕ) (bs : List Block) → end_at d bs < TERMINATED → (b : ℕ) × (b < length bs) × ((x : Block) → (get_or bs b x).last ≡ end_at d bs)
+place_of_end d [] h = absurd (omega (arith, end-none d))
+place_of_end d (b ∷ bs) h = elim (cases_lt b.last d) [
+  | inl past ↦
+      let rest = place_of_end d bs (omega (arith, h, end-past d b bs past)) in
+      (suc rest.0, omega (arith, rest.1), λ x. rest.2 x ∙ sym (end-past d b bs past))
+  | inr here ↦ (0, omega arith, λ x. sym (end-here d b bs here))
+]
+
+pub fills-member : (s : TermScorer) → IsTermScorer s → FillsBlocks (member_of s)
+unfolding member_of scored_blocks
+fills-member s h = λ end reach below stop.
+    let p = s.postings in
+    let a = p.arrays in
+    let f = scored_by s.similarity_weight s.fieldnorm_reader in
+    let bs : List Block = map f (postings_blocks p) in
+    let head_is : hit_document (hits (scored_left s)) ≡ head_document (postings_left p) = head-hits (scored_left s) ∙ scored-document s in
+    let started : p.cursor < length a.documents.now = elim (cases_lt p.cursor (length a.documents.now)) [
+      | inl l ↦ l
+      | inr past ↦ absurd (omega (arith, head_end p h.postings past, head_is, reach, below))
+    ] in
+    let at = place_of_end end bs (omega (arith, stop, below)) in
+    let b = at.0 in
+    let inside : b < length a.blocks.now =
+    omega (arith, at.1, length-map (postings_blocks p) f, blocks_count p.reading a h.postings.arrays, infos_count p.reading a h.postings.arrays) in
+    let same : (get_or bs b (f no_postings_block)).last ≡ (get_or (postings_blocks p) b no_postings_block).last =
+    ap (λ (x : Block). x.last) (get_or-map f (postings_blocks p) b no_postings_block (f no_postings_block)
+    (omega (arith, at.1, length-map (postings_blocks p) f))) in
+    let is : end_of a.block_len a.documents.now b ≡ end =
+    sym (block_last p.reading a h.postings.arrays b no_postings_block inside) ∙ sym same ∙ at.2 (f no_postings_block) ∙ stop in
+    let under : end_of a.block_len a.documents.now b < TERMINATED = omega (arith, is, below) in
+    let reached : head_document (postings_left p) ≤ end_of a.block_len a.documents.now b = omega (arith, is, head_is, reach) in
+    let t : suc (end_of a.block_len a.documents.now b) ≡ suc end = ap suc is in
+    let document : hit_document (hits_from (suc end) (hits (scored_left s))) ≡ get_or a.documents.now ((b + 1) * a.block_len) 0 =
+    ap hit_document (sym (from-hits (suc end) (scored_left s))) ∙ head-hits (from (suc end) (scored_left s))
+    ∙ ap head_document (from-rescored _ (suc end) (postings_left p)) ∙ head_document-rescored _ (from (suc end) (postings_left p))
+    ∙ ap (λ n. head_document (from n (postings_left p))) (sym t) ∙ next_document p h.postings b inside under started reached in
+    let block : end_at (suc end) bs ≡ (block_at (suc (end_of a.block_len a.documents.now b)) (postings_blocks p)).last =
+    (scored_at (weighing s.similarity_weight) (is_made_constant s.fieldnorm_reader) (norm_ids s.fieldnorm_reader) (suc end) (postings_blocks p)).0
+    ∙ ap (λ n. (block_at n (postings_blocks p)).last) (sym t) in (
+      omega (arith, document, next_below p h.postings b inside under started reached),
+      omega (arith, document, block, next_within p h.postings b inside under started reached),
+    )
+
+pub fills_first : (ss : List TermScorerWithMaxScore) → length ss ≡ 1 → All IsRunScorer ss → FillsBlocks (first_of ss)
+unfolding wand_member
+fills_first [] one h = absurd (omega arith)
+fills_first (s ∷ ss) one h = fills-member s.scorer (All-head IsRunScorer s ss h).valid

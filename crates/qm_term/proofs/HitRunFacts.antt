@@ -1,25 +1,30 @@
 -- A run sees of an entry its document and its score alone.
-use Rattle.std.proofs.Common.{◌≡◌, ℕ, ℤ, ◌≤◌, List, [], ◌∷◌, length, map, sum, ap, sym, refl, subst, ◌∙◌, arith}
+use Rattle.std.proofs.Common.{◌≡◌, ℕ, ℤ, ◌+◌, ◌≤◌, List, [], ◌∷◌, length, map, sum, ap, sym, refl, subst, ◌∙◌, arith}
 use Rattle.std.specs.Prelude.{All}
 use Rattle.qm_docset.specs.Entry.{Entry}
 use Rattle.qm_docset.specs.EntryFacts.{length-entries}
 use Rattle.qm_docset.specs.declared.numbers.TheConstants.{TERMINATED}
 use Rattle.qm_term.specs.HitRuns.{Plain, MayPrune, calls_of, count_above, entries_of_hits}
-use Rattle.qm_term.specs.Members.{Hit, united}
+use Rattle.qm_term.specs.Members.{AreBounded, Ascends, Hit, bound_at, united}
 use Rattle.qm_term.specs.Pivot.{Pruned, bound_of}
 use Rattle.qm_term.specs.Runs.{Plain as RunsOver, MayPrune as MayRunOver}
 use Rattle.qm_term.specs.TermBlocks.{PrunesTerm, hits, member_of}
-use Rattle.qm_term.specs.TermScorer.{IsTermScorer, scored_left, scored_limits}
+use Rattle.qm_term.specs.SingleRun.{PrunesList}
+use Rattle.qm_term.specs.TermScorer.{IsTermScorer, scored_blocks, scored_left, scored_limits}
 use Rattle.qm_term.specs.TermScorerFacts.{AreEntries-scored}
 use Rattle.qm_term.specs.declared.term_scorer.TermScorer.{TermScorer}
 use Rattle.qm_term.specs.WandRun.{PrunesTerms, terms_left}
+use Rattle.qm_term.proofs.BlocksLeft.{some_left}
+use Rattle.qm_term.proofs.BlocksPassed.{passed_blocks}
+use Rattle.qm_term.proofs.WandBounds.{ascends}
 use Rattle.qm_term.proofs.WandGather.{united_scorers}
-use Rattle.qm_term.proofs.WandMembers.{IsMember-scorer}
-use Rattle.qm_term.proofs.WandSingle.{added, one_list, united_one}
+use Rattle.qm_term.proofs.WandMembers.{IsMember-scorer, head-hits}
+use Rattle.qm_term.proofs.WandPlain.{count_more}
+use Rattle.qm_term.proofs.WandSingle.{each_after}
 
-left : (s : TermScorer) → (member_of s).entries ≡ hits (scored_left s)
+scored_bounded : (s : TermScorer) → IsTermScorer s → AreBounded 0 (scored_blocks s) (hits (scored_left s))
 unfolding member_of
-left s = refl
+scored_bounded s h = (IsMember-scorer s h).entries
 
 module _ {F : Type 0} (call : F → ℕ → ℤ → ℤ → F → Type 0) where
   pub Plain-hits : (th last : ℤ) (f g : F) (es : List Entry) (ths : List ℤ) → Plain call th f (hits es) ths last g → RunsOver call th f es ths last g
@@ -35,18 +40,39 @@ module _ {F : Type 0} (call : F → ℕ → ℤ → ℤ → F → Type 0) where
   MayPrune-hits allowed th f (e ∷ es) p = (p.0, λ after g turn. MayPrune-hits allowed after g es (p.1 after g turn))
 
   module _ (s : TermScorer) (h : IsTermScorer s) where
-    -- a run over the one list of a scorer is one over what it has left
-    pub PrunesTerm-pruned : (th last : ℤ) (f g : F) (k : ℕ) → Pruned call added th f (member_of s ∷ []) k last g → PrunesTerm call th f s k g
+    -- a run over the list of a scorer is one over what it has left
+    pub PrunesTerm-list : (th last : ℤ) (f g : F) (k turns : ℕ) → PrunesList call th f (member_of s) k turns last g → PrunesTerm call th f s k turns g
     unfolding member_of
-    PrunesTerm-pruned th last f g k p =
-        let r = one_list call th last f g (member_of s) k (IsMember-scorer s h) p in
-        record { thresholds = r.0; last = last; calls = Plain-hits th last f g (scored_left s) r.0 r.1; at_least = r.2; at_most = r.3 }
+    PrunesTerm-list th last f g k turns r =
+        let is = IsMember-scorer s h in
+        let bound : Hit → ℕ = λ e. bound_at e.document (scored_blocks s) in
+        let scores : calls_of r.thresholds (hits (scored_left s)) ≤ count_above bound r.thresholds (hits (scored_left s)) =
+        count_more (λ e. e.score) bound r.thresholds (hits (scored_left s))
+        (each_after (λ e. e.score ≤ bound e) 0 (scored_blocks s) (hits (scored_left s)) is.entries (λ e _ _ bounded. bounded)) in
+        record {
+          thresholds = r.thresholds;
+          last = last;
+          calls = Plain-hits th last f g (scored_left s) r.thresholds r.calls;
+          at_least = omega (arith, scores, r.scored);
+          at_most = omega (arith, r.scored);
+          scored = r.scored;
+          counted = r.counted;
+        }
+
+    -- it passes no more blocks than there are
+    pub few_turns : (th : ℤ) (f g : F) (k turns : ℕ) → PrunesTerm call th f s k turns g → turns ≤ k + length (scored_blocks s)
+    few_turns th f g k turns r =
+        let rises : Ascends 0 (hits (scored_left s)) = ascends 0 (scored_blocks s) (hits (scored_left s)) (scored_bounded s h) in
+        omega (
+          arith,
+          r.counted,
+          passed_blocks (scored_blocks s) r.thresholds (hits (scored_left s)) rises (λ some. some_left s h (omega (arith, some, head-hits (scored_left s)))),
+        )
 
     pub MayPrune-term : (allowed : F → ℕ → ℤ → Type 0) (th : ℤ) (f : F) →
-        MayRunOver call allowed th f (scored_left s) → MayPrune call allowed th f (united added (member_of s ∷ []))
-    MayPrune-term allowed th f p =
-        subst (λ es. MayPrune call allowed th f es) (sym (united_one (member_of s) (IsMember-scorer s h) ∙ left s))
-        (MayPrune-hits allowed th f (scored_left s) p)
+        MayRunOver call allowed th f (scored_left s) → MayPrune call allowed th f (member_of s).entries
+    unfolding member_of
+    MayPrune-term allowed th f p = MayPrune-hits allowed th f (scored_left s) p
 
 length_hits : (es : List Entry) → length (hits es) ≡ length es
 unfolding hits

@@ -145,7 +145,7 @@ module _ (s : TermScorer) (h : IsTermScorer s) where
       (id_le e covered least) (omega (arith, small, s.similarity_weight.many)) in
       omega (arith, up, down, (scored_at w constant ids e.document (postings_blocks s.postings)).1)
 
-  scores_bounded : All (λ (e : Entry). e.score ≤ bound_at e.document (scored_blocks s)) (scored_left s)
+  pub scores_bounded : All (λ (e : Entry). e.score ≤ bound_at e.document (scored_blocks s)) (scored_left s)
   unfolding rescored
   scores_bounded =
       All-map (λ (e : Entry). e.score ≤ bound_at e.document (scored_blocks s))

@@ -1,19 +1,18 @@
 -- The run over one list.
-use Rattle.std.proofs.Common.{◌≡◌, ℕ, ℤ, suc, ◌+◌, ◌<◌, ◌≤◌, ◌<ℤ◌, ◌≤ℤ◌, Bool, true, cond, leb, ltb, max, List, [], ◌∷◌, ◌++◌, length, sum, refl, sym, ap, ◌∙◌}
+use Rattle.std.proofs.Common.{◌≡◌, ℕ, ℤ, suc, ◌+◌, ◌<◌, ◌≤◌, ◌<ℤ◌, ◌≤ℤ◌, Bool, cond, ltb, max, List, [], ◌∷◌, ◌++◌, drop, length, replicate, refl, sym, ap, ◌∙◌}
 use Rattle.std.proofs.Common.{arith, subst, inl, inr, pos}
-use Rattle.std.proofs.lemmas.Bool.{cond-true, le-leb, lt-ltb}
-use Rattle.std.proofs.lemmas.List.Sums.{sum_by-cons}
-use Rattle.qm_term.specs.Members.{Hit, Member, hit_score, has, add_entry, add_all, all_of, scores_of, united, Ascends, IsMember, end_at, bound_at}
-use Rattle.qm_term.specs.Pivot.{head, bound_in, bound_of, blockbound, cut, next, front, AreCut, IsQuietTo, Passes, Scores, IsSingle, Pruned, front_scores}
-use Rattle.qm_term.specs.Pivot.{looked_at, block_at, no_block, past}
-use Rattle.qm_term.specs.HitRuns.{MayPrune, Plain, calls_of, count_above}
+use Rattle.std.proofs.lemmas.Bool.{cond-true, lt-ltb}
+use Rattle.qm_term.specs.Members.{AreBounded, Block, Hit, IsMember, Member, before, bound_at, end_at, hit_document, hit_score, hits_from}
+use Rattle.qm_term.specs.Pivot.{block_at, cut, head, looked_at, no_block}
+use Rattle.qm_term.specs.SingleRun.{IsSingle, PassesBlocks, PrunesList}
+use Rattle.qm_term.specs.HitRuns.{MayPrune, Plain, count_above}
+use Rattle.qm_term.specs.Runs.{Turn}
 use Rattle.qm_docset.specs.declared.numbers.TheConstants.{TERMINATED}
-use Rattle.qm_term.proofs.WandUnion.{from-all, add-nil, add-first}
-use Rattle.qm_term.proofs.WandBounds.{ascends, low_le, has-head, has_head, same_block, total-cons, total-nil, cut_from, cut_blockbound, front_score, StandOn}
-use Rattle.qm_term.proofs.WandScores.{cut_scores, each_united, front_scores-cons, front_scores-nil, united_sum}
-use Rattle.qm_term.proofs.WandSteps.{passes_cut, next-cut, all_past, AllFrom, Ascends-all_from, length-from_lt}
-use Rattle.qm_term.proofs.WandTurns.{quiet_back, quiet_may, more, tick_of}
-use Rattle.qm_term.proofs.WandPlain.{score_step, score_may, pruned_none, count_same}
+use Rattle.qm_term.proofs.BlocksPassed.{passed-none, passed-scored}
+use Rattle.qm_term.proofs.WandUnion.{before-from}
+use Rattle.qm_term.proofs.WandBounds.{Each, ascends, low_le, same_block}
+use Rattle.qm_term.proofs.WandTurns.{tick_of}
+use Rattle.qm_term.proofs.WandPlain.{count-cons, count_low, each_before, is_above, may_unskip, plain_skip}
 
 -- the block looked at, at a document
 pub looks_at : (m : Member) → head m < TERMINATED → looked_at 0 m ≡ block_at (head m) m.blocks
@@ -27,121 +26,127 @@ looks_behind t m before h =
     let e : max t (head m) ≡ t = omega arith in
     cond-true (ltb (head m) TERMINATED) (block_at (max t (head m)) m.blocks) no_block (lt-ltb (head m) TERMINATED h) ∙ ap (λ k. block_at k m.blocks) e
 
-one_bound : (d : ℕ) (m : Member) → blockbound d (m ∷ []) ≡ bound_in d m
-one_bound d m = omega (arith, total-cons (bound_in d) m [], total-nil (bound_in d))
-
 -- the block of a document is quiet where its bound is not above the threshold
 pub quiet_block : (th : ℤ) (d : ℕ) (m : Member) → pos (bound_at d m.blocks) ≤ℤ th → (e : ℕ) → d ≤ e → e ≤ end_at d m.blocks → pos (bound_at e m.blocks) ≤ℤ th
 quiet_block th d m low e from to = low_le th (bound_at e m.blocks) (bound_at d m.blocks) (omega (arith, same_block d e m.blocks from to)) low
 
--- a list that is quiet up to a document may be cut behind it
-pub passes_quiet : (th : ℤ) (m : Member) (t end : ℕ) → IsMember m → t ≤ suc end → IsQuietTo th end m → Passes th t (m ∷ []) (cut t m ∷ [])
-passes_quiet th m t end h k quiet =
-    passes_cut th t (m ∷ []) (cut t m ∷ []) (h, tt) (inr refl, tt) (λ d a held. elim held [
-      | inl y ↦
-          let at = has-head d 0 m.entries (ascends 0 m.blocks m.entries h.entries) y in
-          let is : blockbound d (m ∷ []) ≡ bound_at d m.blocks = one_bound d m ∙ cond-true (has d m.entries) (bound_at d m.blocks) 0 y in
-          low_le th (blockbound d (m ∷ [])) (bound_at d m.blocks) (omega (arith, is)) (quiet d at.0 (omega arith))
-      | inr n ↦ absurd n
-    ])
+-- ---- the documents of a list
 
-pub scores_first : (th : ℤ) (m : Member) → IsMember m → head m < TERMINATED → th <ℤ pos (bound_at (head m) m.blocks) → Scores th (head m) (m ∷ []) (next m ∷ [])
-scores_first th m h l above =
-    let p = head m in
-    let y : has p m.entries ≡ true = has_head p m.entries l refl in
-    let is : blockbound p (m ∷ []) ≡ bound_at p m.blocks = one_bound p m ∙ cond-true (has p m.entries) (bound_at p m.blocks) 0 y in
-    let e : next m ≡ cut (suc p) m = next-cut p m h refl in
-    let k : AreCut (suc p) (m ∷ []) (next m ∷ []) = (inr e, tt) in
-    let stands : StandOn p (m ∷ []) = ((λ _. refl), tt) in
-    let t : leb (head m) p ≡ true = le-leb (head m) p (omega arith) in
-    let moved : past p m ≡ next m = cond-true (leb (head m) p) (next m) m t in
-    let far : AllFrom (suc p) (next m ∷ []) = subst (λ (n : Member). AllFrom (suc p) (n ∷ [])) moved (all_past p (m ∷ []) (h, tt) stands) in
-    record {
-      held = inl y;
-      worth = subst (λ (n : ℕ). th <ℤ pos n) (sym is) above;
-      low = λ d a held.
-          elim held [ inl q ↦ absurd (let at = has-head d 0 m.entries (ascends 0 m.blocks m.entries h.entries) q in omega arith) | inr n ↦ absurd n ];
-      rest = sym (from-all (suc p) (suc p) (all_of (next m ∷ [])) (Ascends-all_from (suc p) (next m ∷ []) far) (omega arith))
-          ∙ cut_from (suc p) (m ∷ []) (next m ∷ []) k;
-      scores = λ d a. cut_scores (suc p) d (m ∷ []) (next m ∷ []) k a;
-      bounds = λ d a. cut_blockbound (suc p) d (m ∷ []) (next m ∷ []) k a;
-    }
+pub each_after : (P : Hit → Type 0) (low : ℕ) (bs : List Block) (es : List Hit) → AreBounded low bs es →
+    ((e : Hit) → low ≤ e.document → e.document < TERMINATED → e.score ≤ bound_at e.document bs → P e) → Each P es
+each_after P low bs [] h k = tt
+each_after P low bs (e ∷ es) h k = (k e h.0 h.1 h.2, each_after P (suc e.document) bs es h.3 (λ x a b c. k x (omega (arith, h.0)) b c))
 
--- the score of its document is the sum of its scores
-pub first_score : (m : Member) → IsMember m → head m < TERMINATED → sum (scores_of (head m) (m ∷ [])) ≡ hit_score m.entries
-first_score m h l =
-    let p = head m in
-    let t : leb (head m) p ≡ true = le-leb (head m) p (omega arith) in
-    let is : front p m ≡ hit_score m.entries ∷ [] = cond-true (leb (head m) p) (hit_score m.entries ∷ []) [] t in
-    ap sum (front_score p (m ∷ []) (h, tt) l ((λ _. refl), tt) ∙ front_scores-cons p m []
-    ∙ ap (λ xs. xs ++ front_scores p []) is ∙ ap (λ xs. hit_score m.entries ∷ xs) (front_scores-nil p))
-    ∙ sum_by-cons (λ n. n) (hit_score m.entries) [] ∙ omega arith
+-- what holds of each document from the first on holds of all
+each_here : (P : Hit → Type 0) (bs : List Block) (es : List Hit) → AreBounded 0 bs es →
+    ((e : Hit) → hit_document es ≤ e.document → e.score ≤ bound_at e.document bs → P e) → Each P es
+each_here P bs [] h k = tt
+each_here P bs (e ∷ es) h k = (k e (omega arith) h.2, each_after P (suc e.document) bs es h.3 (λ x a b c. k x (omega arith) c))
 
-pub fewer_cut : (m : Member) (t : ℕ) → head m < t → t ≤ TERMINATED → length (cut t m).entries < length m.entries
-fewer_cut m t h k = length-from_lt t m.entries h k
+-- what is passed before a target
+module _ (th : ℤ) (t : ℕ) (m : Member) (h : IsMember m) (low : (d : ℕ) → head m ≤ d → d < t → pos (bound_at d m.blocks) ≤ℤ th) where
+  low_bounds : Each (λ e. pos (bound_at e.document m.blocks) ≤ℤ th) (before t m.entries)
+  low_bounds = each_before (λ e. pos (bound_at e.document m.blocks) ≤ℤ th) t m.entries
+      (each_here (λ e. e.document < t → pos (bound_at e.document m.blocks) ≤ℤ th) m.blocks m.entries h.entries (λ e from _ to. low e.document from to))
 
--- what the run over one list makes of the scores of a document: their sum, which is its one score
-abbrev pub added : List ℕ → ℕ
-added xs = sum xs
+  low_scores : Each (λ e. pos e.score ≤ℤ th) (before t m.entries)
+  low_scores = each_before (λ e. pos e.score ≤ℤ th) t m.entries
+      (each_here (λ e. e.document < t → pos e.score ≤ℤ th) m.blocks m.entries h.entries
+      (λ e from bounded to. low_le th e.score (bound_at e.document m.blocks) bounded (low e.document from to)))
 
-pub no_more : (xs : List ℕ) → added xs ≤ sum xs
-no_more xs = omega arith
+parts : (t : ℕ) (m : Member) → IsMember m → m.entries ≡ before t m.entries ++ hits_from t m.entries
+parts t m h = before-from 0 t m.entries (ascends 0 m.blocks m.entries h.entries)
 
-module _ {F : Type 0} (call : F → ℕ → ℤ → ℤ → F → Type 0) (th th' : ℤ) (f g : F) (m n : Member)
-    (ticked : Bool) (h : IsMember m) (i : IsMember n) (t : IsSingle call added th f m th' g n ticked) where
-  pub single_back : (k : ℕ) (last : ℤ) (z : F) → Pruned call added th' g (n ∷ []) k last z → Pruned call added th f (m ∷ []) (cond ticked 1 0 + k) last z
-  single_back k last z r =
-      elim t [
-        | inl s ↦ quiet_back call added no_more th th' s.target (m ∷ []) (n ∷ []) f g z ticked k last (h, tt) (i, tt) s.passes s.quiet r
-        | inr s ↦
-            let one : ◌≡◌ {A = ℕ} (cond ticked 1 0) 1 = ap tick_of s.tick in
-            more call added no_more th f (m ∷ []) (suc k) (cond ticked 1 0 + k) last z (omega (arith, one))
-            (score_step added no_more call th (head m) (m ∷ []) (n ∷ []) (h, tt) s.scores f g z th' last k s.turn r)
-      ]
+-- ---- turns
 
-  pub single_may : (pre : F → ℕ → ℤ → Type 0) → MayPrune call pre th f (united added (m ∷ [])) → MayPrune call pre th' g (united added (n ∷ []))
-  single_may pre r =
-      elim t [
-        | inl s ↦ quiet_may call added no_more pre th th' s.target (m ∷ []) (n ∷ []) f g ticked (h, tt) (i, tt) s.passes s.quiet r
-        | inr s ↦ (score_may added no_more call th (head m) (m ∷ []) (n ∷ []) (h, tt) s.scores pre f r).1 th' g s.turn
-      ]
+module _ {F : Type 0} (call : F → ℕ → ℤ → ℤ → F → Type 0) where
+  pass_back : (th last : ℤ) (t k n rest : ℕ) (m : Member) (f z : F) → IsMember m → ((d : ℕ) → head m ≤ d → d < t → pos (bound_at d m.blocks) ≤ℤ th) →
+      PassesBlocks th t n m → PrunesList call th f (cut t m) k rest last z → PrunesList call th f m k (n + rest) last z
+  pass_back th last t k n rest m f z h low blocks r =
+      let l = before t m.entries in
+      let behind = hits_from t m.entries in
+      let bound : Hit → ℕ = λ e. bound_at e.document m.blocks in
+      let ths : List ℤ = replicate (length l) th ++ r.thresholds in
+      let is : m.entries ≡ l ++ behind = parts t m h in
+      let ticks : count_above bound ths m.entries ≡ count_above bound r.thresholds behind = ap (count_above bound ths) is
+      ∙ count_low bound th l behind r.thresholds (low_bounds th t m h low) in
+      record {
+        thresholds = ths;
+        calls = subst (λ (xs : List Hit). Plain call th f xs ths last z) (sym is)
+            (plain_skip call th last f z l behind r.thresholds (low_scores th t m h low) r.calls);
+        scored = r.scored ∙ sym ticks;
+        counted = omega (arith, r.counted, blocks r.thresholds);
+      }
 
--- at the end nothing is left to do
-pub single_end : {F : Type 0} (call : F → ℕ → ℤ → ℤ → F → Type 0) (th : ℤ) (f : F) (m : Member) →
-    IsMember m → TERMINATED ≤ head m → Pruned call added th f (m ∷ []) 0 th f
-single_end call th f m h e =
-    pruned_none added no_more call th f (m ∷ []) (h, tt)
-    (λ d held. elim held [ inl y ↦ absurd (let at = has-head d 0 m.entries (ascends 0 m.blocks m.entries h.entries) y in omega arith) | inr n ↦ absurd n ])
+  first_back : (th th' last : ℤ) (k rest top : ℕ) (bs : List Block) (es : List Hit) (f g z : F) → hit_document es < TERMINATED →
+      th <ℤ pos (bound_at (hit_document es) bs) → Turn call th f (hit_document es) (pos (hit_score es)) th' g
+      → PrunesList call th' g (record { entries = drop 1 es; blocks = bs; top = top }) k rest last z
+      → PrunesList call th f (record { entries = es; blocks = bs; top = top }) (suc k) (suc rest) last z
+  first_back th th' last k rest top bs [] f g z below above turn r = absurd (omega arith)
+  first_back th th' last k rest top bs (e ∷ es) f g z below above turn r = record {
+    thresholds = th ∷ r.thresholds;
+    calls = (refl, (th', g, turn, r.calls));
+    scored = omega (arith, r.scored, count-cons (λ x. bound_at x.document bs) th r.thresholds e es, is_above th (bound_at e.document bs) above);
+    counted = omega (arith, r.counted, passed-scored bs th r.thresholds e es above);
+  }
 
--- ---- U of one list is the list, and its bounds are its blocks'
+  -- the call of the first document is allowed, and so are those after it
+  pub may_first : (pre : F → ℕ → ℤ → Type 0) (th : ℤ) (f : F) (es : List Hit) → hit_document es < TERMINATED → MayPrune call pre th f es →
+      th <ℤ pos (hit_score es) → pre f (hit_document es) (pos (hit_score es))
+  may_first pre th f [] below r = absurd (omega arith)
+  may_first pre th f (e ∷ es) below r = r.0
 
-add_first_of : (e : Hit) (low : ℕ) (es : List Hit) → Ascends low es → e.document < low → add_entry e es ≡ e ∷ es
-add_first_of e low [] h k = add-nil e
-add_first_of e low (x ∷ xs) h k = add-first e x xs (omega arith)
+  may_next : (pre : F → ℕ → ℤ → Type 0) (th th' : ℤ) (f g : F) (es : List Hit) → hit_document es < TERMINATED → MayPrune call pre th f es →
+      Turn call th f (hit_document es) (pos (hit_score es)) th' g → MayPrune call pre th' g (drop 1 es)
+  may_next pre th th' f g [] below r turn = absurd (omega arith)
+  may_next pre th th' f g (e ∷ es) below r turn = r.1 th' g turn
 
-add_all-nil : (low : ℕ) (es : List Hit) → Ascends low es → add_all es [] ≡ es
-unfolding add_all
-add_all-nil low [] h = refl
-add_all-nil low (e ∷ es) h = ap (add_entry e) (add_all-nil (suc e.document) es h.2) ∙ add_first_of e (suc e.document) es h.2 (omega arith)
+  none_left : (th : ℤ) (f : F) (top : ℕ) (bs : List Block) (es : List Hit) → AreBounded 0 bs es → TERMINATED ≤ hit_document es →
+      PrunesList call th f (record { entries = es; blocks = bs; top = top }) 0 0 th f
+  unfolding count_above
+  none_left th f top bs [] h e =
+      record { thresholds = []; calls = (refl, refl); scored = refl; counted = omega (arith, passed-none bs []) }
+  none_left th f top bs (x ∷ xs) h e = absurd (omega (arith, h.1))
 
-pub all_of_one : (m : Member) → IsMember m → all_of (m ∷ []) ≡ m.entries
-unfolding all_of
-all_of_one m h = add_all-nil 0 m.entries (ascends 0 m.blocks m.entries h.entries)
+  -- at the end nothing is left to do
+  pub single_end : (th : ℤ) (f : F) (m : Member) → IsMember m → TERMINATED ≤ head m → PrunesList call th f m 0 0 th f
+  single_end th f m h e = none_left th f m.top m.blocks m.entries h.entries e
 
-pub united_one : (m : Member) → IsMember m → united added (m ∷ []) ≡ m.entries
-united_one m h = united_sum (m ∷ []) (h, tt) ∙ all_of_one m h
+  module _ (th th' : ℤ) (f g : F) (m n : Member) (ticked : Bool) (turns : ℕ) (h : IsMember m)
+      (below : head m < TERMINATED) (t : IsSingle call th f m th' g n ticked turns) where
+    -- a run after a turn is one before it
+    pub single_back : (k rest : ℕ) (last : ℤ) (z : F) → PrunesList call th' g n k rest last z →
+        PrunesList call th f m (cond ticked 1 0 + k) (turns + rest) last z
+    single_back k rest last z r =
+        elim t [
+          | inl s ↦
+              let none : ◌≡◌ {A = ℕ} (cond ticked 1 0) 0 = ap tick_of s.quiet.2 in
+              let same : k ≡ cond ticked 1 0 + k = omega (arith, none) in
+              subst (λ (c : ℕ). PrunesList call th f m c (turns + rest) last z) same
+              (pass_back th last s.target k turns rest m f z h s.low s.blocks
+              (subst (λ (x : Member). PrunesList call th f x k rest last z) s.list
+              (subst (λ (x : F). PrunesList call th x n k rest last z) s.quiet.1
+              (subst (λ (w : ℤ). PrunesList call w g n k rest last z) s.quiet.0 r))))
+          | inr s ↦
+              let one : ◌≡◌ {A = ℕ} (cond ticked 1 0) 1 = ap tick_of s.tick in
+              let same : suc k ≡ cond ticked 1 0 + k = omega (arith, one) in
+              let more : suc rest ≡ turns + rest = omega (arith, s.one) in
+              subst (λ (c : ℕ). PrunesList call th f m c (turns + rest) last z) same
+              (subst (λ (c : ℕ). PrunesList call th f m (suc k) c last z) more
+              (first_back th th' last k rest m.top m.blocks m.entries f g z below s.above s.turn
+              (subst (λ (x : Member). PrunesList call th' g x k rest last z) s.list r)))
+        ]
 
-pub one_list : {F : Type 0} (call : F → ℕ → ℤ → ℤ → F → Type 0) (th last : ℤ) (f z : F) (m : Member) (k : ℕ) →
-    IsMember m → Pruned call added th f (m ∷ []) k last z
-    → (ths : List ℤ) × Plain call th f m.entries ths last z × (calls_of ths m.entries ≤ k) × (k ≤ count_above (λ e. bound_at e.document m.blocks) ths m.entries)
-one_list call th last f z m k h r =
-    let is = united_one m h in
-    let same : count_above (bound_of (m ∷ [])) r.0 (united added (m ∷ [])) ≡ count_above (λ e. bound_at e.document m.blocks) r.0 (united added (m ∷ []))
-    = count_same (bound_of (m ∷ [])) (λ e. bound_at e.document m.blocks) r.0 (united added (m ∷ []))
-    (each_united added (λ d s. blockbound d (m ∷ []) ≡ bound_at d m.blocks) (m ∷ []) (h, tt)
-    (λ d held. elim held [ inl y ↦ one_bound d m ∙ cond-true (has d m.entries) (bound_at d m.blocks) 0 y | inr n ↦ absurd n ])) in (
-      r.0,
-      subst (λ (u : List Hit). Plain call th f u r.0 last z) is r.1,
-      omega (arith, r.2, ap (calls_of r.0) is),
-      omega (arith, r.3, same, ap (count_above (λ e. bound_at e.document m.blocks) r.0) is),
-    )
+    -- and the callback may still be called
+    pub single_may : (pre : F → ℕ → ℤ → Type 0) → MayPrune call pre th f m.entries → MayPrune call pre th' g n.entries
+    single_may pre r =
+        elim t [
+          | inl s ↦
+              let left : MayPrune call pre th f (hits_from s.target m.entries) =
+              may_unskip call pre th f (before s.target m.entries) (hits_from s.target m.entries) (low_scores th s.target m h s.low)
+              (subst (λ (xs : List Hit). MayPrune call pre th f xs) (parts s.target m h) r) in
+              subst (λ (x : Member). MayPrune call pre th' g x.entries) (sym s.list)
+              (subst (λ (x : F). MayPrune call pre th' x (hits_from s.target m.entries)) (sym s.quiet.1)
+              (subst (λ (w : ℤ). MayPrune call pre w f (hits_from s.target m.entries)) (sym s.quiet.0) left))
+          | inr s ↦ subst (λ (x : Member). MayPrune call pre th' g x.entries) (sym s.list) (may_next pre th th' f g m.entries below r s.turn)
+        ]

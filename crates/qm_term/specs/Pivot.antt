@@ -229,28 +229,3 @@ no_block = record { last = TERMINATED; bound = 0 }
 -- the block that a list looks at with a target; none past the end
 abbrev pub looked_at : ℕ → Member → Block
 looked_at t m = cond (nat_lt (head m) TERMINATED) (block_at (max t (head m)) m.blocks) no_block
-
--- no block from the current document's on up to a document has a bound above the threshold
-abbrev pub IsQuietTo : ℤ → ℕ → Member → Type 0
-IsQuietTo th end m = (d : ℕ) → head m ≤ d → d ≤ end → pos (bound_at d m.blocks) ≤ℤ th
-
--- a turn of the run over one list: its block is passed, or its first document is scored
-module _ {F : Type 0} (call : F → ℕ → ℤ → ℤ → F → Type 0) (combined : List ℕ → ℕ)
-    (th : ℤ) (f : F) (m : Member) (th' : ℤ) (g : F) (n : Member) (ticked : Bool) where
-  -- a turn over one list that passes what is not above the threshold
-  pub record PassesBlock : Type 0 where
-    pub quiet : (th' ≡ th) × (g ≡ f) × (ticked ≡ false)
-    pub target : ℕ
-    pub list : n ≡ cut target m
-    pub passes : Passes th target (m ∷ []) (n ∷ [])
-
-  -- a turn over one list that scores its first document
-  pub record ScoresFirst : Type 0 where
-    pub tick : ticked ≡ true
-    pub list : n ≡ next m
-    pub turn : Turn call th f (head m) (pos (combined (scores_of (head m) (m ∷ [])))) th' g
-    pub scores : Scores th (head m) (m ∷ []) (n ∷ [])
-
-  -- a turn over one list: one of these two
-  abbrev pub IsSingle : Type 0
-  IsSingle = PassesBlock ⊎ ScoresFirst

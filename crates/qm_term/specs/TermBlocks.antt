@@ -1,12 +1,12 @@
 -- The blocks of a term's scorer, and the list that a pruned run sees in it.
-use Rattle.std.specs.Prelude.{◌≡◌, ℕ, ℤ, ◌≤◌, List, map}
+use Rattle.std.specs.Prelude.{◌≡◌, ℕ, ℤ, ◌+◌, ◌≤◌, ◌≤ℤ◌, All, List, map, pos}
 use Rattle.qm_docset.specs.Entry.{Entry, head_document}
 use Rattle.qm_postings.specs.Blocks.{looked_at}
 use Rattle.qm_postings.specs.SegmentPostings.{looked_block, postings_blocks, postings_left}
 use Rattle.qm_term.specs.Bm25.{bm25_bound}
 use Rattle.qm_term.specs.Bm25Weight.{weighing}
-use Rattle.qm_term.specs.HitRuns.{calls_of, count_above}
-use Rattle.qm_term.specs.Members.{Block, Hit, Member, bound_at}
+use Rattle.qm_term.specs.HitRuns.{blocks_passed, calls_of, count_above}
+use Rattle.qm_term.specs.Members.{Block, Hit, Member, bound_at, end_at}
 use Rattle.qm_term.specs.Runs.{Plain}
 use Rattle.qm_term.specs.TermScorer.{scored_by, scored_blocks, scored_left}
 use Rattle.qm_term.specs.declared.term_scorer.TermScorer.{TermScorer}
@@ -32,13 +32,20 @@ scored_looked_at target s =
 abbrev pub LooksHere : TermScorer → Type 0
 LooksHere s = scored_looked s ≡ scored_looked_at 0 s
 
--- The run over what a scorer has left, from a threshold on, takes the callback from f to g with so many
--- ticks: at least one for each call, and no more than there are documents whose block is bounded above the
--- threshold that is current there.
+-- A block is bounded: no document that is left in the block looked at scores above this. A block is told by
+-- its end, since no two end alike.
+abbrev pub BoundsLooked : TermScorer → ℤ → Type 0
+BoundsLooked s bound = All (λ e. end_at e.document (scored_blocks s) ≡ (scored_looked s).last → pos e.score ≤ℤ bound) (scored_left s)
+
+-- The run over what a scorer has left, from a threshold on, takes the callback from f to g. It scores so many
+-- documents: exactly those whose block is bounded above the threshold that is current there, and so at least
+-- one for each call. Its turns are these and the blocks that it passes.
 pub record PrunesTerm {F : Type 0} (call : F → ℕ → ℤ → ℤ → F → Type 0)
-    (th : ℤ) (f : F) (s : TermScorer) (ticks : ℕ) (g : F) : Type 0 where
+    (th : ℤ) (f : F) (s : TermScorer) (ticks turns : ℕ) (g : F) : Type 0 where
   pub thresholds : List ℤ
   pub last : ℤ
   pub calls : Plain call th f (scored_left s) thresholds last g
   pub at_least : calls_of thresholds (hits (scored_left s)) ≤ ticks
   pub at_most : ticks ≤ count_above (λ h. bound_at h.document (scored_blocks s)) thresholds (hits (scored_left s))
+  pub scored : ticks ≡ count_above (λ h. bound_at h.document (scored_blocks s)) thresholds (hits (scored_left s))
+  pub counted : turns ≡ ticks + blocks_passed (scored_blocks s) thresholds (hits (scored_left s))

@@ -8,7 +8,7 @@ ghost use Rattle.qm_postings.specs.FieldNorms.{is_made_constant, norm_ids};
 ghost use Rattle.qm_postings.specs.Segment.{holders};
 ghost use Rattle.qm_postings.specs.SegmentPostings.{IsPostings, looked_block, postings_blocks, postings_left, reads};
 ghost use Rattle.qm_docset.specs.Cursor.{IsSeekAnswer, OnFound};
-ghost use Rattle.qm_term.specs.TermBlocks.{LooksHere, scored_looked, scored_looked_at};
+ghost use Rattle.qm_term.specs.TermBlocks.{BoundsLooked, LooksHere, scored_looked, scored_looked_at};
 ghost use Rattle.qm_term.specs.TermEntries.{length_ids};
 
 use crate::bm25::Bm25Weight;
@@ -173,7 +173,8 @@ impl<'a> TermScorer<'a> {
     /// scores at its least length id, or at the one id of the reader. It is 0 past the end. One division.
     pub fn block_max_score(&self) -> Score
         requires { IsTermScorer self.now }
-        ensures { result ≡ pos (scored_looked self.now).bound }
+        ensures bound { result ≡ pos (scored_looked self.now).bound }
+        ensures least { BoundsLooked self.now result }
     {
         if self.postings.doc() == TERMINATED {
             return 0;
@@ -312,10 +313,22 @@ impl<'a> DocSet for TermScorer<'a> {
     ghost ascending = { AreEntries-scored };
 }
 
+/// A score leaves the block looked at as it is.
 #[tactic(auto, using(crate::specs::TermScorerFacts::scoring))]
 impl<'a> Scorer for TermScorer<'a> {
+    ghost use Rattle.qm_term.specs.TermScorer.{IsTermScorer, ScoresAs, scored_left, scored_limits};
+
     #[inline]
-    fn score(&mut self) -> Score {
+    fn score(&mut self) -> Score
+        requires valid { IsTermScorer self.old }
+        requires here { head_document (scored_left self.old) < TERMINATED }
+        ensures score { result ≡ pos (head_score (scored_left self.old)) }
+        ensures looked { scored_looked self.new ≡ scored_looked self.old }
+        ensures entries { scored_left self.new ≡ scored_left self.old }
+        ensures limits { scored_limits self.new ≡ scored_limits self.old }
+        ensures kept { (s : _) → ScoresAs s self.old → ScoresAs s self.new }
+        ensures valid { IsTermScorer self.new }
+    {
         self.score_here()
     }
 

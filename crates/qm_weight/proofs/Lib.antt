@@ -2,7 +2,7 @@ pub mod SliceSteps
 pub mod Leaves
 mod Listings
 mod Phrases
-mod HeldTerms
+pub mod HeldTerms
 mod PrefixSets
 mod Prefixes
 mod PrefixRows
@@ -13,6 +13,7 @@ mod Joins
 mod TermRuns
 mod ClauseSteps
 mod TermUnions
+mod TermRows
 mod Nodes
 mod AliveCounts
 mod OneClauses

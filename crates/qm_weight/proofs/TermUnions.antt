@@ -1,7 +1,7 @@
 -- The union of the cursors of terms is a scorer of the clauses.
 use Rattle.std.specs.Prelude.{◌≡◌, ℕ, ◌+◌, ◌<◌, ◌≤◌, max, nat_le, true, false, if◌then◌else◌, IsTrue}
 use Rattle.std.specs.Prelude.{All, List, [], ◌∷◌, ◌++◌, Option, None, Some, length, map, sum, take}
-use Rattle.std.proofs.Common.{Box, Global, Result, Ok, Err, IfErr, IsErrOf, arith, refl, sym, ap, subst, ◌∙◌, get_or, inl, inr}
+use Rattle.std.proofs.Common.{Result, Ok, Err, IfErr, IsErrOf, arith, refl, sym, ap, subst, ◌∙◌, get_or, inl, inr}
 use Rattle.std.proofs.lemmas.Bool.{cases_Bool, cases_eq, leb-true}
 use Rattle.std.proofs.lemmas.List.Elements.{All-cons, All-head, All-nil, All-tail}
 use Rattle.std.proofs.lemmas.List.Sums.{sum_by-cons}
@@ -22,10 +22,9 @@ use Rattle.qm_scorer.specs.BareFacts.{bare-cons, bare-nil}
 use Rattle.qm_weight.specs.ClauseScorers.{clause_trees, without_must_not}
 use Rattle.qm_weight.specs.LeafScorers.{IsLeafOf}
 use Rattle.qm_weight.specs.Scorers.{IsListOf, IsRefusalOf, IsScorerOf}
-use Rattle.qm_weight.specs.TermUnions.{AreClauseCursors, AreFound, AreTermsThatShould, CombinesAs, ListTogether, there}
+use Rattle.qm_weight.specs.TermUnions.{AreClauseCursors, AreFound, CombinesAs, ListTogether, there}
 use Rattle.qm_weight.specs.Tree.{Clauses, Tree, boolean, clause, clause_bounds, is_scoring, matches, no_clause, occurs_as, score}
-use Rattle.qm_weight.specs.Weights.{clauses_by, clauses_from, combiner_of, rule_tree, weight_occur, weight_tree}
-use Rattle.qm_weight.specs.declared.any_weight.AnyWeight.{AnyWeight}
+use Rattle.qm_weight.specs.Weights.{clauses_by, combiner_of, rule_tree}
 use Rattle.qm_weight.specs.declared.boolean_weight.rule.BooleanRule.{BooleanRule}
 use Rattle.qm_weight.proofs.Booleans.{combined-some, is_wanted, list-unscored, list-wanted, none-said, wanted-test}
 use Rattle.qm_weight.proofs.ClauseSteps.{more_clauses, trees-push}
@@ -47,7 +46,7 @@ scores-seen d (e ∷ es) =
           ap (map (λ x. x.score)) (entries_of-other d shown (bare es) q) ∙ scores-seen d es ∙ sym (ap (map (λ x. x.score)) (entries_of-other d e es q))
     ]
 
-there-push : {S : Type 0} (found : List (Option S)) (s : Option S) → there (found ++ s ∷ []) ≡ there found ++ there (s ∷ [])
+pub there-push : {S : Type 0} (found : List (Option S)) (s : Option S) → there (found ++ s ∷ []) ≡ there found ++ there (s ∷ [])
 there-push [] s = refl
 there-push (None ∷ found) s = there-push found s
 there-push (Some x ∷ found) s = ap (λ l. x ∷ l) (there-push found s)
@@ -160,10 +159,6 @@ pub should-alone : {X : Type 0} (occur : X → Occur) (tree : X → Tree) (xs : 
     AreShouldAlone (clauses_by occur tree xs)
 should-alone occur tree xs all = record { no_must = only-should occur tree Must xs all refl; no_must_not = only-should occur tree MustNot xs all refl }
 
--- so with weights of terms that should match
-pub should-weights : (ws : List (Occur × Box AnyWeight Global)) → AreTermsThatShould ws → AreShouldAlone (clauses_from ws)
-should-weights ws terms = should-alone weight_occur weight_tree ws (λ k d within. (terms k d within).0)
-
 -- no clause must not match
 all_wanted : (clauses : Clauses) → clause_trees clauses MustNot ≡ [] → without_must_not clauses ≡ clauses
 all_wanted no_clause h = refl
@@ -257,8 +252,9 @@ together D rule clauses b segment few alone least cursors found combined same = 
 
 -- what refuses a run over cursors that list together what a tree does
 pub refused-together : {S : Type 0} (D : Ghosts S) (combined : List ℕ → ℕ) (tree : Tree) (b : ℕ) (segment : Segment) (cursors : List S) →
-    ListTogether D combined tree b segment cursors → (e : QueryError) → IsBoundOrMemory e →
-    (e ≡ ScoreBound → greatest_score < total_top (bounds D cursors)) → IsRefusalOf tree b e
-refused-together D combined tree b segment cursors h ScoreBound only past = λ fits. absurd (omega (arith, past refl, h.within fits))
-refused-together D combined tree b segment cursors h Memory only past = tt
-refused-together D combined tree b segment cursors h e only past = absurd only
+    ListTogether D combined tree b segment cursors → {X : Type 0} (r : Result X QueryError) → IfErr r IsBoundOrMemory →
+    (IsErrOf r ScoreBound → greatest_score < total_top (bounds D cursors)) → IfErr r (IsRefusalOf tree b)
+refused-together D combined tree b segment cursors h (Ok x) only past = tt
+refused-together D combined tree b segment cursors h (Err ScoreBound) only past = λ fits. absurd (omega (arith, past refl, h.within fits))
+refused-together D combined tree b segment cursors h (Err Memory) only past = tt
+refused-together D combined tree b segment cursors h (Err e) only past = absurd only

@@ -1,6 +1,5 @@
 -- Clauses that are terms that should match, one of which is enough, and the cursors of these terms.
 use Rattle.std.specs.Prelude.{◌≡◌, ℕ, ◌≤◌, Bool, All, List, [], ◌∷◌, Option, None, Some, if◌then◌else◌}
-use Rattle.std.specs.declared.boxed.Box.{Box}
 use Rattle.qm_docset.specs.Entry.{greatest_score}
 use Rattle.qm_docset.specs.Gather.{gather}
 use Rattle.qm_docset.specs.Lists.{ArePlaced, bounds, lists}
@@ -17,29 +16,9 @@ use Rattle.qm_weight.specs.LeafScorers.{IsLeafOf}
 use Rattle.qm_weight.specs.Scorers.{IsListOf}
 use Rattle.qm_weight.specs.Tree.{Clauses, Fits, Tree}
 use Rattle.qm_weight.specs.Weights.{clause_occur, clause_tree, term_clauses}
-use Rattle.qm_weight.specs.declared.any_weight.AnyWeight.{AnyWeight, Term}
-use Rattle.qm_weight.specs.declared.boolean_weight.BooleanWeight.{BooleanWeight}
 use Rattle.qm_weight.specs.declared.terms_weight.TermClause.{TermClause}
 use Rattle.qm_weight.specs.declared.terms_weight.TermsWeight.{TermsWeight}
 use Rattle.qm_weight.specs.declared.terms_weight.clause_in.ClauseIn.{ClauseIn}
-
--- ---- the clauses of a Boolean
-
-abbrev pub IsTermWeight : AnyWeight → Type 0
-IsTermWeight (Term w) = Unit {0}
-IsTermWeight w = ⊥
-
--- a term that should match
-abbrev pub IsTermThatShould : Occur → AnyWeight → Type 0
-IsTermThatShould occur w = (occur ≡ Should) × IsTermWeight w
-
-abbrev pub AreTermsThatShould : {Z : Type 0} → List (Occur × Box AnyWeight Z) → Type 0
-AreTermsThatShould clauses = All (λ clause. IsTermThatShould clause.0 clause.1.value) clauses
-
--- all clauses are such terms, and one of them is enough
-pub record IsUnionOfTerms (weight : BooleanWeight) : Type 0 where
-  pub least : weight.minimum_number_should_match ≤ 1
-  pub terms : AreTermsThatShould weight.weights.items
 
 -- ---- the clauses of a weight of terms
 

@@ -1,6 +1,6 @@
 //! A weight of clauses that must, should or must not match.
 
-ghost use Rattle.std.specs.Prelude.{◌≡◌, ◌<◌, ◌≤◌, IfErr, IfOk, OnErr, OnOk, length, true};
+ghost use Rattle.std.specs.Prelude.{◌≡◌, ◌<◌, ◌≤◌, IfErr, IfOk, OnErr, length, true};
 ghost use Rattle.qm_docset.specs.Entry.{greatest_score};
 ghost use Rattle.qm_term.specs.Explained.{value_of};
 ghost use Rattle.qm_weight.specs.ClauseScorers.{IsDecidedBy, decides_alone};
@@ -8,7 +8,7 @@ ghost use Rattle.qm_weight.specs.Counts.{alive_count};
 ghost use Rattle.qm_weight.specs.Explanations.{IsExplained, IsExplainRefusal};
 ghost use Rattle.qm_weight.specs.Scorers.{IsRefusalOf, IsScorerOf};
 ghost use Rattle.qm_weight.specs.Tree.{boolean};
-ghost use Rattle.qm_weight.specs.TreeRuns.{MayPruneTreeAt, PrunesTreeAt};
+ghost use Rattle.qm_weight.specs.TreeRuns.{MayPruneTreeAt, PrunesTreeBy};
 ghost use Rattle.qm_weight.specs.Weights.{boolean_tree, clauses_from, combiner_of, rule_of};
 
 use crate::any_weight::{AnyWeight, count_any, prune_any};
@@ -25,7 +25,7 @@ use qm_docset::{DocId, DocSet, Score, TERMINATED};
 use qm_postings::SegmentReader;
 use qm_schema::{Occur, QueryError};
 use qm_scorer::{AnyCombiner, AnyScorer};
-use qm_term::Explanation;
+use qm_term::{Explanation, WandCount};
 use std::alloc::Global;
 
 mod clauses;
@@ -154,13 +154,13 @@ impl Weight for BooleanWeight {
     /// enough, or one scorer is left and is that of a term. For more of them the plain loop is faster.
     /// Where one clause alone decides what matches and scores, the run is that clause's. It takes memory
     /// before the first call alone.
-    fn for_each_pruning<F: FnMut(DocId, Score) -> Score>(
+    fn for_each_pruning_counted<F: FnMut(DocId, Score) -> Score>(
         &self,
         alloc: Global,
         threshold: Score,
         reader: &SegmentReader,
         callback: &mut F,
-    ) -> Result<(), QueryError> {
+    ) -> Result<WandCount, QueryError> {
         prune_boolean(self, alloc, reader, 1, threshold, callback)
     }
 }
@@ -242,10 +242,10 @@ pub(crate) fn prune_boolean<F: FnMut(DocId, Score) -> Score>(
     boost: u64,
     threshold: Score,
     callback: &mut F,
-) -> Result<(), QueryError>
+) -> Result<WandCount, QueryError>
     requires boost { boost ≤ greatest_score }
     requires allowed { MayPruneTreeAt F.step F.pre (boolean_tree weight.now) boost reader.now.segment threshold callback.old }
-    ensures calls { OnOk result (PrunesTreeAt F.step (boolean_tree weight.now) boost reader.now.segment threshold callback.old callback.new) }
+    ensures calls { IfOk result (λ count. PrunesTreeBy F.step (boolean_tree weight.now) boost reader.now.segment threshold callback.old count callback.new) }
     ensures unchanged { OnErr result (callback.new ≡ callback.old) }
     ensures refused { IfErr result (IsRefusalOf (boolean_tree weight.now) boost) }
 {

@@ -1,11 +1,11 @@
 //! Pruned runs over a scorer of their own, which pass over what they can.
 
-ghost use Rattle.std.specs.Prelude.{◌≡◌, IfErr, OnErr, OnOk};
+ghost use Rattle.std.specs.Prelude.{◌≡◌, IfErr, IfOk, OnErr};
 ghost use Rattle.qm_docset.specs.Lists.{IsPlaced};
 ghost use Rattle.qm_term.specs.Runs.{InRange, MayPrune};
 ghost use Rattle.qm_weight.specs.Scorers.{IsRefusalOf};
 ghost use Rattle.qm_weight.specs.TermUnions.{ListTogether};
-ghost use Rattle.qm_weight.specs.TreeRuns.{MayPruneTreeAt, Prunes, PrunesTreeAt};
+ghost use Rattle.qm_weight.specs.TreeRuns.{MayPruneTreeAt, PrunesBy, PrunesTreeBy};
 
 use crate::shared_runs::StandsFor;
 use crate::weight::turn;
@@ -14,7 +14,7 @@ use qm_docset::{DocId, DocSet, Score, TERMINATED};
 use qm_postings::SegmentReader;
 use qm_schema::QueryError;
 use qm_scorer::AnyScorer;
-use qm_term::{TermScorer, block_wand, block_wand_single_scorer};
+use qm_term::{TermScorer, WandCount, block_wand, block_wand_single_scorer};
 use std::alloc::Global;
 
 // The run over what the scorer has left: where it is that of a term, by the bounds of its blocks, and else up
@@ -23,14 +23,14 @@ pub(crate) fn prune_scorer<'a, S: Scorer, F: FnMut(DocId, Score) -> Score>(
     scorer: AnyScorer<'a, S>,
     threshold: Score,
     callback: &mut F,
-)
+) -> WandCount
     requires placed { IsPlaced ⟦<AnyScorer<'a, S> as DocSet>⟧ scorer }
     requires allowed { MayPrune (InRange F.step) F.pre threshold callback.old (⟦<AnyScorer<'a, S> as DocSet>⟧.entries scorer) }
-    ensures calls { Prunes F.step (⟦<AnyScorer<'a, S> as DocSet>⟧.entries scorer.entry) threshold callback.old callback.new }
+    ensures calls { PrunesBy F.step (⟦<AnyScorer<'a, S> as DocSet>⟧.entries scorer.entry) threshold callback.old result callback.new }
 {
     match scorer {
         AnyScorer::Term(term) => {
-            block_wand_single_scorer(Box::into_inner(term), threshold, callback);
+            block_wand_single_scorer(Box::into_inner(term), threshold, callback)
         }
         other => prune_to_bound(other, threshold, callback),
     }
@@ -42,18 +42,31 @@ pub(crate) fn prune_to_bound<S: Scorer, F: FnMut(DocId, Score) -> Score>(
     mut scorer: S,
     mut threshold: Score,
     callback: &mut F,
-)
+) -> WandCount
     requires placed { IsPlaced S.DocSet scorer }
     requires allowed { MayPrune (InRange F.step) F.pre threshold callback.old (S.entries scorer) }
-    ensures calls { Prunes F.step (S.entries scorer) threshold callback.old callback.new }
+    ensures calls { PrunesBy F.step (S.entries scorer) threshold callback.old result callback.new }
 {
     let most = scorer.max_score();
     let mut doc = scorer.doc();
+    let mut scored: u128 = 0;
     // the run over what the scorer has left, from this threshold on, is what is still to come
     while doc != TERMINATED && threshold < most {
         threshold = turn(threshold, doc, scorer.score(), callback);
         doc = scorer.advance();
+        scored += 1;
     }
+    WandCount {
+        turns: scored,
+        ticks: scored,
+    }
+}
+
+// What is counted where there is nothing to run over.
+pub(crate) fn counted_none() -> WandCount
+    ensures { result ≡ record { turns = 0; ticks = 0 } }
+{
+    WandCount { turns: 0, ticks: 0 }
 }
 
 /// The most clauses of one run that passes over blocks. Each of its turns goes through the heads of all its
@@ -73,13 +86,13 @@ pub(crate) fn prune_by_blocks<'a, W: StandsFor, C: BoundedBySum, F: FnMut(DocId,
     combiner: C,
     threshold: Score,
     callback: &mut F,
-) -> Result<(), QueryError>
+) -> Result<WandCount, QueryError>
     requires terms { ListTogether ⟦<TermScorer<'a> as DocSet>⟧ (C.combined combiner) (W.tree weight.now) boost reader.now.segment terms.items }
     requires allowed { MayPruneTreeAt F.step F.pre (W.tree weight.now) boost reader.now.segment threshold callback.old }
-    ensures calls { OnOk result (PrunesTreeAt F.step (W.tree weight.now) boost reader.now.segment threshold callback.old callback.new) }
+    ensures calls { IfOk result (λ count.
+        PrunesTreeBy F.step (W.tree weight.now) boost reader.now.segment threshold callback.old count callback.new) }
     ensures unchanged { OnErr result (callback.new ≡ callback.old) }
     ensures refused { IfErr result (IsRefusalOf (W.tree weight.now) boost) }
 {
-    block_wand(alloc, terms, combiner, threshold, callback)?;
-    Ok(())
+    block_wand(alloc, terms, combiner, threshold, callback)
 }

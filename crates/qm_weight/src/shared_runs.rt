@@ -8,16 +8,17 @@ ghost use Rattle.qm_weight.specs.Explanations.{IsExplained, IsExplainRefusal, St
 ghost use Rattle.qm_weight.specs.LeafScorers.{IsLeafOf};
 ghost use Rattle.qm_weight.specs.Scorers.{IsScorerOf};
 ghost use Rattle.qm_weight.specs.Tree.{Tree};
-ghost use Rattle.qm_weight.specs.TreeRuns.{CallsSlices, CallsTree, MayCallSlices, MayCallTree, MayPruneTree, PrunesTree};
+ghost use Rattle.qm_weight.specs.TreeRuns.{CallsSlices, CallsTree, MayCallSlices, MayCallTree, MayPruneTree, PrunesTreeBy};
 
 use crate::counts::count_alive;
 use crate::explanations::score_of;
-use crate::pruning::prune_to_bound;
+use crate::pruning::{counted_none, prune_to_bound};
 use crate::weight::{empty_buffer, for_each_docset_buffered, for_each_scorer};
 use qm_combine::{EmptyScorer, Scorer};
 use qm_docset::{DocId, DocSet, Score, TERMINATED};
 use qm_postings::SegmentReader;
 use qm_schema::QueryError;
+use qm_term::WandCount;
 
 /// What stands for a tree. By it the functions here name the tree that a scorer is of: a weight can't be named
 /// as one in its own runs.
@@ -112,13 +113,14 @@ pub(crate) fn prune_leaf<W: StandsFor, L: Scorer, F: FnMut(DocId, Score) -> Scor
     leaf: Option<L>,
     threshold: Score,
     callback: &mut F,
-)
+) -> WandCount
     requires leaf { IsLeafOf L.DocSet (W.tree weight.now) 1 reader.now.segment leaf }
     requires allowed { MayPruneTree F.step F.pre (W.tree weight.now) reader.now.segment threshold callback.old }
-    ensures calls { PrunesTree F.step (W.tree weight.now) reader.now.segment threshold callback.old callback.new }
+    ensures calls { PrunesTreeBy F.step (W.tree weight.now) 1 reader.now.segment threshold callback.old result callback.new }
 {
-    if let Some(scorer) = leaf {
-        prune_to_bound(scorer, threshold, callback);
+    match leaf {
+        Some(scorer) => prune_to_bound(scorer, threshold, callback),
+        None => counted_none(),
     }
 }
 

@@ -10,13 +10,14 @@ ghost use Rattle.qm_weight.specs.Explanations.{IsExplained, IsExplainRefusal};
 ghost use Rattle.qm_weight.specs.LeafScorers.{IsLeafOf, IsLeafOfSome};
 ghost use Rattle.qm_weight.specs.Scorers.{IsRefusalOf};
 ghost use Rattle.qm_weight.specs.Tree.{term as leaf_of};
-ghost use Rattle.qm_weight.specs.TreeRuns.{MayPruneTree, PrunesTree};
+ghost use Rattle.qm_weight.specs.TreeRuns.{MayPruneTree, PrunesTreeBy};
 ghost use Rattle.qm_weight.specs.Weights.{term_tree, term_weighing, weight_term, weighing_if};
 
 use crate::bounds::bound_of_term;
 use crate::counts::count_alive;
 use crate::explanations::explain_term;
 use crate::leaf_scorers::scorer_of_leaf;
+use crate::pruning::counted_none;
 use crate::shared_runs::{StandsFor, check_document, prune_leaf, run_leaf, run_leaf_slices};
 use crate::weight::Weight;
 use qm_combine::Scorer;
@@ -24,7 +25,7 @@ use qm_docset::{DocId, DocSet, Score, TERMINATED};
 use qm_postings::SegmentReader;
 use qm_schema::{IndexRecordOption, QueryError, Term};
 use qm_scorer::AnyScorer;
-use qm_term::{Bm25Weight, Explanation, TermScorer, block_wand_single_scorer};
+use qm_term::{Bm25Weight, Explanation, TermScorer, WandCount, block_wand_single_scorer};
 use std::alloc::Global;
 
 /// Matches the documents that hold a term. Each scores what the term's weight gives its frequency there
@@ -177,20 +178,19 @@ impl Weight for TermWeight {
 
     /// Runs over the postings of the term, and takes no memory. With scoring on it passes over blocks whose
     /// documents cannot score above the threshold.
-    fn for_each_pruning<F: FnMut(DocId, Score) -> Score>(
+    fn for_each_pruning_counted<F: FnMut(DocId, Score) -> Score>(
         &self,
         _alloc: Global,
         threshold: Score,
         reader: &SegmentReader,
         callback: &mut F,
-    ) -> Result<(), QueryError> {
+    ) -> Result<WandCount, QueryError> {
         let leaf = self.term_scorer(reader, 1)?;
         if self.scoring_enabled {
-            prune_term(self, reader, leaf, threshold, callback);
+            Ok(prune_term(self, reader, leaf, threshold, callback))
         } else {
-            prune_leaf(self, reader, leaf, threshold, callback);
+            Ok(prune_leaf(self, reader, leaf, threshold, callback))
         }
-        Ok(())
     }
 }
 
@@ -201,13 +201,14 @@ fn prune_term<'a, F: FnMut(DocId, Score) -> Score>(
     leaf: Option<TermScorer<'a>>,
     threshold: Score,
     callback: &mut F,
-)
+) -> WandCount
     requires leaf { IsLeafOf ⟦<TermScorer<'a> as DocSet>⟧ (term_tree weight.now) 1 reader.now.segment leaf }
     requires allowed { MayPruneTree F.step F.pre (term_tree weight.now) reader.now.segment threshold callback.old }
-    ensures calls { PrunesTree F.step (term_tree weight.now) reader.now.segment threshold callback.old callback.new }
+    ensures calls { PrunesTreeBy F.step (term_tree weight.now) 1 reader.now.segment threshold callback.old result callback.new }
 {
-    if let Some(scorer) = leaf {
-        block_wand_single_scorer(scorer, threshold, callback);
+    match leaf {
+        Some(scorer) => block_wand_single_scorer(scorer, threshold, callback),
+        None => counted_none(),
     }
 }
 

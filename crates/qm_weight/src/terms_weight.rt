@@ -14,7 +14,7 @@ use qm_docset::{DocId, DocSet, Score};
 use qm_postings::SegmentReader;
 use qm_schema::{IndexRecordOption, Occur, QueryError, Term};
 use qm_scorer::{AnyCombiner, AnyScorer};
-use qm_term::Explanation;
+use qm_term::{Explanation, WandCount};
 use runs::{run_should_slices, run_terms};
 use std::alloc::Global;
 use term_union::are_all_should;
@@ -185,13 +185,13 @@ impl Weight for TermsWeight {
     /// Passes over blocks whose documents cannot score above the threshold, where scoring is on, the combiner is the
     /// sum or the greatest score, and the clauses are up to 16 terms that should match, one of which is enough, or one
     /// scorer is left and is that of a term. It takes memory before the first call alone.
-    fn for_each_pruning<F: FnMut(DocId, Score) -> Score>(
+    fn for_each_pruning_counted<F: FnMut(DocId, Score) -> Score>(
         &self,
         alloc: Global,
         threshold: Score,
         reader: &SegmentReader,
         callback: &mut F,
-    ) -> Result<(), QueryError> {
+    ) -> Result<WandCount, QueryError> {
         prune_terms(self, alloc, reader, 1, threshold, callback)
     }
 }

@@ -29,7 +29,7 @@ pub(super) struct KeptDocuments {
 impl KeptDocuments {
     ghost use Rattle.std.specs.Prelude.{IfOk, IsOkUnless, OnOk, false, [], map};
     ghost use Rattle.qm_query.specs.KeptDocument.{IsThreshold, answer_of};
-    ghost use Rattle.qm_query.specs.KeptDocuments.{Collects, ranked_kept};
+    ghost use Rattle.qm_query.specs.KeptDocuments.{CollectsAt, ranked_kept};
 
     /// None so far, with room for so many.
     pub(super) fn with_limit(
@@ -66,10 +66,7 @@ impl KeptDocuments {
         doc: DocId,
         score: Score,
     ) -> Score
-        ensures limit { self.new.limit ≡ self.old.limit }
-        ensures threshold { IsThreshold self.new.limit (heap_items self.new.documents) result }
-        ensures before { self.new.refused ≡ false → self.old.refused ≡ false }
-        ensures collected { self.new.refused ≡ false → Collects segment_ord reader.now.segment doc score self.old self.new }
+        ensures collected { CollectsAt segment_ord reader.now.segment self.old doc score result self.new }
     {
         if is_alive(reader, doc) {
             self.refused |= self

@@ -7,7 +7,7 @@ ghost use Rattle.qm_combine.specs.Union.{IsBoundOrMemory};
 ghost use Rattle.qm_docset.specs.Entry.{greatest_score};
 ghost use Rattle.qm_term.specs.HeadRow.{IsRow, row_lists};
 ghost use Rattle.qm_term.specs.Heads.{IsLevel};
-ghost use Rattle.qm_term.specs.HitRuns.{MayPrune};
+ghost use Rattle.qm_term.specs.HitRuns.{MayPrune, NoneAbove};
 ghost use Rattle.qm_term.specs.Members.{united};
 ghost use Rattle.qm_term.specs.Pivot.{LeavesAll, TakesTurn, front_scores, head, past, postings, total_top};
 ghost use Rattle.qm_term.specs.Runs.{InRange, MayPrune as MayRunOver, MayTurn, Turn};
@@ -78,6 +78,7 @@ impl<'a, C: BoundedBySum> WandRun<'a, C> {
         ensures valid { IsRun self.new }
         ensures combiner { run_combiner self.new ≡ run_combiner self.old }
         ensures none { result ≡ false → RunLeavesAll callback.old self.old callback.new self.new }
+        ensures done { result ≡ false → NoneAbove (run_threshold self.old) (run_union C.combined self.old) }
         ensures turn { result ≡ true → RunTakesTurn (InRange F.step) C.combined callback.old self.old callback.new self.new }
         ensures turns { run_turns self.new ≡ run_turns self.old + cond result 1 0 }
         ensures no_tick { result ≡ false → run_ticks self.new ≡ run_ticks self.old }
@@ -110,6 +111,7 @@ impl<'a, C: BoundedBySum> WandRun<'a, C> {
     fn finish<F: FnMut(DocId, Score) -> Score>(&mut self, callback: &mut F)
         requires valid { IsRun self.old }
         requires callable { MayPrune (InRange F.step) F.pre (run_threshold self.old) callback.old (run_union C.combined self.old) }
+        ensures valid { IsRun self.new }
         ensures turns { run_turns self.new ≤ run_turns self.old + postings (run_lists self.old) }
         ensures run { RunFinishes (InRange F.step) C.combined callback.old self.old callback.new self.new }
     {
@@ -134,6 +136,7 @@ pub fn block_wand<C: BoundedBySum, F: FnMut(DocId, Score) -> Score>(
     requires valid { All IsTermScorer scorers.items }
     requires callable { MayRunOver (InRange F.step) F.pre threshold callback.old (terms_left (C.combined combiner) scorers.items) }
     ensures turns { IfOk result (λ count. count.turns ≤ postings (map member_of scorers.entry.items)) }
+    ensures scored { IfOk result (λ count. count.ticks ≤ count.turns) }
     ensures run { IfOk result (λ count.
         PrunesTerms (InRange F.step) (C.combined combiner) threshold callback.old scorers.entry.items count.ticks callback.new) }
     ensures refused { IsErrOf result QueryError.ScoreBound ↔ (greatest_score < total_top (map member_of scorers.entry.items)) }

@@ -1,12 +1,13 @@
 //! The run over one term.
 
-ghost use Rattle.std.specs.Prelude.{◌≡◌, ℕ, ℤ, ◌+◌, ◌<◌, ◌≤◌, ◌<ℤ◌, ◌≤ℤ◌, ◌^◌, [], ◌∷◌, All, List, cond, length, min, pos, sum, true, false};
+ghost use Rattle.std.specs.Prelude.{◌≡◌, ℕ, ℤ, ◌+◌, ◌<◌, ◌≤◌, ◌<ℤ◌, ◌≤ℤ◌, ◌^◌, All, cond, length, pos, suc, true, false};
 ghost use Rattle.qm_docset.specs.Entry.{greatest_score};
 ghost use Rattle.qm_term.specs.HitRuns.{MayPrune};
-ghost use Rattle.qm_term.specs.Members.{united, blocks_left, bound_at, end_at};
-ghost use Rattle.qm_term.specs.Pivot.{IsQuietTo, IsSingle, Pruned, head, looked_at};
+ghost use Rattle.qm_term.specs.Members.{bound_at, end_at};
+ghost use Rattle.qm_term.specs.Pivot.{head, looked_at};
 ghost use Rattle.qm_term.specs.Runs.{InRange, MayPrune as MayRunOver, Turn};
-ghost use Rattle.qm_term.specs.RunScorers.{IsRunScorer, first_of, first_score, looked_first, ticks_of};
+ghost use Rattle.qm_term.specs.RunScorers.{IsRunScorer, first_of, looked_first, ticks_of};
+ghost use Rattle.qm_term.specs.SingleRun.{IsQuietTo, IsSingle, PassesBlocks, PrunesList};
 ghost use Rattle.qm_term.specs.TermBlocks.{PrunesTerm};
 ghost use Rattle.qm_term.specs.TermScorer.{IsTermScorer, scored_blocks, scored_left};
 
@@ -23,17 +24,25 @@ pub(super) struct Looked {
     pub(super) bound: u64,
 }
 
-// What a turn did.
+// The end of a stretch of blocks, and how many they are.
+#[derive(Clone, Copy, Debug)]
+struct Stretch {
+    end: DocId,
+    blocks: u32,
+}
+
+// What a turn did, and as how many it counts: one for a document, or one for each block that it passed.
 #[derive(Clone, Copy, Debug)]
 struct Turned {
     ticked: bool,
+    turns: u32,
     threshold: Score,
 }
 
 /// Runs over what one scorer has left: calls `callback` for each document that scores above the
 /// threshold, ascending; its answer is the threshold from then on. It makes the calls of the plain loop,
-/// with the same thresholds, and scores only documents whose block is bounded above the threshold. Takes
-/// no memory.
+/// with the same thresholds, and scores only documents whose block is bounded above the threshold. Its
+/// turns are the documents scored and the blocks passed. Takes no memory.
 ///
 /// Asks that the callback may be called so, whatever the calls before answered and left of it.
 pub fn block_wand_single_scorer<F: FnMut(DocId, Score) -> Score>(
@@ -43,7 +52,7 @@ pub fn block_wand_single_scorer<F: FnMut(DocId, Score) -> Score>(
 ) -> WandCount
     requires valid { IsTermScorer scorer }
     requires callable { MayRunOver (InRange F.step) F.pre threshold callback.old (scored_left scorer) }
-    ensures run { PrunesTerm (InRange F.step) threshold callback.old scorer.entry result.ticks callback.new }
+    ensures run { PrunesTerm (InRange F.step) threshold callback.old scorer.entry result.ticks result.turns callback.new }
     ensures turns { result.turns ≤ result.ticks + length (scored_blocks scorer.entry) }
 {
     let mut row = [TermScorerWithMaxScore::from(scorer)];
@@ -61,10 +70,8 @@ pub(super) fn run_over<F: FnMut(DocId, Score) -> Score>(
     requires valid { All IsRunScorer row.old }
     requires looking { looked_first row.old ≡ looked_at 0 (first_of row.old) }
     requires few { length (first_of row.old).entries ≤ TERMINATED }
-    requires ends { head (first_of row.old) < TERMINATED → (d : ℕ) → d < TERMINATED → 0 < blocks_left d (first_of row.old).blocks }
-    requires callable { MayPrune (InRange F.step) F.pre threshold callback.old (united (λ xs. sum xs) (first_of row.old ∷ [])) }
-    ensures turns { result.turns ≤ result.ticks + length (first_of row.old).blocks }
-    ensures run { (last : ℤ) × Pruned (InRange F.step) (λ xs. sum xs) threshold callback.old (first_of row.old ∷ []) result.ticks last callback.new }
+    requires callable { MayPrune (InRange F.step) F.pre threshold callback.old (first_of row.old).entries }
+    ensures run { (last : ℤ) × PrunesList (InRange F.step) threshold callback.old (first_of row.old) result.ticks result.turns last callback.new }
 {
     let mut threshold = threshold;
     let mut ticks = Ticks::new();
@@ -77,7 +84,7 @@ pub(super) fn run_over<F: FnMut(DocId, Score) -> Score>(
     while doc < TERMINATED {
         let turned = single_turn(row, doc, known, threshold, &mut ticks, callback);
         threshold = turned.threshold;
-        turns += 1;
+        turns += u128::from(turned.turns);
         doc = row[0].doc();
         known = look_from(row, doc, known);
     }
@@ -137,9 +144,9 @@ pub(super) fn is_above(bound: u64, threshold: Score) -> bool
     bound as Score > threshold
 }
 
-// The end of the last block, from the known one on, up to which no block reaches above the threshold. The
-// scorer looks at blocks one by one, and moves nowhere.
-fn quiet_end(row: &mut [TermScorerWithMaxScore<'_>], known: Looked, threshold: Score) -> DocId
+// The blocks, from the known one on, up to the first that reaches above the threshold. The scorer looks at
+// them one by one, and moves nowhere.
+fn quiet_blocks(row: &mut [TermScorerWithMaxScore<'_>], known: Looked, threshold: Score) -> Stretch
     requires one { length row.old ≡ 1 }
     requires valid { All IsRunScorer row.old }
     requires below { head (first_of row.old) < TERMINATED }
@@ -149,11 +156,14 @@ fn quiet_end(row: &mut [TermScorerWithMaxScore<'_>], known: Looked, threshold: S
     ensures one { length row.new ≡ 1 }
     ensures valid { All IsRunScorer row.new }
     ensures same { first_of row.new ≡ first_of row.old }
-    ensures from { known.end ≤ result }
-    ensures quiet { IsQuietTo threshold result (first_of row.old) }
+    ensures from { known.end ≤ result.end }
+    ensures quiet { IsQuietTo threshold result.end (first_of row.old) }
+    ensures some { 0 < result.blocks }
+    ensures passed { PassesBlocks threshold (suc result.end) result.blocks (first_of row.old) }
 {
     let mut end = known.end;
-    // no block up to this end reaches above the threshold
+    let mut blocks: u32 = 1;
+    // no block up to this end reaches above the threshold, and so many end there
     while end < TERMINATED {
         row[0].seek_block(end + 1);
         let next = look(row);
@@ -161,8 +171,9 @@ fn quiet_end(row: &mut [TermScorerWithMaxScore<'_>], known: Looked, threshold: S
             break;
         }
         end = next.end;
+        blocks += 1;
     }
-    end
+    Stretch { end, blocks }
 }
 
 // One turn: the document is scored where its block reaches above the threshold, and else the block is
@@ -182,16 +193,16 @@ fn single_turn<F: FnMut(DocId, Score) -> Score>(
     requires end { known.end ≡ end_at doc (first_of row.old).blocks }
     requires bound { known.bound ≡ bound_at doc (first_of row.old).blocks }
     requires room { ticks_of ticks.old + 1 < 2 ^ 128 }
-    requires callable { MayPrune (InRange F.step) F.pre threshold callback.old (united (λ xs. sum xs) (first_of row.old ∷ [])) }
+    requires callable { MayPrune (InRange F.step) F.pre threshold callback.old (first_of row.old).entries }
     ensures one { length row.new ≡ 1 }
     ensures valid { All IsRunScorer row.new }
     ensures looking { looked_first row.new ≡ looked_at 0 (first_of row.new) }
     ensures blocks { (first_of row.new).blocks ≡ (first_of row.old).blocks }
-    ensures fewer { length (first_of row.new).entries < length (first_of row.old).entries }
+    ensures some { 0 < result.turns }
+    ensures fewer { result.turns + length (first_of row.new).entries ≤ length (first_of row.old).entries }
     ensures later { doc < head (first_of row.new) }
-    ensures past { result.ticked ≡ false → min (known.end + 1) TERMINATED ≤ head (first_of row.new) }
-    ensures turn { IsSingle (InRange F.step) (λ xs. sum xs)
-        threshold callback.old (first_of row.old) result.threshold callback.new (first_of row.new) result.ticked }
+    ensures turn { IsSingle (InRange F.step) threshold callback.old
+        (first_of row.old) result.threshold callback.new (first_of row.new) result.ticked result.turns }
     ensures ticks { ticks_of ticks.new ≡ ticks_of ticks.old + cond result.ticked 1 0 }
 {
     if is_above(known.bound, threshold) {
@@ -200,13 +211,15 @@ fn single_turn<F: FnMut(DocId, Score) -> Score>(
         row[0].advance();
         Turned {
             ticked: true,
+            turns: 1,
             threshold,
         }
     } else {
-        let end = quiet_end(row, known, threshold);
-        row[0].seek(end.saturating_add(1).min(TERMINATED));
+        let quiet = quiet_blocks(row, known, threshold);
+        row[0].seek(quiet.end.saturating_add(1).min(TERMINATED));
         Turned {
             ticked: false,
+            turns: quiet.blocks,
             threshold,
         }
     }

@@ -151,3 +151,15 @@ boost_weight::prune_boost-prune_any-requires g t c κs within =
         ),
       ),
     )
+
+pub boost_weight::prune_boost-returns-clause-calls :
+    goal.boost_weight::prune_boost-returns-clause-calls
+boost_weight::prune_boost-returns-clause-calls g t c =
+    let words = fnmut.words g.row.F g.F.FnMut in
+    let wt = c.args.weight.now in
+    let segment = c.args.reader.now.segment in
+    let product : c.in-Some.product ≡ c.args.boost * wt.boost = search rules in
+    PrunesTree-from words.step (tree_of c.deref.result.now) (boost_tree wt) c.in-Some.product c.args.boost segment c.args.threshold _ _
+    c.prune_any.result c.ranges.threshold (λ es listed. list-boost wt.boost (tree_of wt.weight.value) c.args.boost segment es
+    (subst (λ n. IsListOf (tree_of wt.weight.value) n segment es) product
+    (subst (λ x. IsListOf (tree_of x) c.in-Some.product segment es) c.deref.ensures listed))) c.prune_any.ensures.calls

@@ -1,10 +1,10 @@
 //! The pruned run, which passes over blocks where the terms should match.
 
-ghost use Rattle.std.specs.Prelude.{◌≡◌, ◌≤◌, IfErr, OnErr, OnOk, true};
+ghost use Rattle.std.specs.Prelude.{◌≡◌, ◌≤◌, IfErr, IfOk, OnErr, true};
 ghost use Rattle.qm_docset.specs.Entry.{greatest_score};
 ghost use Rattle.qm_weight.specs.Scorers.{IsRefusalOf};
 ghost use Rattle.qm_weight.specs.TermUnions.{CombinesAs, IsTermUnion};
-ghost use Rattle.qm_weight.specs.TreeRuns.{MayPruneTreeAt, PrunesTreeAt};
+ghost use Rattle.qm_weight.specs.TreeRuns.{MayPruneTreeAt, PrunesTreeBy};
 ghost use Rattle.qm_weight.specs.Weights.{terms_tree};
 
 use crate::pruning::{MOST_TERMS_BY_BLOCKS, prune_by_blocks, prune_scorer};
@@ -16,7 +16,7 @@ use qm_docset::{DocId, Score};
 use qm_postings::SegmentReader;
 use qm_schema::QueryError;
 use qm_scorer::{AnyCombiner, AnyScorer};
-use qm_term::TermScorer;
+use qm_term::{TermScorer, WandCount};
 use std::alloc::Global;
 
 // The pruned run at a boost over what the clauses list together. It passes over blocks where that can be.
@@ -27,10 +27,10 @@ pub(crate) fn prune_terms<F: FnMut(DocId, Score) -> Score>(
     boost: u64,
     threshold: Score,
     callback: &mut F,
-) -> Result<(), QueryError>
+) -> Result<WandCount, QueryError>
     requires boost { boost ≤ greatest_score }
     requires allowed { MayPruneTreeAt F.step F.pre (terms_tree weight.now) boost reader.now.segment threshold callback.old }
-    ensures calls { OnOk result (PrunesTreeAt F.step (terms_tree weight.now) boost reader.now.segment threshold callback.old callback.new) }
+    ensures calls { IfOk result (λ count. PrunesTreeBy F.step (terms_tree weight.now) boost reader.now.segment threshold callback.old count callback.new) }
     ensures unchanged { OnErr result (callback.new ≡ callback.old) }
     ensures refused { IfErr result (IsRefusalOf (terms_tree weight.now) boost) }
 {
@@ -43,8 +43,7 @@ pub(crate) fn prune_terms<F: FnMut(DocId, Score) -> Score>(
         }
         _ => {
             let scorer: AnyScorer<EmptyScorer> = boxed_scorer(weight, alloc, reader, boost)?;
-            prune_scorer(scorer, threshold, callback);
-            Ok(())
+            Ok(prune_scorer(scorer, threshold, callback))
         }
     }
 }
@@ -58,12 +57,12 @@ fn prune_union<C: BoundedBySum, F: FnMut(DocId, Score) -> Score>(
     combiner: C,
     threshold: Score,
     callback: &mut F,
-) -> Result<(), QueryError>
+) -> Result<WandCount, QueryError>
     requires boost { boost ≤ greatest_score }
     requires terms { IsTermUnion weight.now }
     requires combiner { CombinesAs weight.now.rule.score_combiner (C.combined combiner) }
     requires allowed { MayPruneTreeAt F.step F.pre (terms_tree weight.now) boost reader.now.segment threshold callback.old }
-    ensures calls { OnOk result (PrunesTreeAt F.step (terms_tree weight.now) boost reader.now.segment threshold callback.old callback.new) }
+    ensures calls { IfOk result (λ count. PrunesTreeBy F.step (terms_tree weight.now) boost reader.now.segment threshold callback.old count callback.new) }
     ensures unchanged { OnErr result (callback.new ≡ callback.old) }
     ensures refused { IfErr result (IsRefusalOf (terms_tree weight.now) boost) }
 {

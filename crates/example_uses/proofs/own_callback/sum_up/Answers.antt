@@ -1,19 +1,11 @@
 -- With each call the count has one more, and the documents to come are one fewer; all are no more than the segment has.
-use Rattle.std.proofs.Common.{◌≡◌, ◌≤◌, ◌+◌, ◌∙◌, ℕ, List, ap, sym, length, min, arith, refl, rules}
+use Rattle.std.proofs.Common.{◌≡◌, ◌+◌, ◌∙◌, ℕ, List, ap, sym, length, min, arith, refl, rules}
 use Rattle.std.proofs.lemmas.List.{length-map}
-use Rattle.std.proofs.lemmas.List.FromFn.{length-range_with_len}
-use Rattle.std.proofs.lemmas.List.Sums.{count_by-le-length, length-filter}
-use Rattle.std.specs.List.{range_with_len}
 use Rattle.qm_docset.specs.Entry.{Entry, documents}
-use Rattle.qm_postings.specs.Segment.{Segment}
 use Rattle.qm_term.specs.RunsFacts.{CallsEach-keeps, MayCallEach-always}
-use Rattle.qm_weight.specs.Tree.{Tree, matches, matching}
+use Rattle.qm_weight.specs.Tree.{matching}
+use Rattle.qm_weight.specs.TreeFacts.{length-matching}
 use Rattle.example_uses.proofs.own_callback.sum_up.Goals as goal
-
-length-matching : (tree : Tree) (segment : Segment) → length (matching tree segment) ≤ length segment.documents
-length-matching tree segment =
-    let all = range_with_len 0 (length segment.documents) in
-    omega (arith, length-filter (matches tree segment) all, count_by-le-length (matches tree segment) all, length-range_with_len 0 (length segment.documents))
 
 length-documents : (es : List Entry) (ds : List ℕ) → documents es ≡ ds → length es ≡ length ds
 length-documents es ds are = sym (length-map es (λ e. e.document)) ∙ ap length are

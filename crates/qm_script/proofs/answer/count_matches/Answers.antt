@@ -2,7 +2,7 @@ use Rattle.std.proofs.Common.{◌≡◌, ◌∙◌, OnOk, ap, refl, true, subst,
 use Rattle.std.specs.Fmt.{decimal}
 use Rattle.qm_query.specs.Query.{query_of as built_query}
 use Rattle.qm_script.specs.Answers.{count_text}
-use Rattle.qm_index.specs.Indexed.{AreMerged, AreSearched}
+use Rattle.qm_index.specs.Indexed.{AreSearched}
 use Rattle.qm_index.specs.Parts.{segments_of}
 use Rattle.qm_query.specs.Searches.{without_scores}
 use Rattle.qm_script.specs.Found.{found_alive}
@@ -10,7 +10,7 @@ use Rattle.qm_script.specs.ScriptSegments.{Script, script}
 use Rattle.qm_script.specs.Spelled.{query_of}
 use Rattle.qm_script.specs.Under.{IsListingRefusal, IsWithinScores}
 use Rattle.qm_script.proofs.AskedFields.{score-refusal}
-use Rattle.qm_script.proofs.Answering.{IsForDocuments-refused, behind_nothing, counted-same, for_documents, text-answer, unbuilt-answer}
+use Rattle.qm_script.proofs.Answering.{behind_nothing, counted-same, expanded-built, for_documents, IsForDocuments-refused, text-answer, unbuilt-answer}
 use Rattle.qm_script.proofs.answer.count_matches.Goals as goal
 
 pub returns-in-Err-clause-answer : goal.returns-in-Err-clause-answer
@@ -33,9 +33,9 @@ returns-in_ok-build_segments-in-Ok-clause-answer c =
     let enable = without_scores searcher in
     let query = built_query c.in-Ok.query in
     let are = subst (λ t. AreSearched t readers) same c.searcher.ensures.segments in
-    let one : c.has_prefix.result ≡ true → AreMerged s readers =
-    λ has. subst (λ t. AreMerged t readers) same (c.searcher.ensures.whole (c.in_ok-build_segments-in-Ok.ensures.whole has)) in
-    let counted = counted-same c.has_prefix.result enable s q query readers c.has_prefix.ensures c.in-Ok.ensures are one in
+    let expanded = expanded-built q s c.build_segments.new.self readers same c.searcher.ensures.whole c.searcher.ensures.parts
+    c.in_ok-build_segments-in-Ok.ensures.expanded in
+    let counted = counted-same enable s q query readers c.in-Ok.ensures are expanded in
     let digits = behind_nothing (string_bytes c.args.text.now) (decimal (found_alive enable query (segments_of readers))) c.requires ∙ ap decimal counted in
     let written = subst (λ t. OnOk c.write_count-written.result (text ≡ t)) digits c.write_count-written.ensures.count in
     let fields = c.searcher.ensures.fields ∙ ap (λ (t : Script). t.current.schema) same in (

@@ -3,7 +3,7 @@ use mir.ValLaws.{to_z-of_z}
 use Rattle.qm_query.specs.Query.{query_of as built_query}
 use Rattle.qm_script.specs.Answers.{pruned_text}
 use Rattle.qm_script.specs.Found.{found_above_in_parts}
-use Rattle.qm_index.specs.Indexed.{AreMerged, AreSearched, all_segments}
+use Rattle.qm_index.specs.Indexed.{AreSearched, all_segments}
 use Rattle.qm_index.specs.Parts.{segments_of}
 use Rattle.qm_script.specs.ScriptSegments.{Script, script}
 use Rattle.qm_script.specs.Spelled.{query_of}
@@ -12,7 +12,7 @@ use Rattle.qm_script.specs.Text.{IsListing, listing_text}
 use Rattle.qm_script.specs.Weights.{IsWeighedBy}
 use Rattle.qm_script.specs.Under.{IsListingRefusal, IsWithinScores}
 use Rattle.qm_script.proofs.AskedFields.{score-refusal}
-use Rattle.qm_script.proofs.Answering.{IsForScores-refused, above-same, for_scores, listing-answer, nothing_searched, unbuilt-answer}
+use Rattle.qm_script.proofs.Answering.{above-same, expanded-built, for_scores, IsForScores-refused, listing-answer, nothing_searched, unbuilt-answer}
 use Rattle.qm_script.proofs.answer.list_above.Goals as goal
 
 pub returns-in-Err-clause-answer : goal.returns-in-Err-clause-answer
@@ -37,10 +37,10 @@ returns-in_ok-build_segments-in-Ok-clause-answer c =
     let enable = c.enabled_from_searcher.result in
     let query = built_query c.in-Ok.query in
     let are = subst (λ t. AreSearched t readers) same c.searcher-searcher.ensures.segments in
-    let one : c.has_prefix.result ≡ true → AreMerged s readers =
-    λ has. subst (λ t. AreMerged t readers) same (c.searcher-searcher.ensures.whole (c.in_ok-build_segments-in-Ok.ensures.whole has)) in
+    let expanded = expanded-built q s c.build_segments.new.self readers same c.searcher-searcher.ensures.whole c.searcher-searcher.ensures.parts
+    c.in_ok-build_segments-in-Ok.ensures.expanded in
     let ended : length (all_segments s) ≡ c.ended.result + 1 = ap (λ t. length (all_segments t)) (sym same) ∙ c.ended.ensures in
-    let listed = above-same threshold c.has_prefix.result enable s q query c.ended.result readers c.has_prefix.ensures c.in-Ok.ensures ended are one in
+    let listed = above-same enable s q query readers c.in-Ok.ensures are threshold c.ended.result ended expanded in
     let written = subst (λ t. OnOk c.write_pruned-written.result
     (IsListing (found_above_in_parts t enable query c.ended.result (segments_of c.segment_readers.result.now)) text))
     (to_z-of_z w64 threshold c.ranges.threshold) c.write_pruned-written.ensures.listed in

@@ -1,5 +1,5 @@
 use Rattle.std.proofs.Common.{◌≡◌, ◌∙◌, ap, refl, true, subst, string_bytes}
-use Rattle.qm_index.specs.Indexed.{AreMerged, AreSearched}
+use Rattle.qm_index.specs.Indexed.{AreSearched}
 use Rattle.qm_index.specs.Parts.{segments_of}
 use Rattle.qm_query.specs.Query.{query_of as built_query}
 use Rattle.qm_query.specs.Searches.{with_scores}
@@ -12,7 +12,7 @@ use Rattle.qm_script.specs.Text.{listing_text}
 use Rattle.qm_script.specs.Weights.{IsWeighedBy}
 use Rattle.qm_script.specs.Under.{IsBestRefusal, IsWithinBest}
 use Rattle.qm_script.proofs.AskedFields.{best-refusal}
-use Rattle.qm_script.proofs.Answering.{IsForScores-refused, best-same, for_scores, listing-answer, nothing_searched, unbuilt-answer}
+use Rattle.qm_script.proofs.Answering.{best-same, expanded-built, for_scores, IsForScores-refused, listing-answer, nothing_searched, unbuilt-answer}
 use Rattle.qm_script.proofs.answer.list_best.Goals as goal
 
 pub returns-in-Err-clause-answer : goal.returns-in-Err-clause-answer
@@ -36,9 +36,9 @@ returns-in_ok-build_segments-in-Ok-clause-answer c =
     let enable = with_scores searcher in
     let query = built_query c.in-Ok.query in
     let are = subst (λ t. AreSearched t readers) same c.searcher.ensures.segments in
-    let one : c.has_prefix.result ≡ true → AreMerged s readers =
-    λ has. subst (λ t. AreMerged t readers) same (c.searcher.ensures.whole (c.in_ok-build_segments-in-Ok.ensures.whole has)) in
-    let listed = best-same c.args.count c.has_prefix.result enable s q query readers c.has_prefix.ensures c.in-Ok.ensures are one in
+    let expanded = expanded-built q s c.build_segments.new.self readers same c.searcher.ensures.whole c.searcher.ensures.parts
+    c.in_ok-build_segments-in-Ok.ensures.expanded in
+    let listed = best-same enable s q query readers c.in-Ok.ensures are c.args.count expanded in
     let fields = c.searcher.ensures.fields ∙ ap (λ (t : Script). t.current.schema) same in (
       searcher,
       enable,

@@ -3,7 +3,7 @@ use Rattle.qm_query.specs.EnableScoring.{is_enabled}
 use Rattle.qm_query.specs.Query.{query_of as built_query}
 use Rattle.qm_script.specs.AllSegments.{all_listed}
 use Rattle.qm_script.specs.Answers.{listed_text}
-use Rattle.qm_index.specs.Indexed.{AreMerged, AreSearched}
+use Rattle.qm_index.specs.Indexed.{AreSearched}
 use Rattle.qm_index.specs.Parts.{segments_of}
 use Rattle.qm_script.specs.ScriptSegments.{Script, script}
 use Rattle.qm_script.specs.Spelled.{query_of}
@@ -12,7 +12,7 @@ use Rattle.qm_script.specs.Text.{listing_text}
 use Rattle.qm_script.specs.Under.{IsListingRefusal, IsWithinScores, tree_of}
 use Rattle.qm_script.specs.Weights.{IsWeighedBy}
 use Rattle.qm_script.proofs.AskedFields.{score-refusal}
-use Rattle.qm_script.proofs.Answering.{IsForScores-refused, for_scores, listing-answer, nothing_searched, parts-same, unbuilt-answer}
+use Rattle.qm_script.proofs.Answering.{expanded-built, for_scores, IsForScores-refused, listing-answer, nothing_searched, parts-same, unbuilt-answer}
 use Rattle.qm_script.proofs.answer.list_scores.Goals as goal
 
 pub returns-in-Err-clause-answer : goal.returns-in-Err-clause-answer
@@ -36,9 +36,9 @@ returns-in_ok-build_segments-in-Ok-clause-answer c =
     let enable = c.enabled_from_searcher-enable.result in
     let query = built_query c.in-Ok.query in
     let are = subst (λ t. AreSearched t readers) same c.searcher-searcher.ensures.segments in
-    let one : c.has_prefix.result ≡ true → AreMerged s readers =
-    λ has. subst (λ t. AreMerged t readers) same (c.searcher-searcher.ensures.whole (c.in_ok-build_segments-in-Ok.ensures.whole has)) in
-    let listed = parts-same (is_enabled enable) c.has_prefix.result enable s q query readers c.has_prefix.ensures c.in-Ok.ensures are one in
+    let expanded = expanded-built q s c.build_segments.new.self readers same c.searcher-searcher.ensures.whole c.searcher-searcher.ensures.parts
+    c.in_ok-build_segments-in-Ok.ensures.expanded in
+    let listed = parts-same enable s q query readers c.in-Ok.ensures are (is_enabled enable) expanded in
     let fields = c.enabled_from_searcher-enable.ensures.schema ∙ c.searcher-searcher.ensures.fields ∙ ap (λ (t : Script). t.current.schema) same in
     let all = ap (λ rs. listing_text (all_listed (is_enabled enable) (tree_of enable query) (segments_of rs))) c.segment_readers.ensures.segments in (
       searcher,

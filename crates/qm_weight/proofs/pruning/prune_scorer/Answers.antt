@@ -4,9 +4,10 @@ use Rattle.std.proofs.lemmas.Int.{to_z-of_z}
 use Rattle.qm_docset.specs.Entry.{Entry}
 use Rattle.qm_scorer.specs.Bare.{bare}
 use Rattle.qm_scorer.specs.Tree.{tree_entries}
-use Rattle.qm_term.specs.Runs.{InRange, MayPrune, Plain}
+use Rattle.qm_term.specs.Runs.{InRange, MayPrune}
 use Rattle.qm_term.specs.TermScorer.{scored_left}
-use Rattle.qm_weight.proofs.RunSteps.{MayPrune-at, MayPrune-bare, Plain-at, Plain-bare}
+use Rattle.qm_weight.specs.TreeRuns.{PrunesBy}
+use Rattle.qm_weight.proofs.RunSteps.{MayPrune-at, MayPrune-bare, PrunesBy-at, PrunesBy-bare, term-run}
 use Rattle.qm_weight.proofs.pruning.prune_scorer.Goals as goal
 
 pub block_wand_single_scorer-requires-clause-callable :
@@ -29,19 +30,14 @@ prune_to_bound-requires g c = record {
 
 pub returns-in-Term : goal.returns-in-Term
 returns-in-Term g c =
-    let call = InRange (goal.F-step g) in
+    let step = goal.F-step g in
     let inner : c.into_inner.result ≡ c.in-Term.term.value = search rules in
     let same : tree_entries g.S.DocSet c.args.scorer ≡ bare (scored_left c.into_inner.result) =
     ap (tree_entries g.S.DocSet) c.in-Term.is ∙ ap (λ t. bare (scored_left t)) (sym inner) in
-    let run = c.block_wand_single_scorer.ensures.run in
     let z = c.block_wand_single_scorer.new.callback in
-    let from = Plain-at call c.args.threshold _ c.args.callback.now _ run.thresholds run.last z
-    (to_z-of_z w64 c.args.threshold c.ranges.threshold) run.calls in
+    let k = c.block_wand_single_scorer.result in
+    let run = PrunesBy-bare step _ _ _ k z (term-run step _ _ _ k z c.block_wand_single_scorer.ensures.run) in
     record {
-      calls = (
-        run.thresholds,
-        run.last,
-        subst (λ (es : List Entry). Plain call c.args.threshold c.args.callback.now es run.thresholds run.last z) (sym same)
-            (Plain-bare call c.args.threshold c.args.callback.now _ run.thresholds run.last z from),
-      );
+      calls = subst (λ (es : List Entry). PrunesBy step es c.args.threshold c.args.callback.now k z) (sym same)
+          (PrunesBy-at step _ c.args.threshold c.args.callback.now k z c.ranges.threshold run);
     }

@@ -1,9 +1,9 @@
 -- A run looks at documents and scores alone, from the same threshold on.
-use Rattle.std.proofs.Common.{subst, w64}
+use Rattle.std.proofs.Common.{[], subst, w64}
 use Rattle.std.proofs.lemmas.Int.{to_z-of_z}
 use Rattle.qm_term.specs.Runs.{InRange}
 use Rattle.qm_weight.specs.LeafScorers.{IsLeafOf}
-use Rattle.qm_weight.proofs.RunSteps.{MayPrune-at, MayPrune-bare, Plain-at, Plain-bare}
+use Rattle.qm_weight.proofs.RunSteps.{MayPrune-at, MayPrune-bare, leaf-run, run-none}
 use Rattle.qm_weight.proofs.shared_runs.prune_leaf.Given as given
 use Rattle.qm_weight.proofs.shared_runs.prune_leaf.Goals as goal
 
@@ -18,8 +18,15 @@ prune_to_bound-requires-clause-allowed g c =
 pub returns-in-Some : goal.returns-in-Some
 returns-in-Some g c =
     let own = subst (IsLeafOf g.L.DocSet (g.W.StandsFor.tree c.args.weight.now) 1 c.args.reader.now.segment) c.in-Some.is c.requires.leaf in
-    let run = c.prune_to_bound.ensures.calls in
-    let g' = c.prune_to_bound.new.callback in
-    let from = Plain-at (InRange (given.F-step g)) c.args.threshold _ c.args.callback.now _ run.0 run.1 g'
-    (to_z-of_z w64 c.args.threshold c.ranges.threshold) run.2 in
-    record { calls = (_, own.list, run.0, run.1, Plain-bare (InRange (given.F-step g)) c.args.threshold c.args.callback.now _ run.0 run.1 g' from) }
+    record { calls = leaf-run (given.F-step g) _ 1 _ c.args.threshold _ _ _ _ own.list c.ranges.threshold c.prune_to_bound.ensures.calls }
+
+pub returns-in-None : goal.returns-in-None
+returns-in-None g c =
+    let none = subst (IsLeafOf g.L.DocSet (g.W.StandsFor.tree c.args.weight.now) 1 c.args.reader.now.segment) c.in-None.is c.requires.leaf in
+    record {
+      calls = record {
+        entries = [];
+        listed = none;
+        run = run-none (given.F-step g) c.args.threshold c.args.callback.now c.counted_none.result c.counted_none.ensures;
+      };
+    }

@@ -76,6 +76,7 @@ invariant_of-self-2 c =
       some_built = omega (arith, taken.some_built, longer);
       few = omega (arith, longer, same, c.in_ok-reserve.ensures.len, c.len.ensures, c.if-len.false);
       counted = taken.counted;
+      ends_known = taken.ends_known;
       small = taken.small;
       built_parts = taken.built_parts;
       parts = taken.parts ∙ sym (cut-push schema taken.block_len parts ds (d ∷ []) (omega (arith, taken.built_parts, built)))

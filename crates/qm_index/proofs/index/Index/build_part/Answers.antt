@@ -3,7 +3,7 @@ use Rattle.std.proofs.Common.{◌≡◌, ◌-◌, ◌++◌, ◌∷◌, [], All, 
 use Rattle.std.proofs.lemmas.List.{drop-append-le, length-append, length-drop, length-map, map-append, take-append-le, take_all}
 use Rattle.std.proofs.lemmas.List.Sums.{sum_by-append, sum_by-cons}
 use Rattle.qm_postings.specs.Reading.{Reader}
-use Rattle.qm_index.specs.Numbers.{document_count}
+use Rattle.qm_index.specs.Numbers.{document_count, ends_from}
 use Rattle.qm_index.specs.OpenDocuments.{IsBadDraft, kept_of, segment_of}
 use Rattle.qm_index.specs.Parts.{cut, segments_of}
 use Rattle.qm_index.specs.Texts.{texts_draft}
@@ -22,6 +22,7 @@ invariant_of-self-2 c =
     let after = c.push_segment.new.self.segments in
     let pushed : after ≡ readers ++ part ∷ [] = ap (λ s. s.segments) c.in_ok-push_segment.ensures.pushed in
     let schema = ap (λ s. s.schema) c.in_ok-push_segment.ensures.pushed in
+    let front : take self.ended after ≡ take self.ended readers = ap (take self.ended) pushed ∙ take-append-le self.ended readers (part ∷ []) self.within in
     let behind : drop self.ended after ≡ parts ++ part ∷ [] = ap (drop self.ended) pushed ∙ drop-append-le self.ended readers (part ∷ []) self.within in
     let is : part.segment ≡ segment_of self.searcher.schema self.block_len (drop self.built ds) =
     c.in_ok-part.ensures.segment
@@ -42,7 +43,8 @@ invariant_of-self-2 c =
       room = self.room;
       some_built = omega (arith, c.len-self.ensures);
       few = self.few;
-      counted = self.counted ∙ ap document_count (sym (ap (take self.ended) pushed ∙ take-append-le self.ended readers (part ∷ []) self.within));
+      counted = self.counted ∙ ap document_count (sym front);
+      ends_known = self.ends_known ∙ ap (ends_from 0) (sym front);
       small = self.small;
       built_parts = omega (
         arith,

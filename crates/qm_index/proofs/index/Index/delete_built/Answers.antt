@@ -5,7 +5,7 @@ use Rattle.std.proofs.lemmas.List.{length-drop, length-set, take_all}
 use Rattle.qm_postings.specs.Reading.{Reader, deleting}
 use Rattle.qm_postings.specs.Segment.{Segment}
 use Rattle.qm_index.specs.Indexed.{Indexed}
-use Rattle.qm_index.specs.Numbers.{IsAddressOf, document_count}
+use Rattle.qm_index.specs.Numbers.{IsAddressOf, document_count, ends_from}
 use Rattle.qm_index.specs.OpenDocuments.{IsBadDraft, mark, segment_of, undeleted}
 use Rattle.qm_index.specs.Parts.{cut, segments_of}
 use Rattle.qm_index.specs.Texts.{texts_draft}
@@ -44,6 +44,7 @@ invariant_of-self-2 c =
       some_built = self.some_built;
       few = self.few;
       counted = self.counted ∙ ap document_count (sym others);
+      ends_known = self.ends_known ∙ ap (ends_from 0) (sym others);
       small = self.small;
       built_parts = ap document_count deleted.after ∙ document_count-set parts deleted.place deleted.doc deleted.reader deleted.there ∙ self.built_parts;
       parts = subst (λ s. segments_of (drop self.ended after) ≡ cut s self.block_len (drop self.ended after) left) (sym schema)

@@ -13,9 +13,9 @@ invariant_of-self c =
     let self = c.args.self.now in
     let readers = self.searcher.segments in
     let after = c.delete.new.self.segments in
-    let address = c.address_among-address.result in
+    let address = c.address_by_ends-address.result in
     let at =
-    subst (λ rs. IsAddressOf (take self.ended rs) 0 c.args.number address) c.segment_readers.ensures.segments c.address_among-address.ensures.address in
+    subst (λ rs. IsAddressOf (take self.ended rs) 0 c.args.number address) c.segment_readers.ensures.segments c.address_by_ends-address.ensures.address in
     let kept : KeepsParts self.ended readers after = elim (either c.delete.result c.delete.ensures.deleted c.delete.ensures.unchanged) [
       | inl deletes ↦ KeepsParts-ended readers after self.ended c.args.number address self.within at deletes
       | inr same ↦ KeepsParts-same readers after self.ended (ap (λ s. s.segments) same)
@@ -28,6 +28,7 @@ invariant_of-self c =
       some_built = self.some_built;
       few = self.few;
       counted = self.counted ∙ sym kept.count;
+      ends_known = self.ends_known ∙ sym kept.ends;
       small = self.small;
       built_parts = ap document_count kept.parts ∙ self.built_parts;
       parts = subst (λ s. segments_of (drop self.ended after) ≡ cut s self.block_len (drop self.ended after) self.documents.items) (sym schema)
@@ -41,9 +42,9 @@ returns-clause-deleted c =
     let self = c.args.self.now in
     let readers = self.searcher.segments in
     let after = c.delete.new.self.segments in
-    let address = c.address_among-address.result in
+    let address = c.address_by_ends-address.result in
     let at =
-    subst (λ rs. IsAddressOf (take self.ended rs) 0 c.args.number address) c.segment_readers.ensures.segments c.address_among-address.ensures.address in
+    subst (λ rs. IsAddressOf (take self.ended rs) 0 c.args.number address) c.segment_readers.ensures.segments c.address_by_ends-address.ensures.address in
     let deleted = ended-deleted readers after self.ended c.args.number address c.in_ok-delete.ensures.deleted self.within at in
     let schema = ap (λ s. s.schema) c.delete.ensures.others in
     let current = segment_of self.searcher.schema self.block_len self.documents.items in

@@ -1,14 +1,15 @@
 -- The segment of all documents of the open one stands behind those that were ended, and no part is left.
-use Rattle.std.proofs.Common.{◌≡◌, List, ◌+◌, ◌++◌, ◌∷◌, [], ap, sym, ◌∙◌, arith, drop, length, take}
-use Rattle.std.proofs.lemmas.List.{drop_all, length-append, length-map, map-append, take_all}
+use Rattle.std.proofs.Common.{◌≡◌, List, ◌+◌, ◌++◌, ◌∷◌, [], ap, sym, ◌∙◌, arith, drop, length, take, IsOk, rules, ◌<◌}
+use Rattle.std.proofs.lemmas.List.{drop_all, length-append, length-map, length-take-le, map-append, take_all}
 use Rattle.std.proofs.lemmas.List.Sums.{sum_by-append, sum_by-cons}
 use Rattle.qm_postings.specs.Reading.{Reader}
 use Rattle.qm_postings.specs.Segment.{Segment}
-use Rattle.qm_index.specs.Indexed.{Indexed, with_segment_ended}
-use Rattle.qm_index.specs.Numbers.{document_count}
+use Rattle.qm_index.specs.Indexed.{Indexed, all_segments, indexed, with_segment_ended}
+use Rattle.qm_index.specs.Numbers.{document_count, ends_from}
 use Rattle.qm_index.specs.OpenDocuments.{kept_of, segment_of}
 use Rattle.qm_index.specs.Parts.{cut, segments_of}
 use Rattle.qm_index.proofs.Marks.{segment_of-none}
+use Rattle.qm_index.proofs.SegmentEnds.{ends-push}
 use Rattle.qm_index.proofs.index.Index.end_segment.Goals as goal
 
 pub invariant_of-self-2 : goal.invariant_of-self-2
@@ -33,6 +34,11 @@ invariant_of-self-2 c =
     let front : take self.ended readers ≡ readers = take_all self.ended readers (omega (arith, none)) in
     let sum = ap document_count all ∙ sum_by-append (λ (r : Reader). length r.segment.documents) readers (segment ∷ []) in
     let same = ap (λ v. length v.items) told.documents in
+    let number = self.ended_documents + c.len.result in
+    let ok : IsOk c.push.result = search rules in
+    let added : c.push.new.self.items ≡ c.reserve.new.self.items ++ number ∷ [] = rw ok at c.push.ensures.items in
+    let here : number ≡ 0 + (document_count readers + length segment.segment.documents) =
+    omega (arith, self.counted, ap document_count front, count, same, c.len.ensures, self.documents.ok.0) in
     record {
       block = self.block;
       within = omega (arith, long, none);
@@ -50,6 +56,8 @@ invariant_of-self-2 c =
         c.len.ensures,
         self.documents.ok.0,
       );
+      ends_known = added ∙ ap (λ l. l ++ number ∷ []) (c.reserve.ensures.items ∙ self.ends_known ∙ ap (ends_from 0) front)
+          ∙ ap (λ n. ends_from 0 readers ++ n ∷ []) here ∙ sym (ends-push 0 readers segment) ∙ ap (ends_from 0) (sym all);
       small = omega (arith, self.small, self.few, c.len.ensures, self.documents.ok.0);
       built_parts = ap document_count behind;
       parts = ap segments_of behind ∙ sym (ap (λ rs. cut c.push_segment.new.self.schema self.block_len rs c.clear.new.self.items) behind);
@@ -88,3 +96,28 @@ returns-clause-ended c =
     ∙ ap (λ b. made ended (segment_of before.searcher.schema b [])) told.block_len
     ∙ ap (made ended) (segment_of-none before.searcher.schema before.block_len)
     ∙ ap with_segment_ended c.take_parts_back.ensures.documents
+
+pub returns-in_err-push_segment-clause-many : goal.returns-in_err-push_segment-clause-many
+returns-in_err-push_segment-clause-many c =
+    let self = c.args.self.now in
+    let told = c.build_waiting.ensures in
+    let few : length c.build_waiting.new.self.searcher.segments < 4294967295 = omega (
+      arith,
+      ap (λ s. length s.segments) told.searcher,
+      c.take_parts_back.ensures.none,
+      c.take_parts_back.ensures.ended,
+      c.if-self-ge-MAX_SEGMENTS.false,
+    ) in
+    let current = segment_of self.searcher.schema self.block_len self.documents.items in
+    let front = take self.ended self.searcher.segments in
+    let all : length (all_segments (indexed self)) ≡ self.ended + 1 = omega (
+      arith,
+      length-append (segments_of front) (current ∷ []),
+      length-map front (λ (r : Reader). r.segment),
+      length-take-le self.ended self.searcher.segments self.within,
+    ) in
+    let many = c.in_err-push_segment.ensures.many in
+    let told_on = c.from_residual-in_err-push_segment.ensures in (
+      λ is. absurd (search (rules, few, many, told_on, is)),
+      λ full. absurd (omega (arith, full, all, c.if-self-ge-MAX_SEGMENTS.false)),
+    )

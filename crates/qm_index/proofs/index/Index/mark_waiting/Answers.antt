@@ -27,6 +27,7 @@ invariant_of-self c =
       some_built = self.some_built;
       few = self.few;
       counted = self.counted;
+      ends_known = self.ends_known;
       small = self.small;
       built_parts = self.built_parts;
       parts = self.parts ∙ sym (cut-mark_past self.searcher.schema self.block_len parts ds (place - self.built))

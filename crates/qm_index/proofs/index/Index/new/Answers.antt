@@ -11,8 +11,8 @@ use Rattle.qm_index.proofs.index.Index.new.Goals as goal
 pub returns-clause-empty : goal.returns-clause-empty
 returns-clause-empty c =
     let current : _ → Indexed = λ segment. record { ended = []; current = segment } in
-    ap (λ schema. current (segment_of schema c.args.block_len c.new-4.result.items)) c.in_ok-searcher.ensures.schema
-    ∙ ap (λ ds. current (segment_of c.args.schema c.args.block_len ds)) c.new-4.ensures.items
+    ap (λ schema. current (segment_of schema c.args.block_len c.new-5.result.items)) c.in_ok-searcher.ensures.schema
+    ∙ ap (λ ds. current (segment_of c.args.schema c.args.block_len ds)) c.new-5.ensures.items
     ∙ ap current (segment_of-none c.args.schema c.args.block_len)
 
 pub returns-clause-weights : goal.returns-clause-weights

@@ -1,6 +1,6 @@
 -- The parts are cut out of the documents, all of which are built.
-use Rattle.std.proofs.Common.{ap, sym, ◌∙◌, arith, drop, length, take}
-use Rattle.std.proofs.lemmas.List.{length-drop, length-map, map-append, take-append-drop}
+use Rattle.std.proofs.Common.{◌≡◌, ap, sym, ◌∙◌, arith, drop, length, take}
+use Rattle.std.proofs.lemmas.List.{length-drop, length-map, length-take-le, map-append, take-append-drop}
 use Rattle.std.proofs.lemmas.List.Sums.{sum_by-take-drop}
 use Rattle.qm_postings.specs.Reading.{Reader}
 use Rattle.qm_index.specs.Parts.{segments_of}
@@ -33,6 +33,14 @@ returns-clause-merged c = λ merged.
       };
       one = omega (arith, length-map parts (λ (r : Reader). r.segment), length-drop self.ended readers, merged);
     }
+
+pub returns-clause-parts : goal.returns-clause-parts
+returns-clause-parts c =
+    let self = c.args.self.now in
+    let readers = self.searcher.segments in
+    let ended : length (segments_of (take self.ended readers)) ≡ self.ended =
+    length-map (take self.ended readers) (λ (r : Reader). r.segment) ∙ length-take-le self.ended readers self.within in
+    ap (λ n. segments_of (drop n readers)) ended
 
 pub returns-clause-few : goal.returns-clause-few
 returns-clause-few c =

@@ -3,7 +3,7 @@ use Rattle.std.proofs.Common.{◌≡◌, ◌+◌, ◌≤◌, ◌++◌, ◌∷◌
 use Rattle.std.proofs.lemmas.List.{drop-append-le, length-append, take-append-le}
 use Rattle.std.proofs.lemmas.List.Sums.{sum_by-append, sum_by-cons}
 use Rattle.qm_postings.specs.Reading.{Reader}
-use Rattle.qm_index.specs.Numbers.{document_count}
+use Rattle.qm_index.specs.Numbers.{document_count, ends_from}
 use Rattle.qm_index.specs.OpenDocuments.{IsBadDraft}
 use Rattle.qm_index.specs.Parts.{cut, segments_of}
 use Rattle.qm_index.specs.Texts.{texts_draft}
@@ -19,6 +19,7 @@ invariant_of-self c =
     let pushed : readers ≡ left ++ part ∷ [] = c.in-Some.ensures.last in
     let long : length readers ≡ length left + 1 = ap length pushed ∙ length-append left (part ∷ []) in
     let within : self.ended ≤ length left = omega (arith, long, c.requires) in
+    let front : take self.ended readers ≡ take self.ended left = ap (take self.ended) pushed ∙ take-append-le self.ended left (part ∷ []) within in
     let behind : drop self.ended readers ≡ drop self.ended left ++ part ∷ [] = ap (drop self.ended) pushed
     ∙ drop-append-le self.ended left (part ∷ []) within in
     let schema = ap (λ s. s.schema) c.pop_segment.ensures.others in
@@ -30,7 +31,8 @@ invariant_of-self c =
       room = self.room;
       some_built = omega (arith, self.some_built);
       few = self.few;
-      counted = self.counted ∙ ap document_count (ap (take self.ended) pushed ∙ take-append-le self.ended left (part ∷ []) within);
+      counted = self.counted ∙ ap document_count front;
+      ends_known = self.ends_known ∙ ap (ends_from 0) front;
       small = self.small;
       built_parts = omega (
         arith,

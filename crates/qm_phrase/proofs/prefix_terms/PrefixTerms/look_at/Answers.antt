@@ -4,10 +4,10 @@ use Rattle.std.proofs.Common.{◌≡◌, length, map, arith, refl, ap, ◌∙◌
 use Rattle.std.proofs.lemmas.Result.{err_from_is_err_and}
 use Rattle.qm_combine.proofs.Leading.{whole}
 use Rattle.qm_docset.specs.Entry.{from}
-use Rattle.qm_docset.specs.Lists.{lists}
 use Rattle.qm_phrase.specs.PhrasePrefix.{prefix_count}
 use Rattle.qm_phrase.specs.Places.{places_of, shift_of}
 use Rattle.qm_phrase.specs.PrefixTerms.{lists_of}
+use Rattle.qm_phrase.specs.Suffixes.{suffix_lists}
 use Rattle.qm_phrase.proofs.FullTerms.{IsCommonBuffer-same}
 use Rattle.qm_phrase.proofs.PrefixMoves.{ArePrefixTerms-moved, HaveGoneOn-terms, IsPrefixLook-passed, counted-is, full_count-terms}
 use Rattle.qm_phrase.proofs.TermMoves.{from_later}
@@ -38,12 +38,12 @@ returns-in-0-clause-moved g c =
     let members = whole self.members.len step.new.members self.members.items (step.auto.members ∙ ap length c.deref_mut.ensures.value) self.members.ok.0 in
     let places = whole self.places.len step.new.places self.places.items (step.auto.places ∙ ap length c.deref_mut-2.ensures.value) self.places.ok.0 in
     let suffixes =
-    whole self.suffixes.len count.new.suffixes self.suffixes.items (count.auto.suffixes ∙ ap length c.deref_mut-3.ensures.value) self.suffixes.ok.0 in
+    whole self.suffixes.len count.new.row self.suffixes.items (count.auto.row ∙ ap length c.deref_mut-3.ensures.value) self.suffixes.ok.0 in
     let moved = rw (c.deref_mut.ensures.value, c.deref_mut-2.ensures.value) at step.ensures.moved in
     let same = rw c.deref_mut-3.ensures.value at count.ensures.entries in
     rw (members, places, suffixes)
-    (HaveGoneOn-terms g.P.DocSet c.args.doc (shift_of count.new.row) self step.new.members step.new.places count.new.suffixes moved (ap
-    (map (from c.args.doc)) same ∙ from_later g.P.DocSet c.args.doc c.args.doc (lists g.P.DocSet self.suffixes.items) (omega arith)) count.ensures.shift)
+    (HaveGoneOn-terms g.P.DocSet c.args.doc (shift_of count.new.places) self step.new.members step.new.places count.new.row moved (ap
+    (map (from c.args.doc)) same ∙ from_later g.P.DocSet c.args.doc c.args.doc (suffix_lists g.P.DocSet self.suffixes.items) (omega arith)) count.ensures.shift)
 
 pub returns-in_default-clause-moved : goal.returns-in_default-clause-moved
 returns-in_default-clause-moved g c =
@@ -53,12 +53,12 @@ returns-in_default-clause-moved g c =
     let members = whole self.members.len step.new.members self.members.items (step.auto.members ∙ ap length c.deref_mut.ensures.value) self.members.ok.0 in
     let places = whole self.places.len step.new.places self.places.items (step.auto.places ∙ ap length c.deref_mut-2.ensures.value) self.places.ok.0 in
     let suffixes =
-    whole self.suffixes.len count.new.suffixes self.suffixes.items (count.auto.suffixes ∙ ap length c.deref_mut-3.ensures.value) self.suffixes.ok.0 in
+    whole self.suffixes.len count.new.row self.suffixes.items (count.auto.row ∙ ap length c.deref_mut-3.ensures.value) self.suffixes.ok.0 in
     let moved = rw (c.deref_mut.ensures.value, c.deref_mut-2.ensures.value) at step.ensures.moved in
     let same = rw c.deref_mut-3.ensures.value at count.ensures.entries in
     rw (members, places, suffixes)
-    (HaveGoneOn-terms g.P.DocSet c.args.doc (shift_of count.new.row) self step.new.members step.new.places count.new.suffixes moved (ap
-    (map (from c.args.doc)) same ∙ from_later g.P.DocSet c.args.doc c.args.doc (lists g.P.DocSet self.suffixes.items) (omega arith)) count.ensures.shift)
+    (HaveGoneOn-terms g.P.DocSet c.args.doc (shift_of count.new.places) self step.new.members step.new.places count.new.row moved (ap
+    (map (from c.args.doc)) same ∙ from_later g.P.DocSet c.args.doc c.args.doc (suffix_lists g.P.DocSet self.suffixes.items) (omega arith)) count.ensures.shift)
 
 pub returns-in-0-clause-valid : goal.returns-in-0-clause-valid
 returns-in-0-clause-valid g c =
@@ -68,10 +68,10 @@ returns-in-0-clause-valid g c =
     let members = whole self.members.len step.new.members self.members.items (step.auto.members ∙ ap length c.deref_mut.ensures.value) self.members.ok.0 in
     let places = whole self.places.len step.new.places self.places.items (step.auto.places ∙ ap length c.deref_mut-2.ensures.value) self.places.ok.0 in
     let suffixes =
-    whole self.suffixes.len count.new.suffixes self.suffixes.items (count.auto.suffixes ∙ ap length c.deref_mut-3.ensures.value) self.suffixes.ok.0 in
-    ArePrefixTerms-moved g.P.DocSet _ step.new.members step.new.places count.new.suffixes members places suffixes step.ensures.moved.valid
+    whole self.suffixes.len count.new.row self.suffixes.items (count.auto.row ∙ ap length c.deref_mut-3.ensures.value) self.suffixes.ok.0 in
+    ArePrefixTerms-moved g.P.DocSet _ step.new.members step.new.places count.new.row members places suffixes step.ensures.moved.valid
     (IsCommonBuffer-same g.P.DocSet step.new.members step.new.places step.new.common count.new.common step.ensures.buffer count.ensures.common_shift
-    count.ensures.common_room) count.ensures.valid count.ensures.fit (omega (arith, count.ensures.shift, c.requires.valid.shift))
+    count.ensures.common_room) count.ensures.row (omega (arith, count.ensures.shift, c.requires.valid.shift))
 
 pub returns-in_default-clause-valid : goal.returns-in_default-clause-valid
 returns-in_default-clause-valid g c =
@@ -81,17 +81,17 @@ returns-in_default-clause-valid g c =
     let members = whole self.members.len step.new.members self.members.items (step.auto.members ∙ ap length c.deref_mut.ensures.value) self.members.ok.0 in
     let places = whole self.places.len step.new.places self.places.items (step.auto.places ∙ ap length c.deref_mut-2.ensures.value) self.places.ok.0 in
     let suffixes =
-    whole self.suffixes.len count.new.suffixes self.suffixes.items (count.auto.suffixes ∙ ap length c.deref_mut-3.ensures.value) self.suffixes.ok.0 in
-    ArePrefixTerms-moved g.P.DocSet _ step.new.members step.new.places count.new.suffixes members places suffixes step.ensures.moved.valid
+    whole self.suffixes.len count.new.row self.suffixes.items (count.auto.row ∙ ap length c.deref_mut-3.ensures.value) self.suffixes.ok.0 in
+    ArePrefixTerms-moved g.P.DocSet _ step.new.members step.new.places count.new.row members places suffixes step.ensures.moved.valid
     (IsCommonBuffer-same g.P.DocSet step.new.members step.new.places step.new.common count.new.common step.ensures.buffer count.ensures.common_shift
-    count.ensures.common_room) count.ensures.valid count.ensures.fit (omega (arith, count.ensures.shift, c.requires.valid.shift))
+    count.ensures.common_room) count.ensures.row (omega (arith, count.ensures.shift, c.requires.valid.shift))
 
 pub returns-in-0-clause-answer : goal.returns-in-0-clause-answer
 returns-in-0-clause-answer g c =
     let self = c.args.self.now in
     let common = rw (c.deref_mut.ensures.value, c.deref_mut-2.ensures.value) at c.in_ok-full.ensures.common in
     let counted = rw c.deref_mut-3.ensures.value at c.count_suffixes.ensures.count in
-    let count = counted-is g.P.DocSet self c.args.doc c.count_suffixes.result (places_of c.look_at_full.new.common) common counted in
+    let count = counted-is g.P.DocSet self c.args.doc c.count_suffixes.result.0 (places_of c.look_at_full.new.common) common counted in
     let none : prefix_count (lists_of g.P.DocSet self) c.args.doc ≡ 0 = omega (arith, count, c.in-0.is) in (
       omega arith,
       omega (arith, c.requires.doc),
@@ -107,18 +107,15 @@ returns-in_default-clause-answer g c =
     let look = rw (c.deref_mut.ensures.value, c.deref_mut-2.ensures.value) at c.in_ok-full.ensures.answer in
     record {
       some = omega arith;
-      prefix = counted-is g.P.DocSet self c.args.doc c.count_suffixes.result (places_of c.look_at_full.new.common) common counted;
+      prefix = counted-is g.P.DocSet self c.args.doc c.count_suffixes.result.0 (places_of c.look_at_full.new.common) common counted;
       full = omega (arith, look.1, full_count-terms g.P.DocSet self c.args.doc c.requires.valid.full);
     }
 
 pub count_suffixes-requires-clause-common : goal.count_suffixes-requires-clause-common
 count_suffixes-requires-clause-common g c = grind (arith, common_steps)
 
-pub count_suffixes-requires-clause-fit : goal.count_suffixes-requires-clause-fit
-count_suffixes-requires-clause-fit g c = grind (arith, common_steps)
-
-pub count_suffixes-requires-clause-valid : goal.count_suffixes-requires-clause-valid
-count_suffixes-requires-clause-valid g c = grind (arith, common_steps)
+pub count_suffixes-requires-clause-row : goal.count_suffixes-requires-clause-row
+count_suffixes-requires-clause-row g c = grind (arith, common_steps)
 
 pub count_suffixes-requires-clause-shift : goal.count_suffixes-requires-clause-shift
 count_suffixes-requires-clause-shift g c = grind (arith, common_steps)

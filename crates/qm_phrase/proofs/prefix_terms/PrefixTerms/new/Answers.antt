@@ -77,8 +77,6 @@ returns-clause-valid g c =
     omega (arith, terms.some, length-roomy (bounds D members) (map room_of places) terms.roomy, length-map members D.limits, length-map places room_of) in
     let shift = get_or-map shift_of places 0 c.index.result.now 0 wide in
     let limits = get_or-map D.limits members 0 c.index-2.result.now no_limits terms.some in
-    let room : room_of c.in_ok-suffix_places.suffix_places ≡ c.greatest_freq.result = c.in_ok-suffix_places.ensures.room in
-    let fits = subst (All (λ m. (D.limits m).room ≤ c.greatest_freq.result)) c.deref-2.ensures.value c.greatest_freq.ensures in
     record {
       full = terms;
       common = record {
@@ -91,8 +89,7 @@ returns-clause-valid g c =
           ap (λ (l : Limits). l.room) limits,
         );
       };
-      suffixes = c.requires.suffixes;
-      fit = subst (λ n. All (λ m. (D.limits m).room ≤ n) c.args.suffixes.items) (sym room) fits;
+      suffixes = c.in_ok-suffixes.ensures.row;
       shift = omega (arith, c.in_ok-suffix_places.ensures.shift, c.saturating_sub-shift.ensures, most);
     }
 
@@ -109,10 +106,17 @@ returns-clause-lists g c =
     ∙ map_twice D.entries postings_of items in
     let own : shift_of c.in_ok-suffix_places.suffix_places ≡ greatest_of (map offset items) c.args.suffix_pos - c.args.suffix_pos =
     omega (arith, c.in_ok-suffix_places.ensures.shift, c.saturating_sub-shift.ensures, greatest) in
-    λ i. record { full_shifts = shifts i; full = full i; suffix_shift = own i; suffixes = lists D c.args.suffixes.items }
+    λ i. record { full_shifts = shifts i; full = full i; suffix_shift = own i; suffixes = c.in_ok-suffixes.ensures.lists i }
 
 pub split_terms-requires-clause-valid : goal.split_terms-requires-clause-valid
 split_terms-requires-clause-valid g c = grind (arith, common_steps)
 
 pub greatest_freq-requires : goal.greatest_freq-requires
 greatest_freq-requires g c = grind (arith, common_steps)
+
+pub row_of_suffixes-requires-clause-fit : goal.row_of_suffixes-requires-clause-fit
+row_of_suffixes-requires-clause-fit g c =
+    let D = g.P.DocSet in
+    let room : room_of c.in_ok-suffix_places.suffix_places ≡ c.greatest_freq.result = c.in_ok-suffix_places.ensures.room in
+    let fits = subst (All (λ m. (D.limits m).room ≤ c.greatest_freq.result)) c.deref-2.ensures.value c.greatest_freq.ensures in
+    subst (λ n. All (λ m. (D.limits m).room ≤ n) c.args.suffixes.items) (sym room) fits

@@ -3,7 +3,7 @@ use Rattle.qm_postings.specs.Frequencies.{listed}
 use Rattle.std.proofs.Common.{◌≡◌, ◌<◌, ◌≤◌, ◌+◌, ◌-◌, ℕ, length, sum, get_or, take, drop, ap, refl, sym, arith, ◌∙◌, rules}
 use Rattle.qm_docset.specs.Entry.{head_document}
 use Rattle.qm_docset.specs.declared.numbers.TheConstants.{TERMINATED}
-use Rattle.qm_postings.specs.SegmentPostings.{IsPostings, postings_left}
+use Rattle.qm_postings.specs.SegmentPostings.{IsPostings, looked_block, postings_left}
 use Rattle.qm_postings.specs.StoredFacts.{no_positions, positions_at}
 use Rattle.qm_postings.specs.TermArrays.{stored}
 use Rattle.qm_postings.specs.declared.segment_postings.SegmentPostings.{SegmentPostings}
@@ -105,3 +105,10 @@ returns-clause-valid c =
       look_from = valid.look_from;
       look = valid.look;
     }
+
+pub returns-clause-stays : goal.returns-clause-stays
+unfolding looked_block
+returns-clause-stays c = refl
+
+pub returns-then-is_empty-clause-stays : goal.returns-then-is_empty-clause-stays
+returns-then-is_empty-clause-stays c = refl

@@ -54,3 +54,6 @@ returns-clause-run g c =
     (subst (λ (k : ℕ). Pruned call combined c.args.threshold f ls k run.last z) ticks
     (pruned_permuted call combined order c.args.threshold f ls (run_lists r) run.ticks run.last z made.lists
     (subst (λ (t : ℤ). Pruned call combined t f (run_lists r) run.ticks run.last z) is run.run)))
+
+pub returns-clause-scored : goal.returns-clause-scored
+returns-clause-scored g c = omega (arith, c.finish.ensures.valid.ticks, c.count.ensures.ticks, c.count.ensures.turns)

@@ -1,22 +1,15 @@
--- What the terms list together is the list of the Boolean.
-use Rattle.std.proofs.Common.{◌≤◌, arith, length, subst}
-use Rattle.qm_docset.specs.declared.numbers.TheConstants.{TERMINATED}
+-- The run over these terms is that by blocks.
+use Rattle.std.proofs.Common.{subst, sym}
 use Rattle.qm_term.specs.contracts.term_scorer.TermScorerDocSet.TheImpl.{ghosts}
-use Rattle.qm_weight.specs.TermUnions.{AreClauseCursors}
-use Rattle.qm_weight.specs.Weights.{boolean_tree, clauses_from, rule_of}
+use Rattle.qm_weight.specs.TermUnions.{ListTogether}
+use Rattle.qm_weight.specs.Weights.{boolean_tree}
 use Rattle.qm_weight.proofs.RunSteps.{MayPruneTree-from, PrunesTree-from}
-use Rattle.qm_weight.proofs.TermUnions.{should-weights, together}
 use Rattle.qm_weight.proofs.boolean_weight.pruned.prune_terms.Goals as goal
 
 pub prune_by_blocks-requires-clause-terms : goal.prune_by_blocks-requires-clause-terms
 prune_by_blocks-requires-clause-terms g c =
-    let w = c.args.weight.now in
-    let segment = c.args.reader.now.segment in
-    let few : length segment.documents ≤ TERMINATED = omega (arith, c.max_doc-documents.ensures.number, c.max_doc-documents.ensures.room) in
-    let rows = subst (λ ws. AreClauseCursors ghosts (clauses_from ws) c.args.boost segment c.in_ok-terms.terms.items)
-    c.deref.ensures.value c.in_ok-terms.ensures.scorers in
-    together ghosts (rule_of w) (clauses_from w.weights.items) c.args.boost segment few (should-weights w.weights.items c.requires.terms.terms)
-    c.requires.terms.least c.in_ok-terms.terms.items rows (g.C.ScoreCombiner.combined c.args.combiner) (λ on. c.requires.combiner)
+    subst (ListTogether ghosts _ (boolean_tree c.args.weight.now) c.args.boost c.args.reader.now.segment)
+    (sym c.in_ok-terms.ensures.terms) c.requires.terms
 
 pub prune_by_blocks-requires-clause-allowed : goal.prune_by_blocks-requires-clause-allowed
 prune_by_blocks-requires-clause-allowed g c =

@@ -3,8 +3,7 @@ use Rattle.std.proofs.Common.{w64}
 use Rattle.std.proofs.lemmas.Int.{to_z-of_z}
 use Rattle.qm_weight.proofs.term_weight.TermWeightWeight.for_each_pruning.Goals as goal
 
-pub prune_leaf-requires-clause-allowed : goal.prune_leaf-requires-clause-allowed
-prune_leaf-requires-clause-allowed g c = rw (to_z-of_z w64 c.args.threshold c.ranges.threshold) c.requires.allowed
-
-pub prune_term-requires-clause-allowed : goal.prune_term-requires-clause-allowed
-prune_term-requires-clause-allowed g c = rw (to_z-of_z w64 c.args.threshold c.ranges.threshold) c.requires.allowed
+pub for_each_pruning-requires : goal.for_each_pruning-requires
+for_each_pruning-requires g c = record {
+  allowed = rw (to_z-of_z w64 c.args.threshold c.ranges.threshold) c.requires.allowed;
+}

@@ -3,5 +3,7 @@ use Rattle.std.proofs.Common.{w64}
 use Rattle.std.proofs.lemmas.Int.{to_z-of_z}
 use Rattle.qm_weight.proofs.terms_weight.TermsWeightWeight.for_each_pruning.Goals as goal
 
-pub prune_terms-requires-clause-allowed : goal.prune_terms-requires-clause-allowed
-prune_terms-requires-clause-allowed g c = rw (to_z-of_z w64 c.args.threshold c.ranges.threshold) c.requires.allowed
+pub for_each_pruning-requires : goal.for_each_pruning-requires
+for_each_pruning-requires g c = record {
+  allowed = rw (to_z-of_z w64 c.args.threshold c.ranges.threshold) c.requires.allowed;
+}

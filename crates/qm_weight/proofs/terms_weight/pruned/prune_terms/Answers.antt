@@ -4,7 +4,7 @@ use Rattle.std.proofs.lemmas.Int.{to_z-of_z}
 use Rattle.qm_scorer.specs.AnyCombiner.{any_combined}
 use Rattle.qm_term.specs.Runs.{InRange}
 use Rattle.qm_weight.specs.Weights.{terms_tree}
-use Rattle.qm_weight.proofs.RunSteps.{MayPrune-at, MayPruneTree-from, Plain-at, PrunesTree-from}
+use Rattle.qm_weight.proofs.RunSteps.{MayPrune-at, MayPruneTree-from, PrunesTree-from, tree-run}
 use Rattle.qm_weight.proofs.terms_weight.pruned.prune_terms.Goals as goal
 
 pub prune_union-requires-clause-combiner : goal.prune_union-requires-clause-combiner
@@ -47,11 +47,5 @@ prune_scorer-requires-clause-allowed g c =
 pub returns-in_ok-scorer-in_default-clause-calls :
     goal.returns-in_ok-scorer-in_default-clause-calls
 returns-in_ok-scorer-in_default-clause-calls g c =
-    let run = c.prune_scorer.ensures.calls in (
-      _,
-      c.in_ok-scorer-in_default.ensures.scorer.list,
-      run.0,
-      run.1,
-      Plain-at (InRange (goal.F-step g)) c.args.threshold _ c.args.callback.now _ run.0 run.1 c.prune_scorer.new.callback
-          (to_z-of_z w64 c.args.threshold c.ranges.threshold) run.2,
-    )
+    tree-run (goal.F-step g) _ c.args.boost _ c.args.threshold _ _ _ _ c.in_ok-scorer-in_default.ensures.scorer.list
+    c.ranges.threshold c.prune_scorer.ensures.calls

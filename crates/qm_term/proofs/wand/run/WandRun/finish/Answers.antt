@@ -71,3 +71,6 @@ returns-clause-run g c =
       counted = omega (arith, b.1, c.turn.ensures.no_tick c.loop-test.false);
       run = subst (λ (z : _). Pruned call combined from c.args.callback.now lists b.0 th z) (sym r.callback) b.2;
     }
+
+pub returns-clause-valid : goal.returns-clause-valid
+returns-clause-valid g c = c.turn.ensures.valid

@@ -12,8 +12,9 @@ use Rattle.qm_term.specs.declared.wand.front.TermScorerWithMaxScore.{TermScorerW
 use Rattle.qm_term.specs.declared.wand.heads.Head.{Head}
 use Rattle.std.proofs.lemmas.Bool.{true≢false}
 use Rattle.std.proofs.Common.{◌^◌}
+use Rattle.qm_term.proofs.RowRecords.{row_members}
 use Rattle.qm_term.proofs.WandSteps.{whole}
-use Rattle.qm_term.proofs.WandTurns.{turn_at}
+use Rattle.qm_term.proofs.WandTurns.{no_pivot_above, turn_at}
 use Rattle.qm_term.specs.contracts.wand.run.WandRun.turn.F-FnMut as fnmut
 use Rattle.qm_term.proofs.wand.run.WandRun.turn.Goals as goal
 
@@ -117,6 +118,24 @@ returns-clause-none g c =
       threshold = is_bar ∙ r.threshold ∙ is;
       callback = r.callback;
     }
+
+pub returns-clause-done : goal.returns-clause-done
+returns-clause-done g c =
+    let self = c.args.self.now in
+    let hs = self.heads.items in
+    let ss = self.scorers.items in
+    let hd = c.deref_mut.result.now in
+    let sd = c.deref_mut-2.result.now in
+    let th = self.threshold in
+    let fits : SFits w64 th = search rules in
+    let is : to_z w64 (of_z w64 th) ≡ th = to_z-of_z w64 th fits in
+    let same : row_lists sd hd ≡ row_lists ss hs = ap (λ (xs : List TermScorerWithMaxScore). row_lists xs hd) c.deref_mut-2.ensures.value
+    ∙ ap (row_lists ss) c.deref_mut.ensures.value in
+    λ e.
+    let none = (c.turn_row-turned.ensures.none e).none in
+    no_pivot_above (g.C.ScoreCombiner.combined self.combiner) (g.met.C.BoundedBySum.within_sum self.combiner) th (row_lists ss hs)
+    (row_members ss hs c.requires.valid.row.heads)
+    (subst (λ (ms : List Member). NoPivot th ms) same (subst (λ (t : ℤ). NoPivot t (row_lists sd hd)) is none))
 
 pub returns-clause-turns : goal.returns-clause-turns
 returns-clause-turns g c = omega (arith, counted c.turn_row-turned.result.found)

@@ -1,0 +1,56 @@
+-- The run over one list: what a turn of it does, and what it counts.
+use Rattle.std.specs.Prelude.{◌≡◌, ℕ, ℤ, ◌+◌, ◌<◌, ◌≤◌, ◌<ℤ◌, ◌≤ℤ◌, ◌++◌, Bool, true, false, suc, pos, List, length, replicate, ◌⊎◌}
+use Rattle.qm_docset.specs.declared.numbers.TheConstants.{TERMINATED}
+use Rattle.qm_term.specs.HitRuns.{Plain, blocks_passed, count_above}
+use Rattle.qm_term.specs.Members.{Member, before, bound_at, end_at, hit_document, hit_score, hits_from}
+use Rattle.qm_term.specs.Pivot.{cut, head, next}
+use Rattle.qm_term.specs.Runs.{Turn}
+
+-- no block from the current document's on up to a document has a bound above the threshold
+abbrev pub IsQuietTo : ℤ → ℕ → Member → Type 0
+IsQuietTo th end m = (d : ℕ) → head m ≤ d → d ≤ end → pos (bound_at d m.blocks) ≤ℤ th
+
+-- So many blocks end before a target, at a threshold that is above none of them: a run at this threshold as
+-- far as the target, and with others from there on, passes these and what it passes from there on.
+abbrev pub PassesBlocks : ℤ → ℕ → ℕ → Member → Type 0
+PassesBlocks th target n m = (ths : List ℤ) →
+    blocks_passed m.blocks (replicate (length (before target m.entries)) th ++ ths) m.entries ≡ n + blocks_passed m.blocks ths (hits_from target m.entries)
+
+-- Each block has a document: where one ends before the end, from the current document's on, there is a
+-- document behind it, which is no further than the next block.
+abbrev pub FillsBlocks : Member → Type 0
+FillsBlocks m = (end : ℕ) → head m ≤ end → end < TERMINATED → end_at end m.blocks ≡ end →
+    (hit_document (hits_from (suc end) m.entries) < TERMINATED) × (hit_document (hits_from (suc end) m.entries) ≤ end_at (suc end) m.blocks)
+
+-- a turn over one list, counted as so many: blocks are passed, or its first document is scored
+module _ {F : Type 0} (call : F → ℕ → ℤ → ℤ → F → Type 0) (th : ℤ) (f : F) (m : Member)
+    (th' : ℤ) (g : F) (n : Member) (ticked : Bool) (turns : ℕ) where
+  -- a turn that passes so many blocks, none of which has a bound above the threshold
+  pub record PassesQuiet : Type 0 where
+    pub quiet : (th' ≡ th) × (g ≡ f) × (ticked ≡ false)
+    pub target : ℕ
+    pub list : n ≡ cut target m
+    pub low : (d : ℕ) → head m ≤ d → d < target → pos (bound_at d m.blocks) ≤ℤ th
+    pub blocks : PassesBlocks th target turns m
+
+  -- a turn that scores the first document, whose block's bound is above the threshold
+  pub record ScoresFirst : Type 0 where
+    pub tick : ticked ≡ true
+    pub one : turns ≡ 1
+    pub above : th <ℤ pos (bound_at (head m) m.blocks)
+    pub list : n ≡ next m
+    pub turn : Turn call th f (head m) (pos (hit_score m.entries)) th' g
+
+  -- a turn: one of these two
+  abbrev pub IsSingle : Type 0
+  IsSingle = PassesQuiet ⊎ ScoresFirst
+
+-- The run over one list, from a threshold on, takes the callback from f to g: it scores exactly the documents
+-- whose block is bounded above the threshold that is current there, and its turns are these and the blocks
+-- that it passes.
+pub record PrunesList {F : Type 0} (call : F → ℕ → ℤ → ℤ → F → Type 0)
+    (th : ℤ) (f : F) (m : Member) (ticks turns : ℕ) (last : ℤ) (g : F) : Type 0 where
+  pub thresholds : List ℤ
+  pub calls : Plain call th f m.entries thresholds last g
+  pub scored : ticks ≡ count_above (λ e. bound_at e.document m.blocks) thresholds m.entries
+  pub counted : turns ≡ ticks + blocks_passed m.blocks thresholds m.entries
