@@ -11,7 +11,7 @@ use Rattle.qm_postings.specs.Positions.{is_in}
 use Rattle.qm_phrase.specs.PhrasePrefix.{IsCommonOf, common_below, common_count, is_common}
 use Rattle.qm_phrase.specs.Places.{Ascends, first_place, greatest_first, least_first, past}
 use Rattle.qm_phrase.specs.Starts.{all_places, has_near, is_place, is_start, starts, starts_below}
-use Rattle.qm_phrase.proofs.StartSteps.{All-least, All-past, and_false, count_by-none, count_by-same, is_start-least, is_start-past, is_start-past_here}
+use Rattle.qm_phrase.proofs.StartSteps.{All-least, All-past, and_false, or_true, count_by-none, count_by-same, is_start-least, is_start-past, is_start-past_here}
 use Rattle.qm_phrase.proofs.StartSteps.{least_first-past, near-empty, one_if, starts-ended, starts-step}
 
 -- A place that all have is a start without slop.
@@ -130,16 +130,12 @@ below-push x n (p ∷ ps) h all =
     let first = All-head Below p ps all in
     All-cons (λ p. p < n) p (ps ++ x ∷ []) (omega arith) (below-push x n ps h (All-tail Below p ps all))
 
-below-later : (x n : ℕ) (ps : List ℕ) → x ≤ n → All (λ p. p < x) ps → All (λ p. p < n) ps
+pub below-later : (x n : ℕ) (ps : List ℕ) → x ≤ n → All (λ p. p < x) ps → All (λ p. p < n) ps
 below-later x n [] h all = All-nil (λ p. p < n)
 below-later x n (p ∷ ps) h all =
     let Below : ℕ → Type 0 = λ p. p < x in
     let first = All-head Below p ps all in
     All-cons (λ p. p < n) p ps (omega arith) (below-later x n ps h (All-tail Below p ps all))
-
-or_true : (b : Bool) → (b || true) ≡ true
-or_true true = refl
-or_true false = refl
 
 or_false : (b : Bool) → (b || false) ≡ b
 or_false true = refl

@@ -3,6 +3,7 @@ pub mod CommonSteps
 pub mod PassedPlaces
 pub mod EachRow
 pub mod TermSteps
+pub mod TermRows
 pub mod PhraseSteps
 pub mod TermMoves
 pub mod FullTerms

@@ -1,16 +1,16 @@
 -- Places that are passed at once, since they lie before the first place of another row.
-use Rattle.std.proofs.Common.{◌≡◌, ℕ, zero, suc, ◌+◌, ◌-◌, ◌<◌, ◌≤◌, List, [], ◌∷◌, All, length, take, drop, get_or, add-one, refl, ap, sym, ◌∙◌, arith, inl}
-use Rattle.std.proofs.Common.{inr, ◌⊎◌}
+use Rattle.std.proofs.Common.{◌≡◌, ℕ, zero, suc, ◌+◌, ◌-◌, ◌<◌, ◌≤◌, false, ◌||◌, List, [], ◌∷◌, All, length, length-drop, take, drop, get_or, add-one}
+use Rattle.std.proofs.Common.{refl, ap, sym, ◌∙◌, arith, inl, inr}
+use Rattle.std.specs.List.{list_all}
 use Rattle.std.specs.List.Sorted.{IsStrictlyIncreasing}
-use Rattle.std.proofs.lemmas.Bool.{cases_eq, cases_lt, eq-eqb, ne_eqb}
+use Rattle.std.proofs.lemmas.Bool.{cases_lt, lt-leb, ne_eqb}
 use Rattle.std.proofs.lemmas.List.{drop-drop, drop-map}
 use Rattle.std.proofs.lemmas.List.Elements.{All-cons, All-head, All-nil, All-tail}
 use Rattle.qm_postings.specs.Positions.{is_in, shifted}
-use Rattle.qm_phrase.specs.PhrasePrefix.{is_common}
-use Rattle.qm_phrase.specs.Places.{Ascends, HasPassed, first_place, past}
-use Rattle.qm_phrase.specs.Starts.{starts}
-use Rattle.qm_phrase.proofs.CommonSteps.{common-same, common-starts}
-use Rattle.qm_phrase.proofs.StartSteps.{Ascends-lower, and_false, first_place-ascends, is_in-below}
+use Rattle.qm_phrase.specs.Places.{Ascends, HasPassed, HavePassed, first_place, greatest_first, least_first}
+use Rattle.qm_phrase.specs.Starts.{has_near, is_place, is_start, starts}
+use Rattle.qm_phrase.proofs.CommonSteps.{IsCollected, below-later}
+use Rattle.qm_phrase.proofs.StartSteps.{Ascends-first, Ascends-lower, and_false, first_place-ascends, has_near-none, starts-same}
 
 Ascends-drop : (low n : ℕ) (s : List ℕ) → Ascends low s → Ascends low (drop n s)
 Ascends-drop low zero s a = a
@@ -43,33 +43,105 @@ first_place-passed place old new h a = rw h.left (first_place-drop h.number old 
 is_in-passed : (x place : ℕ) (old new : List ℕ) → HasPassed place old new → place ≤ x → is_in x new ≡ is_in x old
 is_in-passed x place old new h reached = ap (is_in x) h.left ∙ is_in-drop x place h.number old reached h.below
 
--- what two rows have in common is not lost where one of them begins at or past what is passed
-both-passed : (x g : ℕ) (a b c d : List ℕ) → (Ascends g a) ⊎ (Ascends g b) → HasPassed g a c → HasPassed g b d →
-    is_common (c ∷ d ∷ []) x ≡ is_common (a ∷ b ∷ []) x
-both-passed x g a b c d ahead first second =
-    elim (cases_lt x g) [
-      | inl below ↦ elim ahead [
-        | inl asc ↦ rw (is_in-below x g c below (Ascends-passed g g a c first asc), is_in-below x g a below asc) refl
-        | inr asc ↦ rw (is_in-below x g d below (Ascends-passed g g b d second asc), is_in-below x g b below asc)
-            (and_false (is_in x c) ∙ sym (and_false (is_in x a)))
-      ]
-      | inr reached ↦ rw (is_in-passed x g a c first reached, is_in-passed x g b d second reached) refl
+has_near-drop : (slop x place n : ℕ) (s : List ℕ) → place ≤ x → All (λ p. p < place) (take n s) → has_near slop x (drop n s) ≡ has_near slop x s
+has_near-drop slop x place zero s h below = refl
+has_near-drop slop x place (suc n) [] h below = refl
+has_near-drop slop x place (suc n) (p ∷ ps) h below =
+    let Below : ℕ → Type 0 = λ q. q < place in
+    let here : p < place = All-head Below p (take n ps) below in
+    let rest = has_near-drop slop x place n ps h (All-tail Below p (take n ps) below) in
+    rw (lt-leb x p (omega arith)) rest
+
+has_near-passed : (slop x place : ℕ) (old new : List ℕ) → HasPassed place old new → place ≤ x → has_near slop x new ≡ has_near slop x old
+has_near-passed slop x place old new h reached = ap (has_near slop x) h.left ∙ has_near-drop slop x place h.number old reached h.below
+
+-- All sets.
+
+pub All-passed : (low place : ℕ) (old new : List (List ℕ)) → HavePassed place old new → All (Ascends low) old → All (Ascends low) new
+All-passed low place [] [] h all = all
+All-passed low place [] (t ∷ new) h all = absurd h
+All-passed low place (s ∷ old) [] h all = absurd h
+All-passed low place (s ∷ old) (t ∷ new) h all =
+    All-cons (Ascends low) t new (Ascends-passed low place s t h.0 (All-head (Ascends low) s old all))
+    (All-passed low place old new h.1 (All-tail (Ascends low) s old all))
+
+pub least_first-passed : (place : ℕ) (old new : List (List ℕ)) → HavePassed place old new → All (Ascends 0) old → least_first old ≤ least_first new
+least_first-passed place [] [] h all = omega arith
+least_first-passed place [] (t ∷ new) h all = absurd h
+least_first-passed place (s ∷ old) [] h all = absurd h
+least_first-passed place (s ∷ old) (t ∷ new) h all =
+    omega (
+      arith,
+      first_place-passed place s t h.0 (All-head (Ascends 0) s old all),
+      least_first-passed place old new h.1 (All-tail (Ascends 0) s old all),
+    )
+
+greatest_first-passed : (place : ℕ) (old new : List (List ℕ)) → HavePassed place old new → All (Ascends 0) old → greatest_first old ≤ greatest_first new
+greatest_first-passed place [] [] h all = omega arith
+greatest_first-passed place [] (t ∷ new) h all = absurd h
+greatest_first-passed place (s ∷ old) [] h all = absurd h
+greatest_first-passed place (s ∷ old) (t ∷ new) h all =
+    omega (
+      arith,
+      first_place-passed place s t h.0 (All-head (Ascends 0) s old all),
+      greatest_first-passed place old new h.1 (All-tail (Ascends 0) s old all),
+    )
+
+pub shorter-passed : (place : ℕ) (old new : List (List ℕ)) → HavePassed place old new → length (get_or new 0 []) ≤ length (get_or old 0 [])
+shorter-passed place [] [] h = omega arith
+shorter-passed place [] (t ∷ new) h = absurd h
+shorter-passed place (s ∷ old) [] h = absurd h
+shorter-passed place (s ∷ old) (t ∷ new) h = omega (arith, ap length h.0.left, length-drop h.0.number s)
+
+is_place-passed : (x place : ℕ) (old new : List (List ℕ)) → HavePassed place old new → place ≤ x → is_place new x ≡ is_place old x
+is_place-passed x place [] [] h reached = refl
+is_place-passed x place [] (t ∷ new) h reached = absurd h
+is_place-passed x place (s ∷ old) [] h reached = absurd h
+is_place-passed x place (s ∷ old) (t ∷ new) h reached = rw (is_in-passed x place s t h.0 reached, is_place-passed x place old new h.1 reached) refl
+
+near-passed : (slop x place : ℕ) (old new : List (List ℕ)) → HavePassed place old new → place ≤ x →
+    list_all (λ s. has_near slop x s) new ≡ list_all (λ s. has_near slop x s) old
+near-passed slop x place [] [] h reached = refl
+near-passed slop x place [] (t ∷ new) h reached = absurd h
+near-passed slop x place (s ∷ old) [] h reached = absurd h
+near-passed slop x place (s ∷ old) (t ∷ new) h reached = rw (has_near-passed slop x place s t h.0 reached, near-passed slop x place old new h.1 reached) refl
+
+-- what lies further than the slop before the greatest of the first places is no start
+near-far : (slop y : ℕ) (sets : List (List ℕ)) → y + slop < greatest_first sets → All (Ascends 0) sets → list_all (λ s. has_near slop y s) sets ≡ false
+near-far slop y [] h all = absurd (omega arith)
+near-far slop y (s ∷ sets) h all =
+    elim (cases_lt (y + slop) (first_place s)) [
+      | inl far ↦ rw (has_near-none slop y (first_place s) s far (Ascends-first (first_place s) s (omega arith) (All-head (Ascends 0) s sets all))) refl
+      | inr near ↦ rw (near-far slop y sets (omega (arith, h, near)) (All-tail (Ascends 0) s sets all)) (and_false (has_near slop y s))
     ]
 
-pub starts-passed : (g : ℕ) (a b c d : List ℕ) → (Ascends g a) ⊎ (Ascends g b) → HasPassed g a c → HasPassed g b d →
-    starts 0 (c ∷ d ∷ []) ≡ starts 0 (a ∷ b ∷ [])
-starts-passed g a b c d ahead first second =
-    sym (common-starts (c ∷ d ∷ []) (omega arith)) ∙ common-same (c ∷ d ∷ []) (a ∷ b ∷ []) (λ x. both-passed x g a b c d ahead first second)
-    ∙ common-starts (a ∷ b ∷ []) (omega arith)
-
--- the row that begins with the greater place still begins at or past it, once the lesser is passed
-pub Ascends-greatest : (x g : ℕ) (s : List ℕ) → g ≡ first_place s → Ascends 0 s → Ascends g (past x s)
-Ascends-greatest x g [] is a = tt
-Ascends-greatest x g (p ∷ ps) is a =
-    elim (cases_eq p x) [
-      | inl here ↦ rw (eq-eqb p x here) (Ascends-lower (p + 1) g ps (omega arith) a.2)
-      | inr apart ↦ rw (ne_eqb p x apart) (omega (arith, is), a.1, a.2)
+-- so the same numbers are starts once it is passed
+is_start-passed : (slop place : ℕ) (old new : List (List ℕ)) → place ≤ greatest_first old - slop → All (Ascends 0) old → HavePassed place old new →
+    (y : ℕ) → is_start slop new y ≡ is_start slop old y
+is_start-passed slop place old new far all h y =
+    elim (cases_lt y place) [
+      | inl below ↦ rw (
+        near-far slop y old (omega (arith, far, below)) all,
+        near-far slop y new (omega (arith, far, below, greatest_first-passed place old new h all)) (All-passed 0 place old new h all),
+      )
+          (and_false (is_place new y) ∙ sym (and_false (is_place old y)))
+      | inr reached ↦ rw (is_place-passed y place old new h reached, near-passed slop y place old new h reached) refl
     ]
+
+pub starts-passed : (slop place : ℕ) (old new : List (List ℕ)) → place ≤ greatest_first old - slop → All (Ascends 0) old → HavePassed place old new →
+    starts slop new ≡ starts slop old
+starts-passed slop place old new far all h = starts-same slop new old (is_start-passed slop place old new far all h)
+
+-- nor is what is collected lost
+pub collected-passed : (place : ℕ) (all old new : List (List ℕ)) (found : List ℕ) → place ≤ greatest_first old → HavePassed place old new →
+    IsCollected all old found → IsCollected all new found
+collected-passed place all old new found far h was = record {
+  rows = All-passed 0 place old new h was.rows;
+  ascends = was.ascends;
+  below = below-later (least_first old) (least_first new) found (least_first-passed place old new h was.rows) was.below;
+  members = λ y. ap (λ b. is_in y found || b) (is_start-passed 0 place old new (omega (arith, far)) was.rows h y) ∙ was.members y;
+  number = omega (arith, starts-passed 0 place old new (omega (arith, far)) was.rows h, was.number);
+}
 
 -- The positions of a row, which are galloped through.
 

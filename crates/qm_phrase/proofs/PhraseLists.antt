@@ -16,7 +16,7 @@ use Rattle.qm_term.specs.declared.bm25.Bm25Weight.{Bm25Weight}
 use Rattle.qm_phrase.specs.Phrase.{phrase_points}
 use Rattle.qm_phrase.specs.PhraseScorer.{most_counted}
 use Rattle.qm_phrase.specs.Terms.{AreMovedTo, IsFirstStart, IsLook, term_starts}
-use Rattle.qm_phrase.specs.declared.places.Places.{Places}
+use Rattle.qm_phrase.specs.declared.terms.TermPlaces.{TermPlaces}
 use Rattle.qm_phrase.proofs.TermMoves.{starts-ahead}
 
 abbrev pub held : ℕ → ℕ
@@ -68,63 +68,60 @@ by_counts-head points d f most behind some =
 
 module _ {P : Type 0} (D : Ghosts P) where
   -- after a search for a start, the terms count the same from the target on, and nothing before it
-  pub found-behind : (slop most target : ℕ) (found : ℕ × ℕ) (members : List P) (places : List Places) (new : List P) (places_new : List Places) →
-      IsFirstStart D slop most target members places found → AreMovedTo D slop found.0 members places new places_new →
-      (d : ℕ) → d < target → term_starts D slop new places_new d ≡ 0
-  found-behind slop most target found members places new places_new first moved d h = moved.behind d (omega (arith, first.within.0))
+  pub found-behind : (slop most target : ℕ) (found : ℕ × ℕ) (old new : TermPlaces P) →
+      IsFirstStart D slop most target old found → AreMovedTo D slop found.0 old new →
+      (d : ℕ) → d < target → term_starts D slop new d ≡ 0
+  found-behind slop most target found old new first moved d h = moved.behind d (omega (arith, first.within.0))
 
-  pub found-same : (slop most target : ℕ) (found : ℕ × ℕ) (members : List P) (places : List Places) (new : List P) (places_new : List Places) →
-      IsFirstStart D slop most target members places found → AreMovedTo D slop found.0 members places new places_new →
-      (d : ℕ) → target ≤ d → term_starts D slop new places_new d ≡ term_starts D slop members places d
-  found-same slop most target found members places new places_new first moved d h =
+  pub found-same : (slop most target : ℕ) (found : ℕ × ℕ) (old new : TermPlaces P) →
+      IsFirstStart D slop most target old found → AreMovedTo D slop found.0 old new →
+      (d : ℕ) → target ≤ d → term_starts D slop new d ≡ term_starts D slop old d
+  found-same slop most target found old new first moved d h =
       elim (cases_lt d found.0) [
         | inl before ↦ moved.behind d before ∙ sym (first.bare d h before)
-        | inr past ↦ starts-ahead D slop found.0 d members places new places_new moved past
+        | inr past ↦ starts-ahead D slop found.0 d old new moved past
       ]
 
-  found-some : (slop most target : ℕ) (found : ℕ × ℕ) (members : List P) (places : List Places) (new : List P) (places_new : List Places) →
-      IsFirstStart D slop most target members places found → AreMovedTo D slop found.0 members places new places_new →
-      found.0 < TERMINATED → 0 < term_starts D slop new places_new found.0
-  found-some slop most target found members places new places_new first moved below =
+  found-some : (slop most target : ℕ) (found : ℕ × ℕ) (old new : TermPlaces P) →
+      IsFirstStart D slop most target old found → AreMovedTo D slop found.0 old new →
+      found.0 < TERMINATED → 0 < term_starts D slop new found.0
+  found-some slop most target found old new first moved below =
       let here = first.here below in
-      omega (arith, here.0, here.1, starts-ahead D slop found.0 found.0 members places new places_new moved (omega arith))
+      omega (arith, here.0, here.1, starts-ahead D slop found.0 found.0 old new moved (omega arith))
 
-  pub found-entries : (points : ℕ → ℕ → ℕ) (slop most target : ℕ) (found : ℕ × ℕ) (members : List P) (places : List Places) (new : List P)
-      (places_new : List Places) → IsFirstStart D slop most target members places found → AreMovedTo D slop found.0 members places new places_new →
-      by_counts points (term_starts D slop new places_new) ≡ from target (by_counts points (term_starts D slop members places))
-  found-entries points slop most target found members places new places_new first moved =
-      by_counts-moved points target (term_starts D slop new places_new) (term_starts D slop members places) (found-behind slop most target
-      found members places new places_new first moved) (found-same slop most target found members places new places_new first moved)
+  pub found-entries : (points : ℕ → ℕ → ℕ) (slop most target : ℕ) (found : ℕ × ℕ) (old new : TermPlaces P) → IsFirstStart D slop most target old found → AreMovedTo D slop found.0 old new →
+      by_counts points (term_starts D slop new) ≡ from target (by_counts points (term_starts D slop old))
+  found-entries points slop most target found old new first moved =
+      by_counts-moved points target (term_starts D slop new) (term_starts D slop old) (found-behind slop most target
+      found old new first moved) (found-same slop most target found old new first moved)
 
-  pub found-head : (points : ℕ → ℕ → ℕ) (slop most target : ℕ) (found : ℕ × ℕ) (members : List P) (places : List Places)
-      (new : List P) (places_new : List Places) → IsFirstStart D slop most target members places found →
-      AreMovedTo D slop found.0 members places new places_new → found.0 ≡ head_document (by_counts points (term_starts D slop new places_new))
-  found-head points slop most target found members places new places_new first moved =
-      by_counts-head points found.0 (term_starts D slop new places_new) first.within.1 moved.behind
-      (found-some slop most target found members places new places_new first moved)
+  pub found-head : (points : ℕ → ℕ → ℕ) (slop most target : ℕ) (found : ℕ × ℕ) (old new : TermPlaces P) → IsFirstStart D slop most target old found →
+      AreMovedTo D slop found.0 old new → found.0 ≡ head_document (by_counts points (term_starts D slop new))
+  found-head points slop most target found old new first moved =
+      by_counts-head points found.0 (term_starts D slop new) first.within.1 moved.behind
+      (found-some slop most target found old new first moved)
 
-  pub found-count : (slop most target : ℕ) (found : ℕ × ℕ) (members : List P) (places : List Places) (new : List P) (places_new : List Places) →
-      IsFirstStart D slop most target members places found → AreMovedTo D slop found.0 members places new places_new →
-      found.0 < TERMINATED → found.1 ≡ min most (term_starts D slop new places_new found.0)
-  found-count slop most target found members places new places_new first moved below =
-      (first.here below).1 ∙ ap (min most) (sym (starts-ahead D slop found.0 found.0 members places new places_new moved (omega arith)))
+  pub found-count : (slop most target : ℕ) (found : ℕ × ℕ) (old new : TermPlaces P) →
+      IsFirstStart D slop most target old found → AreMovedTo D slop found.0 old new →
+      found.0 < TERMINATED → found.1 ≡ min most (term_starts D slop new found.0)
+  found-count slop most target found old new first moved below =
+      (first.here below).1 ∙ ap (min most) (sym (starts-ahead D slop found.0 found.0 old new moved (omega arith)))
 
   -- what is left of the starts was there before
-  pub moved-some : (slop target : ℕ) (members : List P) (places : List Places) (new : List P) (places_new : List Places) →
-      AreMovedTo D slop target members places new places_new → (d : ℕ) → 0 < term_starts D slop new places_new d → 0 < term_starts D slop members places d
-  moved-some slop target members places new places_new moved d some =
+  pub moved-some : (slop target : ℕ) (old new : TermPlaces P) →
+      AreMovedTo D slop target old new → (d : ℕ) → 0 < term_starts D slop new d → 0 < term_starts D slop old d
+  moved-some slop target old new moved d some =
       elim (cases_lt d target) [
         | inl before ↦ absurd (omega (arith, moved.behind d before, some))
-        | inr past ↦ omega (arith, some, starts-ahead D slop target d members places new places_new moved past)
+        | inr past ↦ omega (arith, some, starts-ahead D slop target d old new moved past)
       ]
 
   -- and is as many
-  pub moved-same : (slop target : ℕ) (members : List P) (places : List Places) (new : List P) (places_new : List Places) → AreMovedTo D slop target members
-      places new places_new → (d : ℕ) → 0 < term_starts D slop new places_new d → term_starts D slop new places_new d ≡ term_starts D slop members places d
-  moved-same slop target members places new places_new moved d some =
+  pub moved-same : (slop target : ℕ) (old new : TermPlaces P) → AreMovedTo D slop target old new → (d : ℕ) → 0 < term_starts D slop new d → term_starts D slop new d ≡ term_starts D slop old d
+  moved-same slop target old new moved d some =
       elim (cases_lt d target) [
         | inl before ↦ absurd (omega (arith, moved.behind d before, some))
-        | inr past ↦ starts-ahead D slop target d members places new places_new moved past
+        | inr past ↦ starts-ahead D slop target d old new moved past
       ]
 
 -- where a cursor stands on a document, that one is kept, and its entry is what is made of it
@@ -168,28 +165,28 @@ points-none (Some weight) ids d n is = absurd (cc)
 
 module _ {P : Type 0} (D : Ghosts P) where
   -- after a look at one document, the terms count the same from there on, and nothing before it
-  pub look-entries : (points : ℕ → ℕ → ℕ) (slop target : ℕ) (members : List P) (places : List Places) (new : List P) (places_new : List Places) →
-      AreMovedTo D slop target members places new places_new →
-      by_counts points (term_starts D slop new places_new) ≡ from target (by_counts points (term_starts D slop members places))
-  look-entries points slop target members places new places_new moved =
-      by_counts-moved points target (term_starts D slop new places_new) (term_starts D slop members places) moved.behind
-      (λ d h. starts-ahead D slop target d members places new places_new moved h)
+  pub look-entries : (points : ℕ → ℕ → ℕ) (slop target : ℕ) (old new : TermPlaces P) →
+      AreMovedTo D slop target old new →
+      by_counts points (term_starts D slop new) ≡ from target (by_counts points (term_starts D slop old))
+  look-entries points slop target old new moved =
+      by_counts-moved points target (term_starts D slop new) (term_starts D slop old) moved.behind
+      (λ d h. starts-ahead D slop target d old new moved h)
 
-  pub look-found : (points : ℕ → ℕ → ℕ) (slop most target count : ℕ) (members : List P) (places : List Places) (new : List P) (places_new : List Places) →
-      target < TERMINATED → AreMovedTo D slop target members places new places_new → IsLook D slop most target members places (Ok count) →
-      (target ≡ head_document (by_counts points (term_starts D slop new places_new))) × (count ≡ min most (term_starts D slop new places_new target))
-  look-found points slop most target count members places new places_new below moved look =
-      let same = starts-ahead D slop target target members places new places_new moved (omega arith) in (
-        by_counts-head points target (term_starts D slop new places_new) (omega arith) moved.behind (λ h. omega (arith, look.0, look.1, same)),
+  pub look-found : (points : ℕ → ℕ → ℕ) (slop most target count : ℕ) (old new : TermPlaces P) →
+      target < TERMINATED → AreMovedTo D slop target old new → IsLook D slop most target old (Ok count) →
+      (target ≡ head_document (by_counts points (term_starts D slop new))) × (count ≡ min most (term_starts D slop new target))
+  look-found points slop most target count old new below moved look =
+      let same = starts-ahead D slop target target old new moved (omega arith) in (
+        by_counts-head points target (term_starts D slop new) (omega arith) moved.behind (λ h. omega (arith, look.0, look.1, same)),
         look.1
             ∙ ap (min most) (sym same),
       )
 
-  pub look-bound : (points : ℕ → ℕ → ℕ) (slop most target bound : ℕ) (members : List P) (places : List Places) (new : List P) (places_new : List Places) →
-      AreMovedTo D slop target members places new places_new → IsLook D slop most target members places (Err bound) →
-      bound ≤ head_document (by_counts points (term_starts D slop new places_new))
-  look-bound points slop most target bound members places new places_new moved look =
-      by_counts-bound points bound (term_starts D slop new places_new) look.1 (λ d h. elim (cases_lt d target) [
+  pub look-bound : (points : ℕ → ℕ → ℕ) (slop most target bound : ℕ) (old new : TermPlaces P) →
+      AreMovedTo D slop target old new → IsLook D slop most target old (Err bound) →
+      bound ≤ head_document (by_counts points (term_starts D slop new))
+  look-bound points slop most target bound old new moved look =
+      by_counts-bound points bound (term_starts D slop new) look.1 (λ d h. elim (cases_lt d target) [
         | inl before ↦ moved.behind d before
-        | inr past ↦ starts-ahead D slop target d members places new places_new moved past ∙ look.2 d past h
+        | inr past ↦ starts-ahead D slop target d old new moved past ∙ look.2 d past h
       ])

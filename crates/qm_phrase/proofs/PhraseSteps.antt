@@ -1,5 +1,5 @@
 -- How the starts of a phrase change as its terms go on.
-use Rattle.std.proofs.Common.{◌≡◌, ℕ, ◌+◌, ◌<◌, ◌≤◌, false, ◌&&◌, List, [], ◌∷◌, All, Any, length, map, get_or, refl, ap, sym, ◌∙◌, arith, subst}
+use Rattle.std.proofs.Common.{◌≡◌, ℕ, ◌+◌, ◌<◌, ◌≤◌, false, ◌&&◌, List, [], ◌∷◌, All, Any, length, map, get_or, refl, ap, sym, ◌∙◌, arith}
 use Rattle.std.specs.List.{list_all}
 use Rattle.std.proofs.lemmas.List.{get_or-map, length-map}
 use Rattle.std.proofs.lemmas.List.Elements.{All-head, All-tail}
@@ -8,10 +8,10 @@ use Rattle.qm_combine.proofs.Uniting.{entries_of-ahead}
 use Rattle.qm_docset.proofs.Gathering.{entries_of-from}
 use Rattle.qm_docset.specs.Entry.{Entry, Limits, AreEntries, from, head_document, head_positions}
 use Rattle.qm_docset.specs.Gather.{entries_of}
-use Rattle.qm_docset.specs.GatherFacts.{entries_of-first, entries_of-other, entries_of-nil}
+use Rattle.qm_docset.specs.GatherFacts.{entries_of-first, entries_of-nil}
 use Rattle.qm_docset.specs.declared.numbers.TheConstants.{TERMINATED}
 use Rattle.qm_phrase.specs.Phrase.{positions_at, shifted_each, sets_at, starts_at}
-use Rattle.qm_phrase.specs.Starts.{has_near, is_place, starts}
+use Rattle.qm_phrase.specs.Starts.{has_near, is_place}
 use Rattle.qm_phrase.proofs.StartSteps.{and_false, starts-none}
 use Rattle.qm_phrase.proofs.TermSteps.{get_or-shifted_each, length-shifted_each}
 
@@ -24,13 +24,11 @@ positions_at-from t d (es ∷ ess) h =
     let rest = positions_at-from t d ess h in
     λ i. here i ∷ rest i
 
-pub starts_at-from : (slop t d : ℕ) (shifts : List ℕ) (new old : List (List Entry)) → t ≤ d →
-    map (from t) new ≡ map (from t) old → starts_at slop shifts new d ≡ starts_at slop shifts old d
+pub sets_at-from : (t d : ℕ) (shifts : List ℕ) (new old : List (List Entry)) → t ≤ d →
+    map (from t) new ≡ map (from t) old → sets_at shifts new d ≡ sets_at shifts old d
 unfolding sets_at
-starts_at-from slop t d shifts new old h same =
-    let positions : map (positions_at d) new ≡ map (positions_at d) old = sym (positions_at-from t d new h)
-    ∙ ap (map (positions_at d)) same ∙ positions_at-from t d old h in
-    ap (λ r. starts slop (shifted_each shifts r)) positions
+sets_at-from t d shifts new old h same =
+    ap (shifted_each shifts) (sym (positions_at-from t d new h) ∙ ap (map (positions_at d)) same ∙ positions_at-from t d old h)
 
 -- Where one list lacks a document, there is no start.
 
@@ -49,19 +47,12 @@ starts_at-lacks slop d k shifts ess paired h none =
     let wide = length-shifted_each shifts positions (omega arith) in
     starts-none slop sets (λ y. ap (λ b. is_place sets y && b) (near-lacks slop y k sets (omega arith) set) ∙ and_false (is_place sets y))
 
--- no start before the place of one of the terms
-pub starts_at-behind : {X : Type 0} (valid : X → Type 0) (bound : X → Limits) (list : X → List Entry) →
-    ((x : X) → valid x → AreEntries 0 (bound x) (list x)) → (slop d t : ℕ) (shifts : List ℕ) (xs : List X) → All valid xs →
-    length shifts ≡ length xs → Any (λ x. t ≤ head_document (list x)) xs → d < t → starts_at slop shifts (map list xs) d ≡ 0
-starts_at-behind valid bound list law slop d t shifts xs all paired one h =
-    let k = one.0 in
-    let x = one.1 in
-    let below : k < length xs = one.2 in
-    let past : t ≤ head_document (list x) = one.4 in
-    let ok : valid x = subst valid one.3 (all k x below) in
-    let here : get_or (map list xs) k [] ≡ list x = get_or-map list xs k x [] below ∙ ap list one.3 in
-    let none : positions_at d (list x) ≡ [] = ap head_positions (entries_of-ahead d (bound x) (list x) (law x ok) (omega arith)) in
-    starts_at-lacks slop d k shifts (map list xs) (omega (arith, length-map xs list)) (omega (arith, length-map xs list)) (ap (positions_at d) here ∙ none)
+-- a list has no positions of a document before the one that it stands on, nor has an empty one
+pub positions_at-past : (d t : ℕ) (limits : Limits) (es : List Entry) → AreEntries 0 limits es → t ≤ head_document es → d < t → positions_at d es ≡ []
+positions_at-past d t limits es law past h = ap head_positions (entries_of-ahead d limits es law (omega (arith, past, h)))
+
+pub positions_at-none : (d : ℕ) → positions_at d [] ≡ []
+positions_at-none d = ap head_positions (entries_of-nil d)
 
 -- the first of some members that stand on a document
 pub first_stands : {X : Type 0} (Placed : X → Type 0) (list : X → List Entry) (d : ℕ) (xs : List X) →
@@ -87,23 +78,3 @@ positions_at-members {X} valid Placed bound list law d (x ∷ xs) below all here
     let first = positions_at-here d (bound x) (list x) (law x (All-head valid x xs all)) (All-head Stands x xs here).1 below in
     let rest = positions_at-members valid Placed bound list law d xs below (All-tail valid x xs all) (All-tail Stands x xs here) in
     λ i. first i ∷ rest i
-
-pub starts_at-here : {X : Type 0} (valid Placed : X → Type 0) (bound : X → Limits) (list : X → List Entry) →
-    ((x : X) → valid x → AreEntries 0 (bound x) (list x)) → (slop d : ℕ) (shifts : List ℕ) (xs : List X) → d < TERMINATED → All valid xs → All (λ x. Placed x ×
-    (head_document (list x) ≡ d)) xs → starts_at slop shifts (map list xs) d ≡ starts slop (shifted_each shifts (map head_positions (map list xs)))
-unfolding sets_at
-starts_at-here valid Placed bound list law slop d shifts xs below all here =
-    ap (λ r. starts slop (shifted_each shifts r)) (positions_at-members valid Placed bound list law d xs below all here)
-
--- no list has a document past the end
-entries_of-end : (d low : ℕ) (limits : Limits) (es : List Entry) → TERMINATED ≤ d → AreEntries low limits es → entries_of d es ≡ []
-entries_of-end d low limits [] h a = entries_of-nil d
-entries_of-end d low limits (e ∷ es) h a = entries_of-other d e es (omega arith) ∙ entries_of-end d (e.document + 1) limits es h a.others
-
-pub starts_at-end : {X : Type 0} (valid : X → Type 0) (bound : X → Limits) (list : X → List Entry) →
-    ((x : X) → valid x → AreEntries 0 (bound x) (list x)) → (slop d : ℕ) (shifts : List ℕ) (xs : List X) → All valid xs →
-    length shifts ≡ length xs → 0 < length xs → TERMINATED ≤ d → starts_at slop shifts (map list xs) d ≡ 0
-starts_at-end valid bound list law slop d shifts [] all paired some h = absurd (omega arith)
-starts_at-end valid bound list law slop d shifts (x ∷ xs) all paired some h =
-    let none : positions_at d (list x) ≡ [] = ap head_positions (entries_of-end d 0 (bound x) (list x) h (law x (All-head valid x xs all))) in
-    starts_at-lacks slop d 0 shifts (list x ∷ map list xs) (omega (arith, length-map xs list)) (omega arith) none

@@ -1,32 +1,30 @@
 -- How the counts of a phrase prefix change as its terms go on.
-use Rattle.std.proofs.Common.{◌≡◌, ℕ, ◌-◌, ◌<◌, ◌≤◌, nat_le, List, [], ◌∷◌, All, length, map, min, get_or, set, refl, ap, sym, ◌∙◌, arith, inl, inr, Err}
+use Rattle.std.proofs.Common.{◌≡◌, ℕ, ◌<◌, ◌≤◌, nat_le, List, [], ◌∷◌, All, length, map, min, refl, ap, sym, ◌∙◌, arith, inl, inr, Err}
 use Rattle.std.specs.List.{sum_by}
 use Rattle.std.proofs.lemmas.Bool.{cases_lt}
-use Rattle.std.proofs.lemmas.List.Elements.{All-head}
 use Rattle.std.proofs.lemmas.List.Sums.{sum_by-cons}
-use Rattle.qm_docset.specs.Entry.{Entry, from, head_positions}
+use Rattle.qm_docset.specs.Entry.{from}
 use Rattle.qm_docset.specs.Lists.{lists}
 use Rattle.qm_docset.specs.declared.docset.DocSet.{Ghosts}
 use Rattle.qm_docset.specs.declared.numbers.TheConstants.{TERMINATED}
 use Rattle.qm_postings.specs.Positions.{shifted}
 use Rattle.qm_term.specs.TermScorer.{AreCovered}
-use Rattle.qm_phrase.specs.Phrase.{positions_at, sets_at, shifted_each, starts_at}
-use Rattle.qm_phrase.specs.PhrasePrefix.{IsCommonOf, PrefixLists, common_count, full_count, full_sets, greatest_of, has_several, held, lists_at, prefix_count}
+use Rattle.qm_phrase.specs.Phrase.{positions_at, sets_at, starts_at}
+use Rattle.qm_phrase.specs.PhrasePrefix.{IsCommonOf, PrefixLists, common_count, full_count, full_sets, has_several, held, prefix_count}
 use Rattle.qm_phrase.specs.PhrasePrefix.{suffix_count}
 use Rattle.qm_phrase.specs.Places.{shift_of}
-use Rattle.qm_phrase.specs.Suffixes.{AreSuffixes, suffix_lists}
-use Rattle.qm_phrase.specs.PrefixTerms.{ArePrefixTerms, HaveGoneOn, IsBareOf, IsCommonBuffer, IsPrefixLook, lists_of}
-use Rattle.qm_phrase.specs.Terms.{AreMovedTo, AreTerms, IsLook, term_starts}
-use Rattle.qm_phrase.specs.declared.places.Places.{Places}
+use Rattle.qm_phrase.specs.Suffixes.{suffix_lists}
+use Rattle.qm_phrase.specs.PrefixTerms.{ArePrefixTerms, HaveGoneOn, IsBareOf, IsPrefixLook, lists_of}
+use Rattle.qm_phrase.specs.TermRows.{each_of}
+use Rattle.qm_phrase.specs.Terms.{AreMovedTo, AreTerms, IsLook, term_starts, terms_in}
 use Rattle.qm_phrase.specs.declared.prefix_terms.PrefixTerms.{PrefixTerms}
-use Rattle.qm_phrase.specs.declared.suffixes.Suffix.{Suffix}
-use Rattle.qm_phrase.proofs.CommonSteps.{common-fewer, common-lacks, common-listed, common-starts, sum_by-none}
-use Rattle.qm_phrase.proofs.FullTerms.{length-sets_at, sets_at-from}
-use Rattle.qm_phrase.proofs.HandedIn.{uncovered}
-use Rattle.qm_phrase.proofs.PhraseSteps.{positions_at-from}
+use Rattle.qm_phrase.proofs.CommonSteps.{common-fewer, common-listed, common-starts, sum_by-none}
+use Rattle.qm_phrase.proofs.FullTerms.{length-sets_at}
+use Rattle.qm_phrase.proofs.HandedIn.{covered-starts}
+use Rattle.qm_phrase.proofs.PhraseSteps.{positions_at-from, sets_at-from}
 use Rattle.qm_phrase.proofs.SuffixSteps.{shared_with}
-use Rattle.qm_phrase.proofs.TermMoves.{AreMovedTo-end, IsPassed, Law, paired}
-use Rattle.std.proofs.lemmas.List.{length-map}
+use Rattle.qm_phrase.proofs.TermMoves.{paired, some-lists}
+use Rattle.qm_phrase.proofs.TermRows.{each_of-same}
 
 sum_by-map : {X Y : Type 0} (f : Y → ℕ) (g : X → Y) (xs : List X) → sum_by f (map g xs) ≡ sum_by (λ x. f (g x)) xs
 sum_by-map f g [] = refl
@@ -83,43 +81,24 @@ pub record IsSearched (target doc : ℕ) (t u : PrefixLists) : Type 0 where
   pub several : has_several u ≡ has_several t
 
 module _ {P : Type 0} (D : Ghosts P) where
-  pub full_count-terms : (s : PrefixTerms P) (d : ℕ) → AreTerms D s.members.items s.places.items →
-      full_count (lists_of D s) d ≡ term_starts D 0 s.members.items s.places.items d
-  full_count-terms s d terms =
-      let long = length-map s.members.items D.entries in
-      full-starts (lists_of D s) d (omega (arith, paired D s.members.items s.places.items terms)) (omega (arith, terms.some))
+  pub full_count-terms : (s : PrefixTerms P) (d : ℕ) → AreTerms D s.full → full_count (lists_of D s) d ≡ term_starts D 0 s.full d
+  full_count-terms s d terms = full-starts (lists_of D s) d (paired D s.full) (some-lists D s.full terms)
 
   -- terms whose rows were moved have gone on
-  pub HaveGoneOn-terms : (doc shift : ℕ) (s : PrefixTerms P) (members : List P) (places : List Places) (suffixes : List (Suffix P)) →
-      AreMovedTo D 0 doc s.members.items s.places.items members places →
-      map (from doc) (suffix_lists D suffixes) ≡ map (from doc) (suffix_lists D s.suffixes.items) → shift ≡ shift_of s.suffix_places →
-      HaveGoneOn doc (lists_of D s) (record { full_shifts = map shift_of places; full = lists D members; suffix_shift = shift; suffixes = suffix_lists D suffixes })
-  HaveGoneOn-terms doc shift s members places suffixes moved same level =
-      let new : PrefixLists = record {
-        full_shifts = map shift_of places;
-        full = lists D members;
-        suffix_shift = shift;
-        suffixes = suffix_lists D suffixes;
-      } in
-      let long = length-map members D.entries in
-      let starts : (d : ℕ) → full_count new d ≡ term_starts D 0 members places d =
-      λ d. full-starts new d (omega (arith, paired D members places moved.valid)) (omega (arith, moved.valid.some)) in
-      HaveGoneOn-lists doc (lists_of D s) new level same moved.shifts moved.lists (λ d h. starts d ∙ moved.behind d h)
-
-  -- and are terms still
-  pub ArePrefixTerms-moved : (u : PrefixTerms P) (members : List P) (places : List Places) (suffixes : List (Suffix P)) → u.members.items ≡ members →
-      u.places.items ≡ places → u.suffixes.items ≡ suffixes → AreTerms D members places → IsCommonBuffer D members places u.common →
-      AreSuffixes D suffixes u.suffix_places → shift_of u.suffix_places ≤ 4294967295 → ArePrefixTerms D u
-  ArePrefixTerms-moved u members places suffixes members_are places_are suffixes_are full common row shift = record {
-    full = rw (members_are, places_are) full;
-    common = rw (members_are, places_are) common;
-    suffixes = rw suffixes_are row;
-    shift = shift;
-  }
+  pub HaveGoneOn-terms : (doc : ℕ) (s new : PrefixTerms P) → AreMovedTo D 0 doc s.full new.full →
+      map (from doc) (suffix_lists D new.suffixes.items) ≡ map (from doc) (suffix_lists D s.suffixes.items) →
+      shift_of new.suffix_places ≡ shift_of s.suffix_places → HaveGoneOn doc (lists_of D s) (lists_of D new)
+  unfolding from
+  HaveGoneOn-terms doc s new moved same level =
+      let shift : ℕ × ℕ → ℕ = λ u. u.0 in
+      HaveGoneOn-lists doc (lists_of D s) (lists_of D new) level same (ap (map shift) moved.terms)
+      (each_of-same (from doc) refl (lists D new.full.members.items) (lists D s.full.members.items) (terms_in new.full) moved.lists
+      ∙ ap (λ ts. map (from doc) (each_of (lists D s.full.members.items) ts)) moved.terms)
+      (λ d h. full_count-terms new d moved.valid ∙ moved.behind d h)
 
   -- a document where the full terms have no place in common is passed
-  pub IsPrefixLook-passed : (s : PrefixTerms P) (doc bound : ℕ) → AreTerms D s.members.items s.places.items →
-      IsLook D 0 4294967295 doc s.members.items s.places.items (Err bound) → IsPrefixLook doc (lists_of D s) (Err bound)
+  pub IsPrefixLook-passed : (s : PrefixTerms P) (doc bound : ℕ) → AreTerms D s.full →
+      IsLook D 0 4294967295 doc s.full (Err bound) → IsPrefixLook doc (lists_of D s) (Err bound)
   IsPrefixLook-passed s doc bound terms look =
       (look.0, look.1, λ d low high. prefix-none (lists_of D s) d (full_count-terms s d terms ∙ look.2 d low high))
 
@@ -133,44 +112,11 @@ module _ {P : Type 0} (D : Ghosts P) where
     pub valid : ArePrefixTerms D s
     pub searched : IsSearched target doc t (lists_of D s)
 
-  -- one term was sent to its end
-  pub AreMovedTo-ended : Law D → (s : PrefixTerms P) (x d : P) → ArePrefixTerms D s →
-      D.entries x ≡ from TERMINATED (D.entries (get_or s.members.items 0 d)) → D.limits x ≡ D.limits (get_or s.members.items 0 d) →
-      D.valid x → AreMovedTo D 0 TERMINATED s.members.items s.places.items (set s.members.items 0 x) s.places.items
-  AreMovedTo-ended law s x d terms entries limits valid =
-      let members = s.members.items in
-      let places = s.places.items in
-      let still : IsPassed D 0 TERMINATED TERMINATED members places members places = record {
-        reached = omega arith;
-        within = omega arith;
-        valid = terms.full;
-        shifts = refl;
-        left = refl;
-        bare = λ e low high. absurd (omega (arith, low, high));
-      } in
-      AreMovedTo-end D law 0 TERMINATED TERMINATED members places members places x d still (omega arith) entries limits valid
-
--- where the first full term lacks a document, nothing counts
-full-lacks : (d shift : ℕ) (shifts : List ℕ) (es : List Entry) (ess : List (List Entry)) →
-    positions_at d es ≡ [] → common_count (sets_at (shift ∷ shifts) (es ∷ ess) d) ≡ 0
-unfolding sets_at
-full-lacks d shift shifts es ess none =
-    let rest = shifted_each shifts (map (positions_at d) ess) in
-    ap (λ ps. common_count (shifted shift ps ∷ rest)) none ∙ common-lacks rest
-
 -- a document that counts has a length id
-pub prefix-covered : {P : Type 0} (D : Ghosts P) (ids : List ℕ) (d : ℕ) (terms : List (ℕ × P)) (suffix_pos : ℕ) (suffixes : List P) → 0 < length terms →
-    All (λ pair. AreCovered ids (D.entries pair.1)) terms → 0 < prefix_count (lists_at D terms suffix_pos suffixes) d → d < length ids
-prefix-covered D ids d [] suffix_pos suffixes some covered counted = absurd (omega (arith, some))
-prefix-covered {P} D ids d (pair ∷ terms) suffix_pos suffixes some covered counted =
-    elim (cases_lt d (length ids)) [
-      | inl within ↦ within
-      | inr past ↦
-          let t = lists_at D (pair ∷ terms) suffix_pos suffixes in
-          let greatest = greatest_of (map (λ (p : ℕ × P). p.0) (pair ∷ terms)) suffix_pos in
-          let lacks : positions_at d (D.entries pair.1) ≡ [] =
-          ap head_positions (uncovered ids d (D.entries pair.1) (All-head (λ (p : ℕ × P). AreCovered ids (D.entries p.1)) pair terms covered) past) in
-          let none : full_count t d ≡ 0 = full-lacks d (greatest - pair.0) (map (λ (p : ℕ × P). greatest - p.0) terms)
-          (D.entries pair.1) (map (λ (p : ℕ × P). D.entries p.1) terms) lacks in
-          absurd (omega (arith, prefix-none t d none, counted))
+pub prefix-covered : (ids : List ℕ) (d : ℕ) (t : PrefixLists) → 0 < length t.full → length t.full_shifts ≡ length t.full →
+    All (AreCovered ids) t.full → 0 < prefix_count t d → d < length ids
+prefix-covered ids d t some paired covered counted =
+    elim (cases_lt 0 (full_count t d)) [
+      | inl full ↦ covered-starts ids 0 d t.full_shifts t.full some paired covered (omega (arith, full, full-starts t d paired some))
+      | inr none ↦ absurd (omega (arith, counted, prefix-none t d (omega (arith, none))))
     ]

@@ -60,7 +60,7 @@ pub is_in-below : (y low : ℕ) (s : List ℕ) → y < low → Ascends low s →
 is_in-below y low [] h a = refl
 is_in-below y low (p ∷ ps) h a = let rest = is_in-below y (p + 1) ps (omega arith) a.2 in rw (ne_eqb y p (omega arith)) rest
 
-has_near-none : (slop x low : ℕ) (s : List ℕ) → x + slop < low → Ascends low s → has_near slop x s ≡ false
+pub has_near-none : (slop x low : ℕ) (s : List ℕ) → x + slop < low → Ascends low s → has_near slop x s ≡ false
 has_near-none slop x low [] h a = refl
 has_near-none slop x low (p ∷ ps) h a =
     let rest = has_near-none slop x (p + 1) ps (omega arith) a.2 in
@@ -97,7 +97,7 @@ has_near-past slop y x (p ∷ ps) h =
       | inr apart ↦ rw (ne_eqb p x apart) refl
     ]
 
-Ascends-past : (low x : ℕ) (s : List ℕ) → Ascends low s → Ascends low (past x s)
+pub Ascends-past : (low x : ℕ) (s : List ℕ) → Ascends low s → Ascends low (past x s)
 Ascends-past low x [] a = tt
 Ascends-past low x (p ∷ ps) a =
     elim (cases_eq p x) [
@@ -119,7 +119,7 @@ first_place-past x (p ∷ ps) h a =
 
 -- All sets.
 
-or_true : (b : Bool) → (b || true) ≡ true
+pub or_true : (b : Bool) → (b || true) ≡ true
 or_true true = refl
 or_true false = refl
 
@@ -177,6 +177,17 @@ starts_below-none slop n sets lacks = count_by-none (is_start slop sets) 0 n lac
 pub starts-none : (slop : ℕ) (sets : List (List ℕ)) → ((y : ℕ) → is_start slop sets y ≡ false) → starts slop sets ≡ 0
 unfolding starts
 starts-none slop sets lacks = starts_below-none slop all_places sets lacks
+
+-- sets with the same starts have as many
+starts_below-same : (slop n : ℕ) (sets others : List (List ℕ)) → ((y : ℕ) → is_start slop sets y ≡ is_start slop others y) →
+    starts_below slop sets n ≡ starts_below slop others n
+unfolding starts_below
+starts_below-same slop n sets others same = count_by-same (is_start slop sets) (is_start slop others) 0 n (λ y h. same y)
+
+pub starts-same : (slop : ℕ) (sets others : List (List ℕ)) → ((y : ℕ) → is_start slop sets y ≡ is_start slop others y) →
+    starts slop sets ≡ starts slop others
+unfolding starts
+starts-same slop sets others same = starts_below-same slop all_places sets others same
 
 -- The first places.
 
@@ -241,6 +252,20 @@ greatest_first-most ([] ∷ sets) all = omega (arith, greatest_first-most sets (
 greatest_first-most ((p ∷ ps) ∷ sets) all =
     let here = All-head (Ascends 0) (p ∷ ps) sets all in
     omega (arith, greatest_first-most sets (All-tail (Ascends 0) (p ∷ ps) sets all))
+
+first_place-past_most : (x : ℕ) (s : List ℕ) → Ascends 0 s → first_place s ≤ first_place (past x s)
+first_place-past_most x [] a = omega arith
+first_place-past_most x (p ∷ ps) a =
+    elim (cases_eq p x) [
+      | inl here ↦ rw (eq-eqb p x here) (let least = first_place-ascends (p + 1) ps (omega (arith, a.1)) a.2 in omega arith)
+      | inr apart ↦ rw (ne_eqb p x apart) (omega arith)
+    ]
+
+-- behind a place that some begin with, all begin no earlier
+pub greatest_first-past : (x : ℕ) (sets : List (List ℕ)) → All (Ascends 0) sets → greatest_first sets ≤ greatest_first (map (past x) sets)
+greatest_first-past x [] all = omega arith
+greatest_first-past x (s ∷ sets) all =
+    omega (arith, first_place-past_most x s (All-head (Ascends 0) s sets all), greatest_first-past x sets (All-tail (Ascends 0) s sets all))
 
 -- a pass moves the least place on
 pub least_first-past : (x : ℕ) (sets : List (List ℕ)) → x < all_places → All (Ascends x) sets → x < least_first (map (past x) sets)

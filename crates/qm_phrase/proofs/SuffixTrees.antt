@@ -17,7 +17,7 @@ use Rattle.qm_phrase.specs.Suffixes.{AreSuffixes, FitIn, IsSuffix, IsTree, IsTre
 use Rattle.qm_phrase.specs.declared.places.Places.{Places}
 use Rattle.qm_phrase.specs.declared.suffixes.Suffix.{Suffix}
 use Rattle.qm_phrase.proofs.CommonSteps.{common-lacks}
-use Rattle.qm_phrase.proofs.HandedIn.{map_twice}
+use Rattle.qm_docset.specs.ListFacts.{map-map}
 use Rattle.qm_phrase.proofs.SuffixSteps.{shared_with}
 
 -- what stands on either side of an element of a row
@@ -220,7 +220,7 @@ unbounded postings = record { postings = postings; own_bound = 0; least_bound = 
 
 module _ {P : Type 0} (D : Ghosts P) where
   pub lists-unbounded : (suffixes : List P) → suffix_lists D (map unbounded suffixes) ≡ map D.entries suffixes
-  lists-unbounded suffixes = map_twice (λ (s : Suffix P). D.entries s.postings) unbounded suffixes
+  lists-unbounded suffixes = map-map (λ (s : Suffix P). D.entries s.postings) unbounded suffixes
 
   pub AreSuffixes-unbounded : (suffixes : List P) (places : Places) → All D.valid suffixes → All (λ m. (D.limits m).room ≤ room_of places) suffixes →
       AreSuffixes D (map unbounded suffixes) places

@@ -2,6 +2,8 @@ pub mod Starts
 pub mod Places
 pub mod Phrase
 pub mod PhraseFacts
+pub mod TermRows
+pub mod PhraseTerms
 pub mod Terms
 pub mod PhraseScorer
 pub mod PhrasePrefix

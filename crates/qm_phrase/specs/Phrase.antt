@@ -59,8 +59,12 @@ phrase_limits None = record { top = 1; room = 0 }
 phrase_limits (Some weight) = record { top = bm25_bound (weighing weight); room = 0 }
 
 -- a placed cursor that lists the documents of a phrase: by a weight and length ids, within a slop, of
--- terms with their offsets
+-- terms at such offsets with such lists
+abbrev pub ListsPhraseOver : {U : Type 0} → Ghosts U → Option Bm25Weight → FieldNormReader → ℕ → List ℕ → List (List Entry) → U → Type 0
+ListsPhraseOver U weight norms slop offsets ess s =
+    Lists U s (phrase_entries (phrase_points weight (norm_ids norms)) slop (shifts_of offsets) ess) (phrase_limits weight)
+
+-- the same of terms with their offsets
 abbrev pub ListsPhrase : {U P : Type 0} → Ghosts U → Ghosts P → Option Bm25Weight → FieldNormReader → ℕ → List (ℕ × P) → U → Type 0
 ListsPhrase U D weight norms slop terms s =
-    Lists U s (phrase_entries (phrase_points weight (norm_ids norms)) slop (shifts_of (map (λ pair. pair.0) terms)) (map (λ pair. D.entries pair.1) terms))
-    (phrase_limits weight)
+    ListsPhraseOver U weight norms slop (map (λ pair. pair.0) terms) (map (λ pair. D.entries pair.1) terms) s

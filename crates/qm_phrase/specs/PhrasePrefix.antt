@@ -92,19 +92,25 @@ prefix_entries weight ids t =
 abbrev pub greatest_of : List ℕ → ℕ → ℕ
 greatest_of offsets suffix_pos = max suffix_pos (fold max 0 offsets)
 
--- terms with their offsets, and those that begin with the prefix, whose offset is `suffix_pos`: each
--- is shifted by the greatest offset less its own
-abbrev pub lists_at : {P : Type 0} → Ghosts P → List (ℕ × P) → ℕ → List P → PrefixLists
-lists_at D terms suffix_pos suffixes = record {
-  full_shifts = map (λ pair. greatest_of (map (λ p. p.0) terms) suffix_pos - pair.0) terms;
-  full = map (λ pair. D.entries pair.1) terms;
-  suffix_shift = greatest_of (map (λ p. p.0) terms) suffix_pos - suffix_pos;
-  suffixes = lists D suffixes;
+-- the lists of terms at such offsets, and of those that begin with the prefix, whose offset is `suffix_pos`:
+-- each is shifted by the greatest offset less its own
+abbrev pub lists_over : List ℕ → List (List Entry) → ℕ → List (List Entry) → PrefixLists
+lists_over offsets full suffix_pos suffixes = record {
+  full_shifts = map (λ offset. greatest_of offsets suffix_pos - offset) offsets;
+  full = full;
+  suffix_shift = greatest_of offsets suffix_pos - suffix_pos;
+  suffixes = suffixes;
 }
 
--- a placed cursor that lists the documents of a phrase prefix: by a weight and length ids, of terms with
--- their offsets and of those that begin with the prefix, whose offset is `suffix_pos`
+-- the same of terms with their postings
+abbrev pub lists_at : {P : Type 0} → Ghosts P → List (ℕ × P) → ℕ → List P → PrefixLists
+lists_at D terms suffix_pos suffixes =
+    lists_over (map (λ pair. pair.0) terms) (map (λ pair. D.entries pair.1) terms) suffix_pos (lists D suffixes)
+
+-- a placed cursor that lists the documents of a phrase prefix with such lists, by a weight and length ids
+abbrev pub ListsPrefixOver : {U : Type 0} → Ghosts U → Option Bm25Weight → FieldNormReader → PrefixLists → U → Type 0
+ListsPrefixOver U weight norms t s = Lists U s (prefix_entries weight (norm_ids norms) t) (prefix_limits weight (has_several t))
+
+-- the same of terms with their offsets and of those that begin with the prefix, whose offset is `suffix_pos`
 abbrev pub ListsPrefix : {U P : Type 0} → Ghosts U → Ghosts P → Option Bm25Weight → FieldNormReader → List (ℕ × P) → ℕ → List P → U → Type 0
-ListsPrefix U D weight norms terms suffix_pos suffixes s =
-    Lists U s (prefix_entries weight (norm_ids norms) (lists_at D terms suffix_pos suffixes))
-    (prefix_limits weight (has_several (lists_at D terms suffix_pos suffixes)))
+ListsPrefix U D weight norms terms suffix_pos suffixes s = ListsPrefixOver U weight norms (lists_at D terms suffix_pos suffixes) s

@@ -1,5 +1,5 @@
 -- What the scorer of a phrase prefix shows, over the ghost members of its postings.
-use Rattle.std.specs.Prelude.{◌≡◌, ℕ, ◌<◌, ◌≤◌, List, length}
+use Rattle.std.specs.Prelude.{◌≡◌, ℕ, ◌<◌, List, length}
 use Rattle.qm_docset.specs.Entry.{Entry, Limits, head_document}
 use Rattle.qm_docset.specs.declared.docset.DocSet.{Ghosts}
 use Rattle.qm_docset.specs.declared.numbers.TheConstants.{TERMINATED}

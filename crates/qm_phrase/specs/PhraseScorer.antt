@@ -3,14 +3,12 @@ use Rattle.std.specs.Prelude.{◌≡◌, ℕ, ◌<◌, Bool, true, false, List, 
 use Rattle.std.specs.declared.option.Option.{Option}
 use Rattle.std.specs.declared.option.Option.TheVariants.{None, Some}
 use Rattle.qm_docset.specs.Entry.{Entry, Limits, head_document}
-use Rattle.qm_docset.specs.Lists.{lists}
 use Rattle.qm_docset.specs.declared.docset.DocSet.{Ghosts}
 use Rattle.qm_docset.specs.declared.numbers.TheConstants.{TERMINATED}
 use Rattle.qm_postings.specs.FieldNorms.{norm_ids}
 use Rattle.qm_term.specs.declared.bm25.Bm25Weight.{Bm25Weight}
 use Rattle.qm_phrase.specs.Phrase.{phrase_entries, phrase_limits, phrase_points, shifts_of, starts_at}
-use Rattle.qm_phrase.specs.Places.{shift_of}
-use Rattle.qm_phrase.specs.Terms.{AreTerms, term_starts}
+use Rattle.qm_phrase.specs.Terms.{AreTerms, shifts_in, term_lists, term_starts}
 use Rattle.qm_phrase.specs.declared.phrase_scorer.PhraseScorer.{PhraseScorer}
 
 -- how many starts are counted: all where a weight scores them, and else the first
@@ -26,12 +24,12 @@ has_weight (Some weight) = true
 module _ {P : Type 0} (D : Ghosts P) where
   -- the number of starts in a document
   abbrev pub phrase_starts : PhraseScorer P → ℕ → ℕ
-  phrase_starts s d = term_starts D s.slop s.members.items s.places.items d
+  phrase_starts s d = term_starts D s.slop s.terms d
 
   -- the documents that remain, with their scores
   abbrev pub phrase_left : PhraseScorer P → List Entry
   phrase_left s =
-      phrase_entries (phrase_points s.similarity_weight (norm_ids s.fieldnorm_reader)) s.slop (map shift_of s.places.items) (lists D s.members.items)
+      phrase_entries (phrase_points s.similarity_weight (norm_ids s.fieldnorm_reader)) s.slop (shifts_in s.terms) (term_lists D s.terms)
 
   abbrev pub phrase_scorer_limits : PhraseScorer P → Limits
   phrase_scorer_limits s = phrase_limits s.similarity_weight
@@ -45,15 +43,19 @@ module _ {P : Type 0} (D : Ghosts P) where
     pub weighted : is_weighted t ≡ is_weighted s
     pub counts : (d : ℕ) → 0 < phrase_starts t d → phrase_starts t d ≡ phrase_starts s d
 
-  -- scored by such a weight, it counts in each document that it has left the starts of such terms
-  pub record CountsPhrase (weight : Option Bm25Weight) (slop : ℕ) (terms : List (ℕ × P)) (s : PhraseScorer P) : Type 0 where
+  -- scored by such a weight, it counts in each document that it has left the starts of terms at such
+  -- offsets with such lists
+  pub record CountsPhraseOver (weight : Option Bm25Weight) (slop : ℕ) (offsets : List ℕ) (ess : List (List Entry)) (s : PhraseScorer P) : Type 0 where
     pub weighted : is_weighted s ≡ has_weight weight
-    pub counts : (d : ℕ) → 0 < phrase_starts s d →
-        phrase_starts s d ≡ starts_at slop (shifts_of (map (λ pair. pair.0) terms)) (map (λ pair. D.entries pair.1) terms) d
+    pub counts : (d : ℕ) → 0 < phrase_starts s d → phrase_starts s d ≡ starts_at slop (shifts_of offsets) ess d
+
+  -- the same of terms with their offsets
+  abbrev pub CountsPhrase : Option Bm25Weight → ℕ → List (ℕ × P) → PhraseScorer P → Type 0
+  CountsPhrase weight slop terms s = CountsPhraseOver weight slop (map (λ pair. pair.0) terms) (map (λ pair. D.entries pair.1) terms) s
 
   -- its terms, and that each document with a start has a length id
   pub record IsPhrase (s : PhraseScorer P) : Type 0 where
-    pub terms : AreTerms D s.members.items s.places.items
+    pub terms : AreTerms D s.terms
     pub covered : (d : ℕ) → 0 < phrase_starts s d → d < length (norm_ids s.fieldnorm_reader)
 
   -- it stands on the first of its documents, whose starts it has counted

@@ -1,24 +1,30 @@
 -- What a row of a term's places shows, as a count passes them one after another.
 use Rattle.std.specs.Prelude.{◌≡◌, ℕ, ◌+◌, ◌<◌, ◌≤◌, ◌==◌, if◌then◌else◌, List, [], ◌∷◌, All, drop, max, min, take, vec_capacity}
+use Rattle.std.specs.List.{AllZip}
 use Rattle.qm_postings.specs.Positions.{shifted}
 use Rattle.qm_phrase.specs.Starts.{all_places}
 use Rattle.qm_phrase.specs.declared.places.Places.{Places}
+use Rattle.qm_phrase.specs.declared.row.Row.{Row}
 
--- the places that no count has passed yet
+-- the places that no count has passed yet, of a row that goes through such positions
+abbrev pub left_in : List ℕ → Row → List ℕ
+left_in positions row = shifted row.shift (drop row.passed positions)
+
+-- the same of a row beside its own positions
 abbrev pub places_left : Places → List ℕ
-places_left row = shifted row.shift (drop row.passed row.positions.items)
+places_left places = left_in places.positions.items places.row
 
 -- all its places, passed or not
 abbrev pub places_of : Places → List ℕ
-places_of row = shifted row.shift row.positions.items
+places_of places = shifted places.row.shift places.positions.items
 
 -- how far positions are shifted
 abbrev pub shift_of : Places → ℕ
-shift_of row = row.shift
+shift_of places = places.row.shift
 
 -- how many positions there is room for
 abbrev pub room_of : Places → ℕ
-room_of row = vec_capacity row.positions
+room_of places = vec_capacity places.positions
 
 -- places ascend strictly from `low` on
 abbrev pub Ascends : ℕ → List ℕ → Type 0
@@ -49,3 +55,7 @@ pub record HasPassed (place : ℕ) (old new : List ℕ) : Type 0 where
   pub number : ℕ
   pub left : new ≡ drop number old
   pub below : All (λ p. p < place) (take number old)
+
+-- the same of each of some sets
+abbrev pub HavePassed : ℕ → List (List ℕ) → List (List ℕ) → Type 0
+HavePassed place old new = AllZip (HasPassed place) old new

@@ -1,16 +1,18 @@
 -- What the terms of a phrase prefix show, as a cursor moves them.
-use Rattle.std.specs.Prelude.{◌≡◌, ℕ, ◌<◌, ◌≤◌, List, Result, Ok, Err, map, slice_index_or}
+use Rattle.std.specs.Prelude.{◌≡◌, ℕ, ◌<◌, ◌≤◌, Result, Ok, Err, slice_index_or}
 use Rattle.qm_docset.specs.Entry.{no_limits}
-use Rattle.qm_docset.specs.Lists.{lists, bounds}
+use Rattle.qm_docset.specs.Lists.{bounds}
 use Rattle.qm_docset.specs.declared.docset.DocSet.{Ghosts}
 use Rattle.qm_docset.specs.declared.numbers.TheConstants.{TERMINATED}
 use Rattle.qm_phrase.specs.PhrasePrefix.{PrefixLists, full_count, has_several, held, prefix_count}
 use Rattle.qm_phrase.specs.Places.{room_of, shift_of}
 use Rattle.qm_phrase.specs.Suffixes.{AreSuffixes, suffix_lists}
-use Rattle.qm_phrase.specs.Terms.{AreTerms}
+use Rattle.qm_phrase.specs.TermRows.{first_term}
+use Rattle.qm_phrase.specs.Terms.{AreTerms, shifts_in, term_lists, terms_in}
 use Rattle.qm_phrase.specs.declared.places.Places.{Places}
 use Rattle.qm_phrase.specs.declared.prefix_terms.PrefixTerms.{PrefixTerms}
 use Rattle.qm_phrase.specs.declared.prefix_terms.PrefixCounts.{PrefixCounts}
+use Rattle.qm_phrase.specs.declared.terms.TermPlaces.{TermPlaces}
 
 -- no document from one number to below another has a count
 abbrev pub IsBareOf : PrefixLists → ℕ → ℕ → Type 0
@@ -43,22 +45,22 @@ pub record IsFirstPrefix (target : ℕ) (t : PrefixLists) (found : ℕ × Prefix
 
 module _ {P : Type 0} (D : Ghosts P) where
   -- a buffer for the places that all full terms have: shifted as the first, with room for its places
-  pub record IsCommonBuffer (members : List P) (places : List Places) (common : Places) : Type 0 where
-    pub shift : shift_of common ≡ slice_index_or (map shift_of places) 0 0
-    pub room : (slice_index_or (bounds D members) 0 no_limits).room ≤ room_of common
+  pub record IsCommonBuffer (t : TermPlaces P) (common : Places) : Type 0 where
+    pub shift : shift_of common ≡ (first_term (terms_in t)).0
+    pub room : (slice_index_or (bounds D t.members.items) (first_term (terms_in t)).1 no_limits).room ≤ room_of common
 
   -- the terms of a phrase prefix, each a cursor, with room for their positions
   pub record ArePrefixTerms (s : PrefixTerms P) : Type 0 where
-    pub full : AreTerms D s.members.items s.places.items
-    pub common : IsCommonBuffer s.members.items s.places.items s.common
+    pub full : AreTerms D s.full
+    pub common : IsCommonBuffer s.full s.common
     pub suffixes : AreSuffixes D s.suffixes.items s.suffix_places
     pub shift : shift_of s.suffix_places ≤ 4294967295
 
   -- what they hold
   abbrev pub lists_of : PrefixTerms P → PrefixLists
   lists_of s = record {
-    full_shifts = map shift_of s.places.items;
-    full = lists D s.members.items;
+    full_shifts = shifts_in s.full;
+    full = term_lists D s.full;
     suffix_shift = shift_of s.suffix_places;
     suffixes = suffix_lists D s.suffixes.items;
   }

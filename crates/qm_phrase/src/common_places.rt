@@ -1,38 +1,43 @@
 //! The places that all of some terms have in a document.
 
-ghost use Rattle.std.specs.Prelude.{◌≡◌, ◌∷◌, ◌≤◌, [], All, length, map, min, slice_index_or};
+ghost use Rattle.std.specs.Prelude.{◌≡◌, ◌∷◌, ◌≤◌, [], All, length, min, slice_index_or};
 ghost use Rattle.qm_phrase.specs.PhrasePrefix.{IsCommonOf, common_count};
 ghost use Rattle.qm_phrase.specs.Places.{Ascends, places_left, places_of, room_of, shift_of};
+ghost use Rattle.qm_phrase.specs.TermRows.{AreInside, first_term, rows_left, terms_of};
 
 use crate::counting::{first_places, pass};
-use crate::places::{ALL_PLACES, Places};
+use crate::places::Places;
+use crate::row::ALL_PLACES;
+use crate::term_row::TermRow;
 
-/// Leaves in `common` the places that all rows have.
+/// Leaves in `common` the places that all terms have.
 ///
-/// One pass: the least of the first places is common exactly where it is the greatest of them too,
-/// and then every row that begins with it passes it. So it takes at most the number of places times
-/// the number of rows. Asks that `common` is shifted as the first row, and has room for its places.
-pub(crate) fn collect_common(rows: &mut [Places], common: &mut Places)
+/// One pass: the least of the first places is common exactly where it is the greatest of them too, and
+/// then every term that begins with it passes it, and at once what lies below the greatest. So it takes
+/// at most the number of places times the number of terms. Asks that `common` is shifted as the first
+/// term, and has room for its places.
+pub(crate) fn collect_common(rows: &mut [TermRow], positions: &[Vec<u32>], common: &mut Places)
     requires some { 1 ≤ length rows.old }
-    requires rows { All (Ascends 0) (map places_left rows.old) }
-    requires shift { shift_of common.old ≡ slice_index_or (map shift_of rows.old) 0 0 }
-    requires room { length (slice_index_or (map places_left rows.old) 0 []) ≤ room_of common.old }
-    ensures common { IsCommonOf (map places_left rows.old) (places_of common.new) }
+    requires inside { AreInside (length positions.now) (terms_of rows.old) }
+    requires rows { All (Ascends 0) (rows_left positions.now rows.old) }
+    requires shift { shift_of common.old ≡ (first_term (terms_of rows.old)).0 }
+    requires room { length (slice_index_or (rows_left positions.now rows.old) 0 []) ≤ room_of common.old }
+    ensures common { IsCommonOf (rows_left positions.now rows.old) (places_of common.new) }
     ensures shift { shift_of common.new ≡ shift_of common.old }
     ensures room { room_of common.old ≤ room_of common.new }
-    ensures shifts { map shift_of rows.new ≡ map shift_of rows.old }
-    ensures rooms { map room_of rows.new ≡ map room_of rows.old }
+    ensures terms { terms_of rows.new ≡ terms_of rows.old }
 {
     common.clear();
     loop {
-        let (least, greatest) = first_places(rows);
+        let (least, greatest) = first_places(rows, positions);
         if greatest == ALL_PLACES {
             return;
         }
         if least == greatest {
-            common.push_first(&rows[0]);
+            let first = &rows[0];
+            common.push_first(&positions[first.member], &first.row);
         }
-        pass(rows, least);
+        pass(rows, positions, least, greatest);
     }
 }
 

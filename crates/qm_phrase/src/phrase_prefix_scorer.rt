@@ -1,16 +1,21 @@
 //! The documents in which the full terms of a phrase prefix stand together with a term that begins
 //! with the prefix.
 
-ghost use Rattle.std.specs.Prelude.{◌≡◌, ℕ, ◌<◌, ◌≤◌, All, IfOk, IsOkUnless, drop, map, vec_len};
+ghost use Rattle.std.specs.Prelude.{◌≡◌, ℕ, ◌<◌, ◌≤◌, All, IfOk, IsOkUnless, drop, length, map, vec_len};
 ghost use Rattle.qm_docset.specs.Cursor.{IsSeekAnswer, OnFound};
 ghost use Rattle.qm_docset.specs.Entry.{from, head_document};
-ghost use Rattle.qm_phrase.specs.PhrasePrefix.{ListsPrefix, held, lists_at};
+ghost use Rattle.qm_docset.specs.Lists.{lists};
+ghost use Rattle.qm_phrase.specs.PhrasePrefix.{ListsPrefix, ListsPrefixOver, held, lists_at, lists_over};
 ghost use Rattle.qm_phrase.specs.PhrasePrefixFacts.{AreEntries-prefix};
 ghost use Rattle.qm_phrase.specs.PhrasePrefixScorer.{PrefixAlike, CountsAs, IsOnPhrasePrefix, IsPhrasePrefix, phrase_prefix_count, phrase_prefix_left, phrase_prefix_scorer_limits};
+ghost use Rattle.qm_phrase.specs.PhraseTerms.{lists_given, members_of, offsets_of, terms_given};
 ghost use Rattle.qm_phrase.specs.Places.{shift_of};
+ghost use Rattle.qm_phrase.specs.TermRows.{each_of};
+ghost use Rattle.qm_phrase.specs.Terms.{shifts_in, terms_in};
 ghost use Rattle.qm_postings.specs.FieldNorms.{norm_ids};
 ghost use Rattle.qm_term.specs.TermScorer.{AreCovered};
 
+use crate::phrase_terms::PhraseTerms;
 use crate::prefix_terms::{PrefixCounts, PrefixTerms};
 use qm_combine::Scorer;
 use qm_docset::{DocId, DocSet, Score, SeekDangerResult, TERMINATED};
@@ -71,7 +76,39 @@ impl<'a, P: Postings> PhrasePrefixScorer<'a, P> {
         ensures counts { IfOk result (CountsAs P.DocSet (lists_at P.DocSet term_postings.items suffix_pos suffixes.items)) }
         ensures memory { IsOkUnless result QueryError.Memory }
     {
-        let terms = PrefixTerms::new(alloc, term_postings, suffixes, suffix_pos)?;
+        let terms = PhraseTerms::from_postings(alloc, term_postings)?;
+        PhrasePrefixScorer::over_terms(
+            alloc,
+            terms,
+            similarity_weight,
+            fieldnorm_reader,
+            suffixes,
+            suffix_pos,
+        )
+    }
+
+    /// The same of full terms of which some may share their postings.
+    pub fn over_terms(
+        alloc: Global,
+        terms: PhraseTerms<P>,
+        similarity_weight: Option<Bm25Weight>,
+        fieldnorm_reader: FieldNormReader<'a>,
+        suffixes: Vec<P>,
+        suffix_pos: usize,
+    ) -> Result<PhrasePrefixScorer<'a, P>, QueryError>
+        requires some { 1 ≤ length (terms_given terms) }
+        requires valid { All P.valid (members_of terms) }
+        requires suffixes { All P.valid suffixes.items }
+        requires offsets { All (λ offset. offset ≤ 4294967295) (offsets_of terms) }
+        requires suffix_pos { suffix_pos ≤ 4294967295 }
+        requires covered { All (AreCovered (norm_ids fieldnorm_reader)) (lists_given P.DocSet terms) }
+        ensures lists { IfOk result (ListsPrefixOver ⟦<Self as DocSet>⟧ similarity_weight fieldnorm_reader.entry
+            (lists_over (offsets_of terms) (lists_given P.DocSet terms) suffix_pos (lists P.DocSet suffixes.items))) }
+        ensures counts { IfOk result (CountsAs P.DocSet
+            (lists_over (offsets_of terms) (lists_given P.DocSet terms) suffix_pos (lists P.DocSet suffixes.items))) }
+        ensures memory { IsOkUnless result QueryError.Memory }
+    {
+        let terms = PrefixTerms::new(alloc, terms, suffixes, suffix_pos)?;
         let mut scorer = PhrasePrefixScorer {
             terms,
             similarity_weight,
@@ -146,7 +183,7 @@ impl<'a, P: Postings> DocSet for PhrasePrefixScorer<'a, P> {
         self.terms.cost()
     }
 
-    ghost ascending = { λ s h. AreEntries-prefix s.similarity_weight (norm_ids s.fieldnorm_reader) (record { full_shifts = map shift_of s.terms.places.items; full = map P.entries s.terms.members.items; suffix_shift = shift_of s.terms.suffix_places; suffixes = map (λ suffix. P.entries suffix.postings) s.terms.suffixes.items }) };
+    ghost ascending = { λ s h. AreEntries-prefix s.similarity_weight (norm_ids s.fieldnorm_reader) (record { full_shifts = shifts_in s.terms.full; full = each_of (map P.entries s.terms.full.members.items) (terms_in s.terms.full); suffix_shift = shift_of s.terms.suffix_places; suffixes = map (λ suffix. P.entries suffix.postings) s.terms.suffixes.items }) };
 }
 
 impl<'a, P: Postings> Scorer for PhrasePrefixScorer<'a, P> {

@@ -1,18 +1,19 @@
 //! The documents in which the terms of a phrase stand together.
 
-ghost use Rattle.std.specs.Prelude.{◌≡◌, ◌<◌, ◌≤◌, All, IfOk, IsOkUnless, true, map, min, vec_len};
+ghost use Rattle.std.specs.Prelude.{◌≡◌, ◌<◌, ◌≤◌, All, IfOk, IsOkUnless, true, length, map, min, vec_len};
 ghost use Rattle.qm_docset.specs.Cursor.{IsSeekAnswer, OnFound};
 ghost use Rattle.qm_docset.specs.Entry.{from, head_document};
-ghost use Rattle.qm_phrase.specs.Phrase.{ListsPhrase, count_at};
-ghost use Rattle.qm_phrase.specs.Places.{shift_of};
+ghost use Rattle.qm_phrase.specs.Phrase.{ListsPhrase, ListsPhraseOver};
+ghost use Rattle.qm_phrase.specs.PhraseTerms.{lists_given, members_of, offsets_of, terms_given};
+ghost use Rattle.qm_phrase.specs.TermRows.{each_of};
+ghost use Rattle.qm_phrase.specs.Terms.{shifts_in, terms_in};
 ghost use Rattle.qm_phrase.specs.PhraseFacts.{AreEntries-phrase};
-ghost use Rattle.qm_phrase.specs.PhraseScorer.{CountsAlike, CountsPhrase, IsOnPhrase, IsPhrase, is_weighted, most_counted, phrase_left, phrase_scorer_limits, phrase_starts};
+ghost use Rattle.qm_phrase.specs.PhraseScorer.{CountsAlike, CountsPhrase, CountsPhraseOver, IsOnPhrase, IsPhrase, is_weighted, most_counted, phrase_left, phrase_scorer_limits, phrase_starts};
 ghost use Rattle.qm_postings.specs.FieldNorms.{norm_ids};
 ghost use Rattle.qm_term.specs.TermScorer.{AreCovered};
 
-use crate::offsets::{greatest_offset, split_terms};
-use crate::places::Places;
-use crate::terms::{look_at, seek_start};
+use crate::phrase_terms::{PhraseTerms, greatest_offset};
+use crate::terms::TermPlaces;
 use qm_combine::Scorer;
 use qm_docset::{DocId, DocSet, Score, SeekDangerResult, TERMINATED};
 use qm_postings::{FieldNormReader, Postings};
@@ -28,12 +29,12 @@ use std::alloc::Global;
 /// start. With a weight it scores what the weight gives its count at its length id, and else 1.
 ///
 /// The terms are asked for their documents in turn, and positions are read only of documents that all
-/// of them have. To count the starts of a document costs at most the number of its places times the
-/// number of terms; without a weight the first start is enough. No call takes memory.
+/// of them have, once for terms that share their postings. To count the starts of a document costs at
+/// most the number of its places times the number of terms; without a weight the first start is enough.
+/// No call takes memory.
 #[derive(Drop)]
 pub struct PhraseScorer<'a, P> {
-    members: Vec<P>,
-    places: Vec<Places>,
+    terms: TermPlaces<P>,
     similarity_weight: Option<Bm25Weight>,
     fieldnorm_reader: FieldNormReader<'a>,
     slop: u32,
@@ -65,11 +66,31 @@ impl<'a, P: Postings> PhraseScorer<'a, P> {
         ensures counts { IfOk result (CountsPhrase P.DocSet similarity_weight slop term_postings.items) }
         ensures memory { IsOkUnless result QueryError.Memory }
     {
-        let greatest = greatest_offset(&term_postings);
-        let (members, places) = split_terms(alloc, term_postings, greatest)?;
+        let terms = PhraseTerms::from_postings(alloc, term_postings)?;
+        PhraseScorer::over_terms(alloc, terms, similarity_weight, fieldnorm_reader, slop)
+    }
+
+    /// The same of terms of which some may share their postings.
+    pub fn over_terms(
+        alloc: Global,
+        terms: PhraseTerms<P>,
+        similarity_weight: Option<Bm25Weight>,
+        fieldnorm_reader: FieldNormReader<'a>,
+        slop: u32,
+    ) -> Result<PhraseScorer<'a, P>, QueryError>
+        requires two { 2 ≤ length (terms_given terms) }
+        requires valid { All P.valid (members_of terms) }
+        requires offsets { All (λ offset. offset ≤ 4294967295) (offsets_of terms) }
+        requires covered { All (AreCovered (norm_ids fieldnorm_reader)) (lists_given P.DocSet terms) }
+        ensures lists { IfOk result (ListsPhraseOver
+            ⟦<Self as DocSet>⟧ similarity_weight fieldnorm_reader.entry slop (offsets_of terms) (lists_given P.DocSet terms)) }
+        ensures counts { IfOk result (CountsPhraseOver P.DocSet similarity_weight slop (offsets_of terms) (lists_given P.DocSet terms)) }
+        ensures memory { IsOkUnless result QueryError.Memory }
+    {
+        let greatest = greatest_offset(&terms.terms);
+        let terms = TermPlaces::new(alloc, terms, greatest)?;
         let mut scorer = PhraseScorer {
-            members,
-            places,
+            terms,
             similarity_weight,
             fieldnorm_reader,
             slop,
@@ -124,7 +145,7 @@ impl<'a, P: Postings> DocSet for PhraseScorer<'a, P> {
 
     fn seek(&mut self, target: DocId) -> DocId {
         let most = self.most();
-        let (doc, count) = seek_start(&mut self.members, &mut self.places, self.slop, target, most);
+        let (doc, count) = self.terms.seek_start(self.slop, target, most);
         self.doc = doc;
         self.phrase_count = count;
         doc
@@ -136,7 +157,7 @@ impl<'a, P: Postings> DocSet for PhraseScorer<'a, P> {
             return SeekDangerResult::SeekLowerBound(TERMINATED);
         }
         let most = self.most();
-        match look_at(&mut self.members, &mut self.places, self.slop, target, most) {
+        match self.terms.look_at(self.slop, target, most) {
             Ok(count) => {
                 self.doc = target;
                 self.phrase_count = count;
@@ -147,22 +168,14 @@ impl<'a, P: Postings> DocSet for PhraseScorer<'a, P> {
     }
 
     fn size_hint(&self) -> u32 {
-        let mut hint = u32::MAX;
-        for member in &self.members {
-            hint = member.size_hint().min(hint);
-        }
-        hint
+        self.terms.size_hint()
     }
 
     fn cost(&self) -> u64 {
-        let mut cost = 0u64;
-        for member in &self.members {
-            cost = cost.saturating_add(member.cost());
-        }
-        cost
+        self.terms.cost()
     }
 
-    ghost ascending = { λ s h. AreEntries-phrase s.similarity_weight (norm_ids s.fieldnorm_reader) s.slop (map shift_of s.places.items) (map P.entries s.members.items) };
+    ghost ascending = { λ s h. AreEntries-phrase s.similarity_weight (norm_ids s.fieldnorm_reader) s.slop (shifts_in s.terms) (each_of (map P.entries s.terms.members.items) (terms_in s.terms)) };
 }
 
 impl<'a, P: Postings> Scorer for PhraseScorer<'a, P> {

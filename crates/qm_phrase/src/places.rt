@@ -1,24 +1,20 @@
-//! The places of one term in a document.
+//! The places of one term in a document, with its positions.
 
 ghost use Rattle.std.specs.Prelude.{◌≡◌, ◌<◌, ◌≤◌, ◌++◌, ◌∷◌, [], IfOk, length, min};
 ghost use Rattle.qm_docset.specs.Entry.{head_document, head_positions};
 ghost use Rattle.qm_postings.specs.Positions.{shifted};
-ghost use Rattle.qm_phrase.specs.Places.{Ascends, HasPassed, first_place, past, places_left, places_of, room_of, shift_of};
+ghost use Rattle.qm_phrase.specs.Places.{Ascends, HasPassed, first_place, left_in, past, places_left, places_of, room_of, shift_of};
 
-use qm_docset::{TERMINATED, gallop};
+use crate::row::{ALL_PLACES, Row};
+use qm_docset::TERMINATED;
 use qm_postings::Postings;
 use std::alloc::{AllocError, Global};
 
-/// Past every place: a position and a shift are below 4294967296 each.
-pub(crate) const ALL_PLACES: u64 = 8589934592;
-
-/// The positions of one term in the document looked at, and how many of them a count has passed. The
-/// shift is added where places are compared, in 64 bits.
+/// The positions of one term in the document looked at, and the row that goes through them.
 #[derive(Debug, Drop)]
 pub(crate) struct Places {
-    pub(crate) shift: u32,
+    pub(crate) row: Row,
     pub(crate) positions: Vec<u32>,
-    pub(crate) passed: usize,
 }
 
 impl Places {
@@ -28,13 +24,12 @@ impl Places {
         shift: u32,
         max_term_freq: u64,
     ) -> Result<Places, AllocError>
-        ensures shift { IfOk result (λ row. shift_of row ≡ shift) }
-        ensures room { IfOk result (λ row. room_of row ≡ max_term_freq) }
+        ensures shift { IfOk result (λ places. shift_of places ≡ shift) }
+        ensures room { IfOk result (λ places. room_of places ≡ max_term_freq) }
     {
         Ok(Places {
-            shift,
+            row: Row { shift, passed: 0 },
             positions: Vec::with_capacity(alloc, max_term_freq as usize)?,
-            passed: 0,
         })
     }
 
@@ -42,10 +37,7 @@ impl Places {
     pub(crate) fn first(&self) -> u64
         ensures { result ≡ first_place (places_left self.now) }
     {
-        match self.positions.get(self.passed) {
-            Some(position) => u64::from(*position) + u64::from(self.shift),
-            None => ALL_PLACES,
-        }
+        self.row.first(&self.positions)
     }
 
     /// Passes the first place, where it is this one.
@@ -56,9 +48,7 @@ impl Places {
         ensures shift { shift_of self.new ≡ shift_of self.old }
         ensures room { room_of self.new ≡ room_of self.old }
     {
-        if self.first() == place {
-            self.passed += 1;
-        }
+        self.row.pass(&self.positions, place);
     }
 
     /// Passes the places below this one. Costs the logarithm of their number.
@@ -69,12 +59,7 @@ impl Places {
         ensures shift { shift_of self.new ≡ shift_of self.old }
         ensures room { room_of self.new ≡ room_of self.old }
     {
-        if self.passed < self.positions.len() {
-            let position = place.saturating_sub(u64::from(self.shift));
-            let target = position.min(u64::from(u32::MAX)) as u32;
-            let left = &self.positions[self.passed..];
-            self.passed += gallop(left, 0, target);
-        }
+        self.row.pass_below(&self.positions, place);
     }
 
     /// Begins anew with its first place.
@@ -84,7 +69,7 @@ impl Places {
         ensures shift { shift_of self.new ≡ shift_of self.old }
         ensures room { room_of self.new ≡ room_of self.old }
     {
-        self.passed = 0;
+        self.row.passed = 0;
     }
 
     /// Drops all places.
@@ -94,19 +79,19 @@ impl Places {
         ensures room { room_of self.old ≤ room_of self.new }
     {
         self.positions.clear();
-        self.passed = 0;
+        self.row.passed = 0;
     }
 
     /// Adds the first place of a row that is shifted alike. Takes no memory: asks for the room.
-    pub(crate) fn push_first(&mut self, row: &Places)
-        requires shift { shift_of self.old ≡ shift_of row.now }
-        requires some { first_place (places_left row.now) < ALL_PLACES }
+    pub(crate) fn push_first(&mut self, positions: &[u32], row: &Row)
+        requires shift { shift_of self.old ≡ row.now.shift }
+        requires some { first_place (left_in positions.now row.now) < ALL_PLACES }
         requires room { length (places_of self.old) < room_of self.old }
-        ensures all { places_of self.new ≡ places_of self.old ++ first_place (places_left row.now) ∷ [] }
+        ensures all { places_of self.new ≡ places_of self.old ++ first_place (left_in positions.now row.now) ∷ [] }
         ensures shift { shift_of self.new ≡ shift_of self.old }
         ensures room { room_of self.old ≤ room_of self.new }
     {
-        self.positions.push(row.positions[row.passed]).unwrap();
+        self.positions.push(positions[row.passed]).unwrap();
     }
 
     /// How many places there are, held at 4294967295.
@@ -132,6 +117,6 @@ impl Places {
         ensures placed { P.placed postings.new }
     {
         postings.positions(&mut self.positions);
-        self.passed = 0;
+        self.row.passed = 0;
     }
 }

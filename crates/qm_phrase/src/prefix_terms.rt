@@ -1,13 +1,15 @@
 //! The terms of a phrase prefix: the full ones, and those that begin with the prefix.
 
-ghost use Rattle.std.specs.Prelude.{◌≡◌, ◌<◌, ◌≤◌, All, IfOk, vec_len};
-ghost use Rattle.qm_phrase.specs.PhrasePrefix.{has_several, lists_at};
+ghost use Rattle.std.specs.Prelude.{◌≡◌, ◌<◌, ◌≤◌, All, IfOk, length};
+ghost use Rattle.qm_docset.specs.Lists.{lists};
+ghost use Rattle.qm_phrase.specs.PhrasePrefix.{has_several, lists_over};
+ghost use Rattle.qm_phrase.specs.PhraseTerms.{lists_given, members_of, offsets_of, terms_given};
 ghost use Rattle.qm_phrase.specs.PrefixTerms.{ArePrefixTerms, HaveGoneOn, IsFirstPrefix, IsPrefixLook, lists_of};
 
-use crate::full_terms::look_at_full;
-use crate::offsets::{greatest_offset, split_terms};
+use crate::phrase_terms::{PhraseTerms, greatest_offset};
 use crate::places::Places;
 use crate::suffixes::{Suffix, count_suffixes, row_of_suffixes};
+use crate::terms::TermPlaces;
 use qm_docset::{DocId, DocSet, TERMINATED};
 use qm_postings::Postings;
 use std::alloc::{AllocError, Global};
@@ -20,13 +22,12 @@ pub(crate) struct PrefixCounts {
     pub(crate) full: u32,
 }
 
-/// The postings of the full terms and of those that begin with the prefix, with buffers for their
-/// positions: one for each full term, one for the places that all of these have in common, and one for
-/// all that begin with the prefix. They need not stand anywhere between two calls.
+/// The full terms, and those that begin with the prefix, with one more buffer for the places that all
+/// full terms have in common, and one for all that begin with the prefix. They need not stand anywhere
+/// between two calls.
 #[derive(Drop)]
 pub(crate) struct PrefixTerms<P> {
-    members: Vec<P>,
-    places: Vec<Places>,
+    full: TermPlaces<P>,
     common: Places,
     suffixes: Vec<Suffix<P>>,
     suffix_places: Places,
@@ -38,27 +39,27 @@ impl<P: Postings> PrefixTerms<P> {
     /// as its `max_term_freq` says.
     pub(crate) fn new(
         alloc: Global,
-        term_postings: Vec<(usize, P)>,
+        terms: PhraseTerms<P>,
         suffixes: Vec<P>,
         suffix_pos: usize,
     ) -> Result<PrefixTerms<P>, AllocError>
-        requires some { 1 ≤ vec_len term_postings }
-        requires valid { All (λ pair. P.valid pair.1) term_postings.items }
+        requires some { 1 ≤ length (terms_given terms) }
+        requires valid { All P.valid (members_of terms) }
         requires suffixes { All P.valid suffixes.items }
-        requires offsets { All (λ pair. pair.0 ≤ 4294967295) term_postings.items }
+        requires offsets { All (λ offset. offset ≤ 4294967295) (offsets_of terms) }
         requires suffix_pos { suffix_pos ≤ 4294967295 }
         ensures valid { IfOk result (ArePrefixTerms P.DocSet) }
-        ensures lists { IfOk result (λ s. lists_of P.DocSet s ≡ lists_at P.DocSet term_postings.items suffix_pos suffixes.items) }
+        ensures lists { IfOk result (λ s.
+            lists_of P.DocSet s ≡ lists_over (offsets_of terms) (lists_given P.DocSet terms) suffix_pos (lists P.DocSet suffixes.items)) }
     {
-        let greatest = greatest_offset(&term_postings).max(suffix_pos);
-        let (members, places) = split_terms(alloc, term_postings, greatest)?;
-        let common = Places::with_room(alloc, places[0].shift, members[0].max_term_freq())?;
+        let greatest = greatest_offset(&terms.terms).max(suffix_pos);
+        let full = TermPlaces::new(alloc, terms, greatest)?;
+        let common = full.common_buffer(alloc)?;
         let shift = greatest.saturating_sub(suffix_pos) as u32;
         let suffix_places = Places::with_room(alloc, shift, greatest_freq(&suffixes))?;
         let suffixes = row_of_suffixes(alloc, suffixes, &suffix_places)?;
         Ok(PrefixTerms {
-            members,
-            places,
+            full,
             common,
             suffixes,
             suffix_places,
@@ -69,7 +70,7 @@ impl<P: Postings> PrefixTerms<P> {
     pub(crate) fn has_several(&self) -> bool
         ensures { result ≡ has_several (lists_of P.DocSet self.now) }
     {
-        self.places.len() >= 2
+        self.full.rows.len() >= 2
     }
 
     /// Looks at one document: answers its counts, of which that of the prefix is not 0; or a bound past
@@ -82,7 +83,7 @@ impl<P: Postings> PrefixTerms<P> {
         ensures moved { HaveGoneOn doc (lists_of P.DocSet self.old) (lists_of P.DocSet self.new) }
         ensures valid { ArePrefixTerms P.DocSet self.new }
     {
-        let full = look_at_full(&mut self.members, &mut self.places, &mut self.common, doc)?;
+        let full = self.full.look_at_full(&mut self.common, doc)?;
         let suffix_places = &mut self.suffix_places;
         match count_suffixes(&mut self.suffixes, suffix_places, &mut self.common, doc).0 {
             0 => Err(doc + 1),
@@ -116,28 +117,21 @@ impl<P: Postings> PrefixTerms<P> {
         ensures moved { HaveGoneOn TERMINATED (lists_of P.DocSet self.old) (lists_of P.DocSet self.new) }
         ensures valid { ArePrefixTerms P.DocSet self.new }
     {
-        self.members[0].seek(TERMINATED);
+        self.full.go_to_end();
     }
 
     /// A number of documents near which the list is, which no answer depends on.
     pub(crate) fn size_hint(&self) -> u32
         requires { ArePrefixTerms P.DocSet self.now }
     {
-        let mut hint = u32::MAX;
-        for member in &self.members {
-            hint = member.size_hint().min(hint);
-        }
-        hint
+        self.full.size_hint()
     }
 
     /// What a pass over all documents costs.
     pub(crate) fn cost(&self) -> u64
         requires { ArePrefixTerms P.DocSet self.now }
     {
-        let mut cost = 0u64;
-        for member in &self.members {
-            cost = cost.saturating_add(member.cost());
-        }
+        let mut cost = self.full.cost();
         for suffix in &self.suffixes {
             cost = cost.saturating_add(suffix.postings.cost());
         }

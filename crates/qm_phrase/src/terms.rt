@@ -1,98 +1,206 @@
-//! The terms of a phrase: the postings of each, and beside them a buffer for its positions. They need
-//! not stand anywhere between two calls.
+//! The terms of a phrase: the postings of each, and beside them buffers for positions. They need not
+//! stand anywhere between two calls.
 
-ghost use Rattle.std.specs.Prelude.{◌≡◌, ℕ, ◌<◌, ◌≤◌, All, map, min};
+ghost use Rattle.std.specs.Prelude.{◌≡◌, ℕ, ◌-◌, ◌<◌, ◌≤◌, All, IfOk, length, map, min, vec_capacity};
 ghost use Rattle.qm_docset.specs.Entry.{head_document, head_positions};
-ghost use Rattle.qm_docset.specs.Lists.{lists, bounds};
-ghost use Rattle.qm_phrase.specs.Places.{places_left, room_of, shift_of};
-ghost use Rattle.qm_phrase.specs.Phrase.{shifted_each};
+ghost use Rattle.qm_docset.specs.Lists.{bounds, lists};
+ghost use Rattle.qm_phrase.specs.PhraseTerms.{lists_given, members_of, offsets_of, terms_given};
 ghost use Rattle.qm_phrase.specs.Starts.{starts};
-ghost use Rattle.qm_phrase.specs.Terms.{AreMovedTo, AreRoomy, AreTerms, IsFirstStart, IsLook};
+ghost use Rattle.qm_phrase.specs.TermRows.{positions_in, rows_left, terms_of};
+ghost use Rattle.qm_phrase.specs.Terms.{AreHere, AreKept, AreMovedTo, AreRoomy, AreTerms, IsFirstStart, IsLook, begun, sets_here, shifts_in, term_lists};
 
 use crate::counting::count_starts;
-use crate::places::Places;
+use crate::phrase_terms::PhraseTerms;
+use crate::row::Row;
+use crate::term_row::TermRow;
 use qm_combine::seek_each;
 use qm_docset::{DocId, DocSet, SeekDangerResult, TERMINATED};
 use qm_postings::Postings;
+use std::alloc::{AllocError, Global};
 
-/// Reads the positions of every term in the document that all of them stand on. Takes no memory.
-pub(crate) fn read_places<P: Postings>(members: &mut [P], places: &mut [Places])
+/// The terms of a phrase, each over the positions of a member, with room for these.
+#[derive(Drop)]
+pub(crate) struct TermPlaces<P> {
+    pub(crate) members: Vec<P>,
+    pub(crate) positions: Vec<Vec<u32>>,
+    pub(crate) rows: Vec<TermRow>,
+}
+
+impl<P: Postings> TermPlaces<P> {
+    /// These terms with their buffers: positions are shifted by the greatest offset less the term's own.
+    /// Asks for at least one term, and that the greatest offset is at most 4294967295. Fails where there
+    /// is no room.
+    pub(crate) fn new(
+        alloc: Global,
+        terms: PhraseTerms<P>,
+        greatest: usize,
+    ) -> Result<TermPlaces<P>, AllocError>
+        requires some { 0 < length (terms_given terms) }
+        requires valid { All P.valid (members_of terms) }
+        requires greatest { greatest ≤ 4294967295 }
+        ensures valid { IfOk result (AreTerms P.DocSet) }
+        ensures shifts { IfOk result (λ made. shifts_in made ≡ map (λ offset. greatest - offset) (offsets_of terms)) }
+        ensures lists { IfOk result (λ made. term_lists P.DocSet made ≡ lists_given P.DocSet terms) }
+    {
+        let positions = buffers_of(alloc, &terms.members)?;
+        let rows = rows_of(alloc, &terms.terms, greatest)?;
+        Ok(TermPlaces {
+            members: terms.members,
+            positions,
+            rows,
+        })
+    }
+
+    /// Reads the positions of every member in the document that all of them stand on, and begins anew.
+    /// Takes no memory.
+    pub(crate) fn read_places(&mut self)
+        requires valid { AreTerms P.DocSet self.old }
+        requires here { AreHere P.DocSet self.old }
+        ensures sets { rows_left self.new.positions.items self.new.rows.items ≡ sets_here P.DocSet self.old }
+        ensures kept { AreKept P.DocSet self.old self.new }
+    {
+        read_positions(&mut self.members, &mut self.positions);
+        rewind(&mut self.rows);
+    }
+
+    /// The number of starts in the document that all terms stand on, or `most` where there are more.
+    fn count_here(&mut self, slop: u32, most: u32) -> u32
+        requires valid { AreTerms P.DocSet self.old }
+        requires here { AreHere P.DocSet self.old }
+        ensures count { result ≡ min most (starts slop (sets_here P.DocSet self.old)) }
+        ensures kept { AreKept P.DocSet self.old self.new }
+    {
+        self.read_places();
+        count_starts(&mut self.rows, &self.positions, slop, most)
+    }
+
+    /// Looks at one document: answers how many starts it has, or `most` where there are more; or, where it
+    /// has none, a bound past it before which no document has. Positions are read only where all terms
+    /// have the document. Takes no memory.
+    pub(crate) fn look_at(&mut self, slop: u32, doc: DocId, most: u32) -> Result<u32, DocId>
+        requires valid { AreTerms P.DocSet self.old }
+        requires doc { doc < TERMINATED }
+        requires most { 0 < most }
+        ensures answer { IsLook P.DocSet slop most doc self.old result }
+        ensures moved { AreMovedTo P.DocSet slop doc self.old self.new }
+    {
+        if let SeekDangerResult::SeekLowerBound(bound) = seek_each(&mut self.members, doc) {
+            return Err(bound);
+        }
+        match self.count_here(slop, most) {
+            0 => Err(doc + 1),
+            count => Ok(count),
+        }
+    }
+
+    /// Goes to the first document from a target on that has a start, and answers it with how many it has,
+    /// or `most` where there are more; or answers [`TERMINATED`], and sends one term to its end. Takes no
+    /// memory.
+    pub(crate) fn seek_start(&mut self, slop: u32, target: DocId, most: u32) -> (DocId, u32)
+        requires valid { AreTerms P.DocSet self.old }
+        requires target { target ≤ TERMINATED }
+        requires most { 0 < most }
+        ensures found { IsFirstStart P.DocSet slop most target self.old result }
+        ensures moved { AreMovedTo P.DocSet slop result.0 self.old self.new }
+    {
+        let mut doc = target;
+        while doc < TERMINATED {
+            match self.look_at(slop, doc, most) {
+                Ok(count) => return (doc, count),
+                Err(bound) => doc = bound,
+            }
+        }
+        self.go_to_end();
+        (TERMINATED, 0)
+    }
+
+    /// Sends one term to its end, so that no document is left.
+    pub(crate) fn go_to_end(&mut self)
+        requires valid { AreTerms P.DocSet self.old }
+        ensures moved { (slop : ℕ) → AreMovedTo P.DocSet slop TERMINATED self.old self.new }
+        ensures limits { bounds P.DocSet self.new.members.items ≡ bounds P.DocSet self.old.members.items }
+    {
+        self.members[0].seek(TERMINATED);
+    }
+
+    /// A number of documents near which the list is, which no answer depends on.
+    pub(crate) fn size_hint(&self) -> u32
+        requires { AreTerms P.DocSet self.now }
+    {
+        let mut hint = u32::MAX;
+        for member in &self.members {
+            hint = member.size_hint().min(hint);
+        }
+        hint
+    }
+
+    /// What a pass over all documents of the terms costs.
+    pub(crate) fn cost(&self) -> u64
+        requires { AreTerms P.DocSet self.now }
+    {
+        let mut cost = 0u64;
+        for member in &self.members {
+            cost = cost.saturating_add(member.cost());
+        }
+        cost
+    }
+}
+
+// A buffer for each member, with room for as many positions as its `max_term_freq` says.
+fn buffers_of<P: Postings>(alloc: Global, members: &[P]) -> Result<Vec<Vec<u32>>, AllocError>
+    requires { All P.valid members.now }
+    ensures { IfOk result (λ made. AreRoomy (bounds P.DocSet members.now) (map vec_capacity made.items)) }
+{
+    let mut buffers = Vec::with_capacity(alloc, members.len())?;
+    // the members so far have theirs
+    for member in members {
+        buffers.push(Vec::with_capacity(alloc, member.max_term_freq() as usize)?)?;
+    }
+    Ok(buffers)
+}
+
+// The row of each term, shifted by the greatest offset less its own.
+fn rows_of(
+    alloc: Global,
+    terms: &[(usize, usize)],
+    greatest: usize,
+) -> Result<Vec<TermRow>, AllocError>
+    requires { greatest ≤ 4294967295 }
+    ensures { IfOk result (λ made. terms_of made.items ≡ map (λ t. (greatest - t.0, t.1)) terms.now) }
+{
+    let mut rows = Vec::with_capacity(alloc, terms.len())?;
+    // the terms so far have theirs
+    for (offset, member) in terms {
+        let shift = greatest.saturating_sub(*offset) as u32;
+        rows.push(TermRow {
+            member: *member,
+            row: Row { shift, passed: 0 },
+        })?;
+    }
+    Ok(rows)
+}
+
+// Reads the positions of every member in the document that it stands on. Takes no memory.
+fn read_positions<P: Postings>(members: &mut [P], positions: &mut [Vec<u32>])
     requires valid { All P.valid members.old }
     requires here { All (λ m. P.placed m × (head_document (P.entries m) < TERMINATED)) members.old }
-    requires roomy { AreRoomy (bounds P.DocSet members.old) (map room_of places.old) }
-    ensures sets { map places_left places.new ≡ shifted_each (map shift_of places.old) (map head_positions (lists P.DocSet members.old)) }
-    ensures shifts { map shift_of places.new ≡ map shift_of places.old }
-    ensures roomy { AreRoomy (bounds P.DocSet members.new) (map room_of places.new) }
+    requires roomy { AreRoomy (bounds P.DocSet members.old) (map vec_capacity positions.old) }
+    ensures positions { positions_in positions.new ≡ map head_positions (lists P.DocSet members.old) }
+    ensures roomy { AreRoomy (bounds P.DocSet members.new) (map vec_capacity positions.new) }
     ensures entries { lists P.DocSet members.new ≡ lists P.DocSet members.old }
     ensures limits { bounds P.DocSet members.new ≡ bounds P.DocSet members.old }
     ensures valid { All P.valid members.new }
 {
-    for (i, row) in places.iter_mut().enumerate() {
-        row.read(&mut members[i]);
+    for (i, buffer) in positions.iter_mut().enumerate() {
+        members[i].positions(buffer);
     }
 }
 
-/// The number of starts in the document that all terms stand on, or `most` where there are more.
-fn count_here<P: Postings>(members: &mut [P], places: &mut [Places], slop: u32, most: u32) -> u32
-    requires valid { AreTerms P.DocSet members.old places.old }
-    requires here { All (λ m. P.placed m × (head_document (P.entries m) < TERMINATED)) members.old }
-    ensures count { result ≡ min most (starts slop (shifted_each (map shift_of places.old) (map head_positions (lists P.DocSet members.old)))) }
-    ensures valid { AreTerms P.DocSet members.new places.new }
-    ensures shifts { map shift_of places.new ≡ map shift_of places.old }
-    ensures entries { lists P.DocSet members.new ≡ lists P.DocSet members.old }
+// Begins anew with the first place of each term.
+fn rewind(rows: &mut [TermRow])
+    ensures { rows.new ≡ map begun rows.old }
 {
-    read_places(members, places);
-    count_starts(places, slop, most)
-}
-
-/// Looks at one document: answers how many starts it has, or `most` where there are more; or, where it
-/// has none, a bound past it before which no document has. Positions are read only where all terms
-/// have the document. Takes no memory.
-pub(crate) fn look_at<P: Postings>(
-    members: &mut [P],
-    places: &mut [Places],
-    slop: u32,
-    doc: DocId,
-    most: u32,
-) -> Result<u32, DocId>
-    requires valid { AreTerms P.DocSet members.old places.old }
-    requires doc { doc < TERMINATED }
-    requires most { 0 < most }
-    ensures answer { IsLook P.DocSet slop most doc members.old places.old result }
-    ensures moved { AreMovedTo P.DocSet slop doc members.old places.old members.new places.new }
-{
-    if let SeekDangerResult::SeekLowerBound(bound) = seek_each(members, doc) {
-        return Err(bound);
+    for row in rows.iter_mut() {
+        row.row.passed = 0;
     }
-    match count_here(members, places, slop, most) {
-        0 => Err(doc + 1),
-        count => Ok(count),
-    }
-}
-
-/// Goes to the first document from a target on that has a start, and answers it with how many it has,
-/// or `most` where there are more; or answers [`TERMINATED`], and sends one term to its end. Takes no
-/// memory.
-pub(crate) fn seek_start<P: Postings>(
-    members: &mut [P],
-    places: &mut [Places],
-    slop: u32,
-    target: DocId,
-    most: u32,
-) -> (DocId, u32)
-    requires valid { AreTerms P.DocSet members.old places.old }
-    requires target { target ≤ TERMINATED }
-    requires most { 0 < most }
-    ensures found { IsFirstStart P.DocSet slop most target members.old places.old result }
-    ensures moved { AreMovedTo P.DocSet slop result.0 members.old places.old members.new places.new }
-{
-    let mut doc = target;
-    while doc < TERMINATED {
-        match look_at(members, places, slop, doc, most) {
-            Ok(count) => return (doc, count),
-            Err(bound) => doc = bound,
-        }
-    }
-    members[0].seek(TERMINATED);
-    (TERMINATED, 0)
 }

@@ -1,12 +1,11 @@
 -- The lesser of the first places is counted where both have it, and passed.
-use Rattle.std.proofs.Common.{◌≡◌, ℕ, [], ◌∷◌, ◌⊎◌, List, All, min, arith, refl, ap, subst, sym, inl, inr, ◌∙◌}
-use Rattle.std.proofs.lemmas.Bool.{cases_lt}
+use Rattle.std.proofs.Common.{◌≡◌, ◌≤◌, ℕ, [], ◌∷◌, List, All, min, arith, refl, ap, subst, sym, ◌∙◌}
 use Rattle.std.proofs.lemmas.List.Elements.{All-cons, All-head, All-nil, All-tail}
 use Rattle.qm_phrase.specs.Places.{Ascends, first_place, greatest_first, least_first, past, places_left, places_of}
 use Rattle.qm_phrase.specs.Starts.{all_places, starts}
 use Rattle.qm_phrase.proofs.CommonSteps.{common-starts}
-use Rattle.qm_phrase.proofs.PassedPlaces.{Ascends-greatest, Ascends-passed, first_place-passed, starts-passed}
-use Rattle.qm_phrase.proofs.StartSteps.{All-past, counted, greatest_first-most, least_first-past, starts-ended, within}
+use Rattle.qm_phrase.proofs.PassedPlaces.{Ascends-passed, first_place-passed, starts-passed}
+use Rattle.qm_phrase.proofs.StartSteps.{All-past, counted, greatest_first-most, greatest_first-past, least_first-past, starts-ended, within}
 use Rattle.qm_phrase.proofs.common_places.count_shared.Goals as goal
 use Rattle.qm_phrase.proofs.common_places.count_shared.Goals.{then-place-other, else-place-other}
 
@@ -73,15 +72,15 @@ loop-count-preserved c =
     rw (c.pass.ensures.left, c.pass-in-loop-count.ensures.left) (All-past 0 least sets c.loop-count.invariant.rows) in
     let a_ascends = All-head (Ascends 0) a_left (b_left ∷ []) rows in
     let b_ascends = All-head (Ascends 0) b_left [] (All-tail (Ascends 0) a_left (b_left ∷ []) rows) in
-    let first = All-head (Ascends 0) a (b ∷ []) c.loop-count.invariant.rows in
-    let second = All-head (Ascends 0) b [] (All-tail (Ascends 0) a (b ∷ []) c.loop-count.invariant.rows) in
-    let ahead : (Ascends greatest a_left) ⊎ (Ascends greatest b_left) = elim (cases_lt (first_place a) (first_place b)) [
-      | inl lesser ↦ inr (subst (Ascends greatest) (sym c.pass-in-loop-count.ensures.left) (Ascends-greatest least greatest b
-          (omega (arith, lesser, c.max-greatest.ensures, c.first-place.ensures, c.first-other.ensures)) second))
-      | inr reached ↦ inl (subst (Ascends greatest) (sym c.pass.ensures.left) (Ascends-greatest least greatest a
-          (omega (arith, reached, c.max-greatest.ensures, c.first-place.ensures, c.first-other.ensures)) first))
-    ] in
-    let kept = starts-passed greatest a_left b_left a_new b_new ahead c.pass_below.ensures.left c.pass_below-in-loop-count.ensures.left in
+    let far : greatest ≤ greatest_first (a_left ∷ b_left ∷ []) = omega (
+      arith,
+      most,
+      greatest_first-past least sets c.loop-count.invariant.rows,
+      ap first_place c.pass.ensures.left,
+      ap first_place c.pass-in-loop-count.ensures.left,
+    ) in
+    let kept : starts 0 (a_new ∷ b_new ∷ []) ≡ starts 0 (a_left ∷ b_left ∷ []) = starts-passed 0 greatest (a_left ∷ b_left ∷ []) (a_new ∷ b_new ∷ [])
+    (omega (arith, far)) rows (c.pass_below.ensures.left, (c.pass_below-in-loop-count.ensures.left, tt)) in
     let moved : starts 0 (a_new ∷ b_new ∷ []) ≡ starts 0 (past least a ∷ past least b ∷ []) =
     kept ∙ (rw (c.pass.ensures.left, c.pass-in-loop-count.ensures.left) refl) in
     record {

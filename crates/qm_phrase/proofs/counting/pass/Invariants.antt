@@ -1,10 +1,11 @@
-use Rattle.std.proofs.Common.{◌≡◌, ◌++◌, map, take, drop}
-use Rattle.qm_phrase.specs.Places.{past, places_left, room_of, shift_of}
+use Rattle.std.proofs.Common.{◌≡◌, map, take, drop}
+use Rattle.qm_phrase.specs.Places.{HavePassed, past}
+use Rattle.qm_phrase.specs.TermRows.{rows_left, terms_of}
 use Rattle.qm_phrase.proofs.counting.pass.Given as goal
 
 abbrev pub invariant-loop-row : goal.invariant-loop-row
 invariant-loop-row l = record {
-  passed : map places_left l.rows ≡ map (past l.place) (take l.row-index (map places_left l.fn.rows)) ++ drop l.row-index (map places_left l.fn.rows);
-  shifts : map shift_of l.rows ≡ map shift_of l.fn.rows;
-  room : map room_of l.rows ≡ map room_of l.fn.rows;
+  passed : HavePassed l.floor (map (past l.place) (take l.row-index (rows_left l.positions l.fn.rows))) (take l.row-index (rows_left l.positions l.rows));
+  rest : drop l.row-index (rows_left l.positions l.rows) ≡ drop l.row-index (rows_left l.positions l.fn.rows);
+  terms : terms_of l.rows ≡ terms_of l.fn.rows;
 }

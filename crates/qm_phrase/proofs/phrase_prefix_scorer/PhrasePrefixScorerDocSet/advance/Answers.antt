@@ -1,7 +1,6 @@
 -- A step is a seek past the document.
 use Rattle.std.proofs.Common.{◌≡◌, ap, ◌∙◌, arith, min, ◌+◌}
 use Rattle.qm_combine.proofs.Uniting.{next_or_end}
-use Rattle.qm_docset.proofs.Gathering.{head_document-from}
 use Rattle.qm_docset.specs.Entry.{from, head_document}
 use Rattle.qm_docset.specs.EntryFacts.{head_document-bounds}
 use Rattle.qm_docset.specs.declared.numbers.TheConstants.{TERMINATED}

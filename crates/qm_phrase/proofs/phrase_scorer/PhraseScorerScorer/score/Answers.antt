@@ -1,13 +1,12 @@
 -- The points of the document that it stands on.
-use Rattle.std.proofs.Common.{w64, map, pos, ap, sym, ◌∙◌, arith}
+use Rattle.std.proofs.Common.{w64, pos, ap, sym, ◌∙◌, arith}
 use Rattle.std.proofs.lemmas.Int.{to_z-of_z}
 use Rattle.std.proofs.lemmas.Option.{get_or_from_slice_get}
-use Rattle.qm_docset.specs.Lists.{lists}
 use Rattle.qm_postings.specs.FieldNorms.{norm_ids}
 use Rattle.qm_phrase.specs.Phrase.{phrase_limits, phrase_points}
 use Rattle.qm_phrase.specs.PhraseScorer.{phrase_starts}
 use Rattle.qm_phrase.specs.PhraseFacts.{AreEntries-phrase}
-use Rattle.qm_phrase.specs.Places.{shift_of}
+use Rattle.qm_phrase.specs.Terms.{shifts_in, term_lists}
 use Rattle.qm_phrase.proofs.PhraseLists.{by_counts-stands, held, points-none, points-some}
 use Rattle.qm_phrase.proofs.phrase_scorer.PhraseScorerScorer.score.Goals as goal
 
@@ -15,7 +14,7 @@ pub fieldnorm_id-requires : goal.fieldnorm_id-requires
 fieldnorm_id-requires g c =
     let self = c.args.self.now in
     let ascending = AreEntries-phrase self.similarity_weight (norm_ids self.fieldnorm_reader) self.slop
-    (map shift_of self.places.items) (lists g.P.DocSet self.members.items) in
+    (shifts_in self.terms) (term_lists g.P.DocSet self.terms) in
     let stands = by_counts-stands (phrase_limits self.similarity_weight) (phrase_points self.similarity_weight (norm_ids self.fieldnorm_reader)) self.doc
     (phrase_starts g.P.DocSet self) ascending c.requires.placed.document (omega (arith, c.requires.placed.document, c.requires.here)) in
     c.requires.valid.covered self.doc stands.0
@@ -24,7 +23,7 @@ pub returns-in-Some-clause-score : goal.returns-in-Some-clause-score
 returns-in-Some-clause-score g c =
     let self = c.args.self.now in
     let ascending = AreEntries-phrase self.similarity_weight (norm_ids self.fieldnorm_reader) self.slop
-    (map shift_of self.places.items) (lists g.P.DocSet self.members.items) in
+    (shifts_in self.terms) (term_lists g.P.DocSet self.terms) in
     let stands = by_counts-stands (phrase_limits self.similarity_weight) (phrase_points self.similarity_weight (norm_ids self.fieldnorm_reader)) self.doc
     (phrase_starts g.P.DocSet self) ascending c.requires.placed.document (omega (arith, c.requires.placed.document, c.requires.here)) in
     let counted = c.requires.placed.counted (omega (arith, c.requires.placed.document, c.requires.here)) in
@@ -37,7 +36,7 @@ pub returns-in-None-clause-score : goal.returns-in-None-clause-score
 returns-in-None-clause-score g c =
     let self = c.args.self.now in
     let ascending = AreEntries-phrase self.similarity_weight (norm_ids self.fieldnorm_reader) self.slop
-    (map shift_of self.places.items) (lists g.P.DocSet self.members.items) in
+    (shifts_in self.terms) (term_lists g.P.DocSet self.terms) in
     let stands = by_counts-stands (phrase_limits self.similarity_weight) (phrase_points self.similarity_weight (norm_ids self.fieldnorm_reader)) self.doc
     (phrase_starts g.P.DocSet self) ascending c.requires.placed.document (omega (arith, c.requires.placed.document, c.requires.here)) in
     ap pos (points-none self.similarity_weight (norm_ids self.fieldnorm_reader) self.doc (held (phrase_starts g.P.DocSet self self.doc)) c.in-None.is

@@ -1,5 +1,0 @@
-use Rattle.std.proofs.Common.{◌≡◌, fold, map, max, take}
-use Rattle.qm_phrase.proofs.offsets.greatest_offset.Given as goal
-
-abbrev pub invariant-loop-term : goal.invariant-loop-term
-invariant-loop-term g l = l.greatest ≡ fold max 0 (take l.term-index (map (λ pair. pair.0) l.terms))

@@ -1,0 +1,194 @@
+-- All members have the document, or one of them lies past it.
+use Rattle.std.proofs.Common.{◌≡◌, ◌≤◌, All, Any, length, map, min, arith, refl, ap, subst, sym, ◌∙◌}
+use Rattle.std.specs.Vec.{with_items}
+use Rattle.qm_combine.proofs.Leading.{whole}
+use Rattle.qm_docset.specs.Entry.{from, head_document}
+use Rattle.qm_phrase.specs.Terms.{term_starts}
+use Rattle.qm_phrase.specs.declared.terms.TermPlaces.{TermPlaces}
+use Rattle.qm_phrase.proofs.TermMoves.{AreHere-at, AreMovedTo-past, AreMovedTo-read, IsBareFrom-past, IsSought-members, starts-read}
+use Rattle.qm_phrase.specs.PhrasePrefix.{IsCommonOf}
+use Rattle.qm_phrase.specs.Places.{places_of}
+use Rattle.qm_phrase.specs.Terms.{sets_here}
+use Rattle.qm_phrase.proofs.CommonSteps.{common-starts}
+use Rattle.qm_phrase.proofs.FullTerms.{IsCommonBuffer-kept, some-sets}
+use Rattle.qm_phrase.proofs.TermMoves.{sets-from, sets-here}
+use Rattle.qm_phrase.proofs.terms.TermPlaces.look_at_full.Goals as goal
+
+pub returns-in-SeekLowerBound-clause-moved : goal.returns-in-SeekLowerBound-clause-moved
+returns-in-SeekLowerBound-clause-moved g c =
+    let D = g.P.DocSet in
+    let self = c.args.self.now in
+    let members = c.seek_each.new.members in
+    let sought : TermPlaces g.row.P.Denot =
+    record { members = with_items self.members members; positions = self.positions; rows = self.rows } in
+    let is : sought.members.items ≡ members =
+    whole self.members.len members self.members.items (c.seek_each.auto.members ∙ ap length c.deref_mut.ensures.value) self.members.ok.0 in
+    let was = c.deref_mut.ensures.value in
+    let found = IsSought-members D c.args.doc self sought members c.requires.valid refl refl is c.seek_each.ensures.valid
+    (c.seek_each.ensures.limits ∙ ap (map D.limits) was) (c.seek_each.ensures.entries ∙ ap (λ r. map (from c.args.doc) (map D.entries r)) was) in
+    let shared = c.in-SeekLowerBound.ensures.answer in
+    let one = subst (Any (λ x. c.in-SeekLowerBound.bound ≤ head_document (D.entries x))) (sym is) shared.2 in
+    AreMovedTo-past D g.met.P.DocSet.ascending 0 c.args.doc c.in-SeekLowerBound.bound self sought found one (omega (arith, shared.0))
+
+pub returns-in-SeekLowerBound-clause-answer : goal.returns-in-SeekLowerBound-clause-answer
+returns-in-SeekLowerBound-clause-answer g c =
+    let D = g.P.DocSet in
+    let self = c.args.self.now in
+    let members = c.seek_each.new.members in
+    let sought : TermPlaces g.row.P.Denot =
+    record { members = with_items self.members members; positions = self.positions; rows = self.rows } in
+    let is : sought.members.items ≡ members =
+    whole self.members.len members self.members.items (c.seek_each.auto.members ∙ ap length c.deref_mut.ensures.value) self.members.ok.0 in
+    let was = c.deref_mut.ensures.value in
+    let found = IsSought-members D c.args.doc self sought members c.requires.valid refl refl is c.seek_each.ensures.valid
+    (c.seek_each.ensures.limits ∙ ap (map D.limits) was) (c.seek_each.ensures.entries ∙ ap (λ r. map (from c.args.doc) (map D.entries r)) was) in
+    let shared = c.in-SeekLowerBound.ensures.answer in
+    let one = subst (Any (λ x. c.in-SeekLowerBound.bound ≤ head_document (D.entries x))) (sym is) shared.2 in
+    (shared.0, shared.1, IsBareFrom-past D g.met.P.DocSet.ascending 0 c.args.doc c.in-SeekLowerBound.bound self sought found one)
+
+pub common_here-requires-clause-valid : goal.common_here-requires-clause-valid
+common_here-requires-clause-valid g c =
+    let D = g.P.DocSet in
+    let self = c.args.self.now in
+    let members = c.seek_each.new.members in
+    let sought : TermPlaces g.row.P.Denot =
+    record { members = with_items self.members members; positions = self.positions; rows = self.rows } in
+    let is : sought.members.items ≡ members =
+    whole self.members.len members self.members.items (c.seek_each.auto.members ∙ ap length c.deref_mut.ensures.value) self.members.ok.0 in
+    let was = c.deref_mut.ensures.value in
+    let found = IsSought-members D c.args.doc self sought members c.requires.valid refl refl is c.seek_each.ensures.valid
+    (c.seek_each.ensures.limits ∙ ap (map D.limits) was) (c.seek_each.ensures.entries ∙ ap (λ r. map (from c.args.doc) (map D.entries r)) was) in
+    found.valid
+
+pub common_here-requires-clause-here : goal.common_here-requires-clause-here
+common_here-requires-clause-here g c =
+    let D = g.P.DocSet in
+    let self = c.args.self.now in
+    let members = c.seek_each.new.members in
+    let sought : TermPlaces g.row.P.Denot =
+    record { members = with_items self.members members; positions = self.positions; rows = self.rows } in
+    let is : sought.members.items ≡ members =
+    whole self.members.len members self.members.items (c.seek_each.auto.members ∙ ap length c.deref_mut.ensures.value) self.members.ok.0 in
+    let was = c.deref_mut.ensures.value in
+    let found = IsSought-members D c.args.doc self sought members c.requires.valid refl refl is c.seek_each.ensures.valid
+    (c.seek_each.ensures.limits ∙ ap (map D.limits) was) (c.seek_each.ensures.entries ∙ ap (λ r. map (from c.args.doc) (map D.entries r)) was) in
+    let here = subst (All (λ m. D.placed m × (head_document (D.entries m) ≡ c.args.doc))) (sym is) c.in_default.ensures.answer in
+    AreHere-at D c.args.doc sought c.requires.doc here
+
+pub returns-in-0-clause-moved : goal.returns-in-0-clause-moved
+returns-in-0-clause-moved g c =
+    let D = g.P.DocSet in
+    let self = c.args.self.now in
+    let members = c.seek_each.new.members in
+    let sought : TermPlaces g.row.P.Denot =
+    record { members = with_items self.members members; positions = self.positions; rows = self.rows } in
+    let is : sought.members.items ≡ members =
+    whole self.members.len members self.members.items (c.seek_each.auto.members ∙ ap length c.deref_mut.ensures.value) self.members.ok.0 in
+    let was = c.deref_mut.ensures.value in
+    let found = IsSought-members D c.args.doc self sought members c.requires.valid refl refl is c.seek_each.ensures.valid
+    (c.seek_each.ensures.limits ∙ ap (map D.limits) was) (c.seek_each.ensures.entries ∙ ap (λ r. map (from c.args.doc) (map D.entries r)) was) in
+    let here = subst (All (λ m. D.placed m × (head_document (D.entries m) ≡ c.args.doc))) (sym is) c.in_default.ensures.answer in
+    AreMovedTo-read D g.met.P.DocSet.ascending 0 c.args.doc self sought c.common_here.new.self found here c.common_here.ensures.kept
+
+pub returns-in_default-common_here-clause-moved : goal.returns-in_default-common_here-clause-moved
+returns-in_default-common_here-clause-moved g c =
+    let D = g.P.DocSet in
+    let self = c.args.self.now in
+    let members = c.seek_each.new.members in
+    let sought : TermPlaces g.row.P.Denot =
+    record { members = with_items self.members members; positions = self.positions; rows = self.rows } in
+    let is : sought.members.items ≡ members =
+    whole self.members.len members self.members.items (c.seek_each.auto.members ∙ ap length c.deref_mut.ensures.value) self.members.ok.0 in
+    let was = c.deref_mut.ensures.value in
+    let found = IsSought-members D c.args.doc self sought members c.requires.valid refl refl is c.seek_each.ensures.valid
+    (c.seek_each.ensures.limits ∙ ap (map D.limits) was) (c.seek_each.ensures.entries ∙ ap (λ r. map (from c.args.doc) (map D.entries r)) was) in
+    let here = subst (All (λ m. D.placed m × (head_document (D.entries m) ≡ c.args.doc))) (sym is) c.in_default.ensures.answer in
+    AreMovedTo-read D g.met.P.DocSet.ascending 0 c.args.doc self sought c.common_here.new.self found here c.common_here.ensures.kept
+
+pub returns-in-0-clause-answer : goal.returns-in-0-clause-answer
+returns-in-0-clause-answer g c =
+    let D = g.P.DocSet in
+    let self = c.args.self.now in
+    let members = c.seek_each.new.members in
+    let sought : TermPlaces g.row.P.Denot =
+    record { members = with_items self.members members; positions = self.positions; rows = self.rows } in
+    let is : sought.members.items ≡ members =
+    whole self.members.len members self.members.items (c.seek_each.auto.members ∙ ap length c.deref_mut.ensures.value) self.members.ok.0 in
+    let was = c.deref_mut.ensures.value in
+    let found = IsSought-members D c.args.doc self sought members c.requires.valid refl refl is c.seek_each.ensures.valid
+    (c.seek_each.ensures.limits ∙ ap (map D.limits) was) (c.seek_each.ensures.entries ∙ ap (λ r. map (from c.args.doc) (map D.entries r)) was) in
+    let here = subst (All (λ m. D.placed m × (head_document (D.entries m) ≡ c.args.doc))) (sym is) c.in_default.ensures.answer in
+    let read = starts-read D g.met.P.DocSet.ascending 0 c.args.doc self sought c.requires.doc found here in
+    let counted = common-starts (sets_here D sought) (some-sets D sought found.valid) in
+    let none : term_starts D 0 self c.args.doc ≡ 0 = omega (arith, read, counted, c.common_here.ensures.count, c.in-0.is) in (
+      omega arith,
+      omega (arith, c.requires.doc),
+      λ d low high. let level : d ≡ c.args.doc = omega arith in
+          ap (term_starts D 0 self) level ∙ none,
+    )
+
+pub returns-in_default-common_here-clause-answer : goal.returns-in_default-common_here-clause-answer
+returns-in_default-common_here-clause-answer g c =
+    let D = g.P.DocSet in
+    let self = c.args.self.now in
+    let members = c.seek_each.new.members in
+    let sought : TermPlaces g.row.P.Denot =
+    record { members = with_items self.members members; positions = self.positions; rows = self.rows } in
+    let is : sought.members.items ≡ members =
+    whole self.members.len members self.members.items (c.seek_each.auto.members ∙ ap length c.deref_mut.ensures.value) self.members.ok.0 in
+    let was = c.deref_mut.ensures.value in
+    let found = IsSought-members D c.args.doc self sought members c.requires.valid refl refl is c.seek_each.ensures.valid
+    (c.seek_each.ensures.limits ∙ ap (map D.limits) was) (c.seek_each.ensures.entries ∙ ap (λ r. map (from c.args.doc) (map D.entries r)) was) in
+    let here = subst (All (λ m. D.placed m × (head_document (D.entries m) ≡ c.args.doc))) (sym is) c.in_default.ensures.answer in
+    let read = starts-read D g.met.P.DocSet.ascending 0 c.args.doc self sought c.requires.doc found here in
+    let counted = common-starts (sets_here D sought) (some-sets D sought found.valid) in
+    (omega arith, c.common_here.ensures.count ∙ ap (min 4294967295) (counted ∙ read))
+
+pub returns-in-SeekLowerBound-clause-buffer : goal.returns-in-SeekLowerBound-clause-buffer
+returns-in-SeekLowerBound-clause-buffer g c =
+    let D = g.P.DocSet in
+    let self = c.args.self.now in
+    let members = c.seek_each.new.members in
+    let sought : TermPlaces g.row.P.Denot =
+    record { members = with_items self.members members; positions = self.positions; rows = self.rows } in
+    let is : sought.members.items ≡ members =
+    whole self.members.len members self.members.items (c.seek_each.auto.members ∙ ap length c.deref_mut.ensures.value) self.members.ok.0 in
+    let was = c.deref_mut.ensures.value in
+    let found = IsSought-members D c.args.doc self sought members c.requires.valid refl refl is c.seek_each.ensures.valid
+    (c.seek_each.ensures.limits ∙ ap (map D.limits) was) (c.seek_each.ensures.entries ∙ ap (λ r. map (from c.args.doc) (map D.entries r)) was) in
+    let common = c.args.common.now in
+    IsCommonBuffer-kept D self sought common common c.requires.common
+    (ap (map D.limits) is ∙ c.seek_each.ensures.limits ∙ ap (map D.limits) was) refl refl (omega arith)
+
+pub common_here-requires-clause-common : goal.common_here-requires-clause-common
+common_here-requires-clause-common g c =
+    let D = g.P.DocSet in
+    let self = c.args.self.now in
+    let members = c.seek_each.new.members in
+    let sought : TermPlaces g.row.P.Denot =
+    record { members = with_items self.members members; positions = self.positions; rows = self.rows } in
+    let is : sought.members.items ≡ members =
+    whole self.members.len members self.members.items (c.seek_each.auto.members ∙ ap length c.deref_mut.ensures.value) self.members.ok.0 in
+    let was = c.deref_mut.ensures.value in
+    let found = IsSought-members D c.args.doc self sought members c.requires.valid refl refl is c.seek_each.ensures.valid
+    (c.seek_each.ensures.limits ∙ ap (map D.limits) was) (c.seek_each.ensures.entries ∙ ap (λ r. map (from c.args.doc) (map D.entries r)) was) in
+    let common = c.args.common.now in
+    IsCommonBuffer-kept D self sought common common c.requires.common
+    (ap (map D.limits) is ∙ c.seek_each.ensures.limits ∙ ap (map D.limits) was) refl refl (omega arith)
+
+pub returns-in_default-common_here-clause-common : goal.returns-in_default-common_here-clause-common
+returns-in_default-common_here-clause-common g c =
+    let D = g.P.DocSet in
+    let self = c.args.self.now in
+    let members = c.seek_each.new.members in
+    let sought : TermPlaces g.row.P.Denot =
+    record { members = with_items self.members members; positions = self.positions; rows = self.rows } in
+    let is : sought.members.items ≡ members =
+    whole self.members.len members self.members.items (c.seek_each.auto.members ∙ ap length c.deref_mut.ensures.value) self.members.ok.0 in
+    let was = c.deref_mut.ensures.value in
+    let found = IsSought-members D c.args.doc self sought members c.requires.valid refl refl is c.seek_each.ensures.valid
+    (c.seek_each.ensures.limits ∙ ap (map D.limits) was) (c.seek_each.ensures.entries ∙ ap (λ r. map (from c.args.doc) (map D.entries r)) was) in
+    let here = subst (All (λ m. D.placed m × (head_document (D.entries m) ≡ c.args.doc))) (sym is) c.in_default.ensures.answer in
+    let same = sets-from D c.args.doc c.args.doc self sought found.terms found.lists (omega arith) in
+    let read = sets-here D g.met.P.DocSet.ascending c.args.doc sought c.requires.doc found.valid here in
+    subst (λ sets. IsCommonOf sets (places_of c.common_here.new.common)) (sym read ∙ same) c.common_here.ensures.common
