@@ -198,11 +198,8 @@ LONGER = {
 }
 # What still costs more than three times as much for twice as many parts, and why. A form that no longer does fails until
 # it is taken out here.
-EACH_PLACE = "each of the n equal words goes through the n places of that word in a document"
 ONE_SEGMENT = "where more words of the open segment begin so than are allowed, it is built as one behind each document"
 STILL_SQUARE = {
-    "equal words of a phrase": EACH_PLACE,
-    "equal words of a phrase with a slop": EACH_PLACE,
     "a document and a prefix of too many words in turn": ONE_SEGMENT,
 }
 # few parts, since instructions are counted one by one, and enough that what grows with the square stands out
@@ -211,6 +208,7 @@ FORMS = [
     *(Form(name, 100, of_query(spelled)) for name, spelled in queries().items()),
     Form("equal words of a phrase", 100, equal_words(lambda n: f"phrase 0 {n} {'w ' * n}")),
     Form("equal words of a phrase with a slop", 100, equal_words(lambda n: f"phrase 2 {n} {'w ' * n}")),
+    Form("equal words of a phrase before a prefix", 100, equal_words(lambda n: f"prefix 9 {n} {'w ' * n}")),
     *(Form(name, 500, lines) for name, lines in over_documents().items()),
     *(Form(f"depth of {name}", 120, deep(level), True) for name, level in LEVELS.items()),
     *(Form(name, LONGER.get(name, 200), lines) for name, lines in pairs_in_turn()),

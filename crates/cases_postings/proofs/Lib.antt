@@ -1,2 +1,3 @@
 mod EntriesBelow
 mod MoreTerms
+pub mod CoveredTerms

@@ -8,6 +8,7 @@ mod borrowed;
 mod cursor;
 mod explained;
 mod given;
+mod given_terms;
 mod index_rows;
 mod kept;
 mod keys;

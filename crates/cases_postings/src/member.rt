@@ -46,8 +46,8 @@ pub fn read_members(alloc: Global, words: &[&str]) -> Result<Vec<OwnPostings>, F
     Ok(row)
 }
 
-// The postings of the one document at these positions.
-fn read_places(alloc: Global, spelled: &str) -> Result<OwnPostings, Fault>
+/// The postings of the one document at these positions.
+pub fn read_places(alloc: Global, spelled: &str) -> Result<OwnPostings, Fault>
     ensures { IfOk result (IsPlaced ⟦<OwnPostings as DocSet>⟧) }
 {
     let positions = read_numbers(alloc, spelled)?;

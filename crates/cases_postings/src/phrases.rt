@@ -1,16 +1,19 @@
 //! Blocks of phrases over postings of the cases' own.
 
-ghost use Rattle.std.specs.Prelude.{◌≤◌, All, IfOk, vec_len};
+ghost use Rattle.std.specs.Prelude.{◌≤◌, All, IfOk, length, vec_len};
+ghost use Rattle.qm_phrase.specs.PhraseTerms.{members_of, offsets_of};
+ghost use Rattle.cases_postings.specs.GivenTerms.{IsGiven};
 ghost use Rattle.qm_docset.specs.Lists.{IsPlaced};
 
 use crate::bench::Bench;
+use crate::given_terms::{GivenTerm, read_given, share};
 use crate::making::play_owned;
 use crate::member::{read_members, read_suffixes, read_terms};
 use crate::own_postings::OwnPostings;
 use crate::spelled::{read_number, read_weight_or_none};
 use cases::{Asker, Block, Fault, Memory, Report, behind, end_refusals, word, words_of};
 use qm_docset::{DocSet, TERMINATED};
-use qm_phrase::{PhrasePrefixScorer, PhraseScorer, SimpleUnion};
+use qm_phrase::{PhrasePrefixScorer, PhraseScorer, PhraseTerms, SimpleUnion};
 use qm_postings::{FieldNormReader, Postings};
 use qm_term::Bm25Weight;
 use std::alloc::Global;
@@ -31,7 +34,8 @@ fn read_scoring(words: &[&str]) -> Result<Scoring, Fault> {
     Ok(Scoring { weight, length_id })
 }
 
-/// Plays `phrase SLOP ID WEIGHT OFFSET:POSITIONS ..`.
+/// Plays `phrase SLOP ID WEIGHT OFFSET:POSITIONS ..`, where `OFFSET=NUMBER` shares the postings of this
+/// number.
 pub fn play_phrase(
     alloc: Global,
     bench: &Bench,
@@ -40,12 +44,47 @@ pub fn play_phrase(
 ) -> Result<(), Fault> {
     let slop = read_number(word(block.words, 1))?;
     let scoring = read_scoring(block.words)?;
-    let terms = read_terms(alloc, behind(block.words, 4))?;
-    if terms.len() < 2 {
+    let given = read_given(alloc, behind(block.words, 4))?;
+    if given.len() < 2 {
         return Err(Fault::NotAllowed);
     }
-    let scorer = make_phrase(alloc, terms, scoring, slop, TERMINATED, block.memory)?;
-    play_owned(alloc, &bench.alive, scorer, block.rows, report)
+    block.memory.begin(alloc);
+    let made = make_shared(alloc, given, scoring, slop);
+    end_refusals(alloc);
+    play_owned(alloc, &bench.alive, made?, block.rows, report)
+}
+
+// The scorer of a phrase, some terms of which may share their postings.
+fn make_shared(
+    alloc: Global,
+    given: Vec<GivenTerm>,
+    scoring: Scoring,
+    slop: u32,
+) -> Result<PhraseScorer<'static, OwnPostings>, Fault>
+    requires two { 2 ≤ vec_len given }
+    requires given { All IsGiven given.items }
+    ensures { IfOk result (IsPlaced ⟦<PhraseScorer<'static, OwnPostings> as DocSet>⟧) }
+{
+    let terms = share(alloc, given)?;
+    phrase_over(alloc, terms, scoring, slop, TERMINATED)
+}
+
+// The scorer of these terms in so many documents.
+fn phrase_over<P: Postings>(
+    alloc: Global,
+    terms: PhraseTerms<P>,
+    scoring: Scoring,
+    slop: u32,
+    num_docs: u32,
+) -> Result<PhraseScorer<'static, P>, Fault>
+    requires all { TERMINATED ≤ num_docs }
+    requires two { 2 ≤ length (offsets_of terms) }
+    requires valid { All P.valid (members_of terms) }
+    requires offsets { All (λ offset. offset ≤ 4294967295) (offsets_of terms) }
+    ensures { IfOk result (IsPlaced ⟦<PhraseScorer<'static, P> as DocSet>⟧) }
+{
+    let reader = FieldNormReader::constant(num_docs, scoring.length_id);
+    Ok(PhraseScorer::over_terms(alloc, terms, scoring.weight, reader, slop)?)
 }
 
 // The scorer of a phrase in so many documents; some requests for memory are refused as it is made.
@@ -71,7 +110,7 @@ fn make_phrase<P: Postings>(
 }
 
 /// Plays `prefix OFFSET ID WEIGHT OFFSET:POSITIONS .. ; :POSITIONS ..`, the first offset that of the
-/// prefix.
+/// prefix, where `OFFSET=NUMBER` shares the postings of this number.
 pub fn play_prefix(
     alloc: Global,
     bench: &Bench,
@@ -81,21 +120,15 @@ pub fn play_prefix(
     let offset = read_number(word(block.words, 1))?;
     let scoring = read_scoring(block.words)?;
     let (full, ends) = halves(behind(block.words, 4));
-    let terms = read_terms(alloc, full)?;
-    if terms.is_empty() {
+    let given = read_given(alloc, full)?;
+    if given.is_empty() {
         return Err(Fault::NotAllowed);
     }
     let suffixes = read_suffixes(alloc, ends)?;
-    let scorer = make_prefix(
-        alloc,
-        terms,
-        scoring,
-        suffixes,
-        offset,
-        TERMINATED,
-        block.memory,
-    )?;
-    play_owned(alloc, &bench.alive, scorer, block.rows, report)
+    block.memory.begin(alloc);
+    let made = make_prefix(alloc, given, scoring, suffixes, offset);
+    end_refusals(alloc);
+    play_owned(alloc, &bench.alive, made?, block.rows, report)
 }
 
 // The words before the first `;`, and those behind it.
@@ -109,29 +142,43 @@ fn halves<'a, 'b>(words: &'b [&'a str]) -> (&'b [&'a str], &'b [&'a str]) {
     (&words[..at], behind(words, at.saturating_add(1)))
 }
 
-// The same of a phrase prefix at this offset.
-fn make_prefix<P: Postings>(
+// The scorer of a phrase prefix at this offset, some terms of which may share their postings.
+fn make_prefix(
     alloc: Global,
-    terms: Vec<(usize, P)>,
+    given: Vec<GivenTerm>,
+    scoring: Scoring,
+    suffixes: Vec<OwnPostings>,
+    offset: u32,
+) -> Result<PhrasePrefixScorer<'static, OwnPostings>, Fault>
+    requires some { 1 ≤ vec_len given }
+    requires given { All IsGiven given.items }
+    requires suffixes { All ⟦<OwnPostings as DocSet>⟧.valid suffixes.items }
+    ensures { IfOk result (IsPlaced ⟦<PhrasePrefixScorer<'static, OwnPostings> as DocSet>⟧) }
+{
+    let terms = share(alloc, given)?;
+    prefix_over(alloc, terms, scoring, suffixes, offset, TERMINATED)
+}
+
+// The same of these terms in so many documents.
+fn prefix_over<P: Postings>(
+    alloc: Global,
+    terms: PhraseTerms<P>,
     scoring: Scoring,
     suffixes: Vec<P>,
     offset: u32,
     num_docs: u32,
-    memory: Memory,
 ) -> Result<PhrasePrefixScorer<'static, P>, Fault>
     requires all { TERMINATED ≤ num_docs }
-    requires some { 1 ≤ vec_len terms }
-    requires valid { All (λ pair. P.valid pair.1) terms.items }
+    requires some { 1 ≤ length (offsets_of terms) }
+    requires valid { All P.valid (members_of terms) }
+    requires offsets { All (λ offset. offset ≤ 4294967295) (offsets_of terms) }
     requires suffixes { All P.valid suffixes.items }
-    requires offsets { All (λ pair. pair.0 ≤ 4294967295) terms.items }
     ensures { IfOk result (IsPlaced ⟦<PhrasePrefixScorer<'static, P> as DocSet>⟧) }
 {
     let reader = FieldNormReader::constant(num_docs, scoring.length_id);
     let offset = offset as usize;
-    memory.begin(alloc);
-    let made = PhrasePrefixScorer::new(alloc, terms, scoring.weight, reader, suffixes, offset);
-    end_refusals(alloc);
-    Ok(made?)
+    let weight = scoring.weight;
+    Ok(PhrasePrefixScorer::over_terms(alloc, terms, weight, reader, suffixes, offset)?)
 }
 
 /// Plays `unionphrase SLOP ID WEIGHT OFFSET@MEMBER+MEMBER ..`.

@@ -1,6 +1,7 @@
 pub mod SliceSteps
 pub mod Leaves
 mod Listings
+mod SharedTerms
 mod Phrases
 pub mod HeldTerms
 mod PrefixSets
