@@ -1,12 +1,11 @@
 -- Numbers of postings, as one more term of a phrase gets its own or another's.
-use Rattle.std.proofs.Common.{◌≡◌, ℕ, ◌+◌, ◌<◌, ◌≤◌, Bool, true, false, List, [], ◌∷◌, ◌++◌, Option, None, Some, length, map, get_or, refl, ap, arith, subst, sym, ◌∙◌}
+use Rattle.std.proofs.Common.{◌≡◌, ℕ, ◌<◌, ◌≤◌, Bool, true, [], ◌∷◌, ◌++◌, Option, None, Some, length, get_or, refl, ap, arith, subst, sym, ◌∙◌}
 use Rattle.std.proofs.Common.{inl, inr}
 use Rattle.std.specs.Prelude.{IfSome, slice_get, unwrap_or}
 use Rattle.std.specs.HashMap.{HashMap, Updates, get}
 use Rattle.std.proofs.Math.Seq.{get_or-append_seam}
 use Rattle.std.proofs.lemmas.Bool.{cases_Bool}
 use Rattle.std.proofs.lemmas.List.{get_or_append_left, length-append, length-map, map-append}
-use Rattle.qm_docset.specs.Entry.{Entry}
 use Rattle.qm_docset.specs.Lists.{lists}
 use Rattle.qm_phrase.specs.PhraseTerms.{members_of}
 use Rattle.qm_phrase.specs.declared.phrase_terms.PhraseTerms.{PhraseTerms}
