@@ -19,7 +19,7 @@ pub enum GivenTerm {
     Equal(usize, usize),
 }
 
-/// The terms that words `OFFSET:POSITIONS` and `OFFSET=NUMBER` spell.
+/// The terms that words `OFFSET:POSITIONS` and `OFFSET~NUMBER` spell.
 pub fn read_given(alloc: Global, words: &[&str]) -> Result<Vec<GivenTerm>, Fault>
     ensures { IfOk result (λ given. All IsGiven given.items) }
 {
@@ -34,7 +34,7 @@ pub fn read_given(alloc: Global, words: &[&str]) -> Result<Vec<GivenTerm>, Fault
 fn read_term(alloc: Global, spelled: &str) -> Result<GivenTerm, Fault>
     ensures { IfOk result IsGiven }
 {
-    if let Some((offset, number)) = spelled.split_once('=') {
+    if let Some((offset, number)) = spelled.split_once('~') {
         let offset = read_number(offset)? as usize;
         return Ok(GivenTerm::Equal(offset, read_number(number)? as usize));
     }

@@ -34,7 +34,7 @@ fn read_scoring(words: &[&str]) -> Result<Scoring, Fault> {
     Ok(Scoring { weight, length_id })
 }
 
-/// Plays `phrase SLOP ID WEIGHT OFFSET:POSITIONS ..`, where `OFFSET=NUMBER` shares the postings of this
+/// Plays `phrase SLOP ID WEIGHT OFFSET:POSITIONS ..`, where `OFFSET~NUMBER` shares the postings of this
 /// number.
 pub fn play_phrase(
     alloc: Global,
@@ -110,7 +110,7 @@ fn make_phrase<P: Postings>(
 }
 
 /// Plays `prefix OFFSET ID WEIGHT OFFSET:POSITIONS .. ; :POSITIONS ..`, the first offset that of the
-/// prefix, where `OFFSET=NUMBER` shares the postings of this number.
+/// prefix, where `OFFSET~NUMBER` shares the postings of this number.
 pub fn play_prefix(
     alloc: Global,
     bench: &Bench,
