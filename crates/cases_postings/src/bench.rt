@@ -13,6 +13,7 @@ use crate::schema_rows::{ErrorRows, OptionRows, SchemaRows, read_error};
 use crate::searcher_rows::{SearcherRows, make_searcher};
 use crate::several::SeveralRows;
 use crate::spelled::{read_number, read_option, read_weight};
+use crate::stored_rows::play_stored;
 use crate::term_rows::{AddressRows, PrefixEndRows, TermRows, make_term, read_address};
 use crate::weight_rows::{WeightRows, make_weight};
 use crate::{borrowed, phrases, segment_phrases, unions};
@@ -53,6 +54,7 @@ impl Player for Bench {
                 Ok(())
             }
             "segment" => play_asked(alloc, self, block.rows, report),
+            "stored" => play_stored(alloc, self, block, report),
             "postings" | "shifted" | "holders" | "own" | "union" | "bitsetunion" => {
                 unions::play_postings(alloc, self, block, report)
             }

@@ -28,6 +28,7 @@ mod segment_phrases;
 mod segment_rows;
 mod several;
 mod spelled;
+mod stored_rows;
 mod term_rows;
 mod unions;
 mod weight_rows;

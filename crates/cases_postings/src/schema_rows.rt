@@ -28,6 +28,7 @@ impl<'s> Asker for SchemaRows<'s> {
                     None => text.push_str("none")?,
                 }
             }
+            "count" => write!(text, "{}", self.schema.field_count())?,
             "entry" => {
                 let field = Field::from_field_id(read_number(rest)?);
                 match self.schema.get_field_entry(field) {

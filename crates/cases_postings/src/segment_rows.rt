@@ -7,6 +7,7 @@ use crate::bench::Bench;
 use crate::given::{alive_of, is_alive};
 use crate::offered::{can_shift, output_for, read_positions, write_list, write_numbers};
 use crate::spelled::{read_bytes, read_field, read_number, read_option, read_term, write_bytes};
+use crate::stored_rows::ask_rows;
 use cases::{Asker, Fault, Memory, end_refusals, word, words_of, write_document, write_space};
 use qm_docset::{DocSet, TERMINATED};
 use qm_phrase::PostingsWithOffset;
@@ -30,6 +31,9 @@ impl Asker for Bench {
                 ask_documents(alloc, &self.segment, &words, memory, text)
             }
             "length" | "lengths" | "is_constant" => ask_lengths(alloc, self, &words, memory, text),
+            "rows" | "columns" | "shape" | "copies" | "again" => {
+                ask_rows(alloc, self, &words, memory, text)
+            }
             "range" => write_range(alloc, self, &words, memory, text),
             "term_info" => write_info(alloc, self, &words, memory, text),
             "postings" | "by_info" | "reading" | "copy" | "shifted" => {

@@ -25,6 +25,10 @@ pub mod BoundLemmas
 pub mod BlocksOfTerms
 pub mod BlockFrequencies
 pub mod GroupedPostings
+pub mod LaidRows
+pub mod ReaderRows
+pub mod RowTerms
+pub mod Restrictions
 pub mod TermHeads
 pub mod FrequencyParts
 pub mod ShortTerms

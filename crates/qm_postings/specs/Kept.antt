@@ -2,7 +2,7 @@
 -- column of length ids. The postings of all terms stand end to end, term by term, in an array of
 -- documents, one of frequencies and one of positions; a term has a range of each. Its blocks stand in a
 -- row of their own: what is known of each `block_len` of its postings, the last ones being fewer or full.
-use Rattle.std.specs.Prelude.{◌≡◌, ℕ, ◌+◌, ◌-◌, ◌*◌, ◌<◌, ◌≤◌, ◌==◌, nat_lt, List, [], ◌∷◌, ◌++◌, All, length, filter, map, max, min, fold, take, drop, cond}
+use Rattle.std.specs.Prelude.{◌≡◌, ℕ, true, ◌+◌, ◌-◌, ◌*◌, ◌<◌, ◌≤◌, ◌==◌, nat_lt, List, [], ◌∷◌, ◌++◌, All, length, filter, map, max, min, fold, take, drop, cond}
 use Rattle.std.specs.Prelude.{if◌then◌else◌, slice_index, slice_index_or, sum}
 use Rattle.std.specs.Int.{div_ceil}
 use Rattle.std.specs.List.{IsDistinct, flat_map, range_with_len}
@@ -16,7 +16,7 @@ use Rattle.qm_docset.specs.declared.numbers.TheConstants.{TERMINATED}
 use Rattle.qm_schema.specs.Schema.{FieldFacts}
 use Rattle.qm_schema.specs.Term.{TermKey, term_cmp, term_code}
 use Rattle.qm_postings.specs.Positions.{ArePositions}
-use Rattle.qm_postings.specs.Segment.{Document, Occurrences, Segment, keeps_lengths, keeps_positions}
+use Rattle.qm_postings.specs.Segment.{Document, Occurrences, Segment, is_indexed, keeps_lengths, keeps_positions}
 use Rattle.qm_postings.specs.Stored.{stored_entries}
 use Rattle.qm_postings.specs.declared.freq_reading_option.FreqReadingOption.{FreqReadingOption}
 use Rattle.qm_postings.specs.declared.term_arrays.BlockInfo.{BlockInfo}
@@ -157,14 +157,19 @@ pub record IsIndex (count : ℕ) (ranges : List PostingsRange) (ds fs : List ℕ
   pub documents : All (λ r. AreDocuments (in_range r ds)) ranges
   pub below : All (λ r. All (λ d. d < count) (in_range r ds)) ranges
 
--- A posting has as many positions as its frequency says where its field keeps them, and else none.
+-- A posting is of an indexed field and says that its document holds the term; it has as many positions as its
+-- frequency says where its field keeps them, and else none.
 pub record IsCounted (schema : List FieldFacts) (p : Posted) : Type 0 where
+  pub indexed : is_indexed schema p.term.field ≡ true
+  pub held : 0 < p.frequency
   pub count : length p.positions ≡ (if keeps_positions schema p.term.field then p.frequency else 0)
   pub ascending : ArePositions p.positions
 
--- Each term has a range of the positions, as many as its frequencies say where its field keeps them and
--- else none, and those of each posting ascend.
+-- Each term is of an indexed field, and its documents hold it. It has a range of the positions, as many as its
+-- frequencies say where its field keeps them and else none, and those of each posting ascend.
 pub record HavePositions (schema : List FieldFacts) (ranges : List PostingsRange) (ds fs ps : List ℕ) : Type 0 where
+  pub indexed : All (λ r. is_indexed schema r.term.field ≡ true) ranges
+  pub held : All (λ r. All (λ f. 0 < f) (in_range r fs)) ranges
   pub within : All (λ r. r.positions_start + r.positions_count ≤ length ps) ranges
   pub counted : All (λ r. r.positions_count ≡ (if keeps_positions schema r.term.field then sum (in_range r fs) else 0)) ranges
   pub ascending : (reading : FreqReadingOption) →
@@ -185,4 +190,5 @@ pub record IsKept (schema : List FieldFacts) (block_len count : ℕ) (ranges : L
   pub lengths : AreColumns schema count columns
   pub positions : HavePositions schema ranges ds fs ps
   pub cut : 0 < block_len
+  pub short : block_len ≤ 128
   pub blocks : HaveBlocks block_len ranges ds fs columns starts infos

@@ -2,6 +2,10 @@ pub mod Document
 pub mod Segment
 pub mod Deletions
 pub mod Kept
+pub mod Rows
+pub mod LentRow
+pub mod Restriction
+pub mod Laying
 pub mod LengthIds
 pub mod FieldNorms
 pub mod Reading

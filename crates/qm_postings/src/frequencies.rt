@@ -110,6 +110,19 @@ impl<'a> FrequencyPart<'a> {
         }
     }
 
+    // The same frequencies in memory of their own.
+    pub(crate) fn copy(&self, alloc: Global) -> Result<Vec<u32>, QueryError>
+        ensures same { IfOk result (λ it. it.items ≡ listed self.now) }
+        ensures refused { IsOkUnless result QueryError.Memory }
+    {
+        let mut frequencies = Vec::with_capacity(alloc, self.small.len() + self.large.len())?;
+        for frequency in self.small {
+            frequencies.push(u32::from(*frequency))?;
+        }
+        frequencies.extend_from_slice(self.large)?;
+        Ok(frequencies)
+    }
+
     pub(crate) fn sum(&self) -> usize
         requires { sum (listed self.now) ≤ usize.MAX }
         ensures { result ≡ sum (listed self.now) }

@@ -12,15 +12,15 @@ use qm_schema::{QueryError, Schema};
 use std::alloc::Global;
 use std::marker::Model;
 
-mod checks;
-mod columns;
+pub(crate) mod checks;
+pub(crate) mod columns;
 mod deletions;
 mod entering;
 mod grouping;
 mod position_rows;
 mod posting;
 mod short_terms;
-mod term_blocks;
+pub(crate) mod term_blocks;
 mod term_numbers;
 
 use posting::Posting;
@@ -65,6 +65,7 @@ impl Model for SegmentBuilder {
         × (length b.positions.items ≡ kept_count b.postings.items)
         × All (IsCounted b.schema) (posted_by b.terms b.positions.items 0 b.postings.items)
         × (0 < b.block_len)
+        × (b.block_len ≤ 128)
         × AreFlags b.max_doc b.deleted.items };
 }
 

@@ -60,8 +60,8 @@ impl Model for TermEntry {
 /// of `block_len`, and each has 24 bytes more: where it ends, what bounds its postings, and where its
 /// positions begin. Where documents were deleted it keeps a bit for each document.
 ///
-/// Contracts see it as its documents, its schema, the numbers of those that were deleted, and the terms
-/// that it has postings for.
+/// Contracts see it as its documents, its schema, the numbers of those that were deleted, the terms
+/// that it has postings for, and the rows of these.
 #[derive(Debug, Drop)]
 pub struct SegmentReader {
     pub(crate) schema: Schema,
@@ -80,19 +80,15 @@ pub struct SegmentReader {
 
 impl Model for SegmentReader {
     ghost use Rattle.std.specs.Prelude.{map};
-    ghost use Rattle.qm_postings.specs.Deletions.{IsAliveSet, left_out};
-    ghost use Rattle.qm_postings.specs.Kept.{IsKept, posted_of, segment_from};
-    ghost use Rattle.qm_postings.specs.Reading.{Reader, reader_code};
-    ghost use Rattle.qm_postings.specs.Segment.{without};
+    ghost use Rattle.qm_postings.specs.Deletions.{IsAliveSet};
+    ghost use Rattle.qm_postings.specs.Kept.{IsKept};
+    ghost use Rattle.qm_postings.specs.Reading.{Reader, reader_code, reader_of_arrays};
 
     ghost Value = { Reader };
 
     ghost coded = { reader_code };
 
-    ghost view = { λ r. record {
-      segment = without (left_out r.alive r.max_doc) (segment_from r.schema r.block_len (posted_of r.terms.items r.documents.items r.frequencies r.positions.items) (map (λ c. c.items) r.lengths.items) r.max_doc);
-      terms = map (λ e. e.term) r.terms.items;
-    } };
+    ghost view = { λ r. reader_of_arrays r.schema r.block_len r.terms.items r.documents.items r.frequencies r.positions.items (map (λ c. c.items) r.lengths.items) r.alive r.max_doc };
 
     ghost invariant = { λ r.
         IsKept r.schema r.block_len r.max_doc r.terms.items r.documents.items r.frequencies r.positions.items (map (λ c. c.items) r.lengths.items) r.block_starts.items r.blocks.items

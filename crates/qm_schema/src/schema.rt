@@ -62,6 +62,13 @@ impl Schema {
         self.entries.iter().position(|entry| entry.name() == name)
     }
 
+    /// How many fields it has: their numbers are those below. Constant time.
+    pub fn field_count(&self) -> u32
+        ensures { result ≡ length self.now }
+    {
+        self.entries.len() as u32
+    }
+
     /// What is known of a field, and `None` where the schema has no field of that number. Takes
     /// constant time.
     pub fn get_field_entry(&self, field: Field) -> Option<&FieldEntry>

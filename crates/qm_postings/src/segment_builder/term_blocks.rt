@@ -12,13 +12,13 @@ use std::alloc::Global;
 
 /// What is known of all blocks, and, by the places of the terms, where those of each begin.
 #[derive(Drop)]
-pub(super) struct TermBlocks {
-    pub(super) starts: Vec<usize>,
-    pub(super) infos: Vec<BlockInfo>,
+pub(crate) struct TermBlocks {
+    pub(crate) starts: Vec<usize>,
+    pub(crate) infos: Vec<BlockInfo>,
 }
 
 // Cuts the postings of each term into blocks. One step for each posting.
-pub(super) fn cut_into_blocks(
+pub(crate) fn cut_into_blocks(
     alloc: Global,
     terms: &[TermEntry],
     documents: &[DocId],
@@ -60,7 +60,7 @@ fn count_blocks(terms: &[TermEntry], block_len: u32) -> usize
 }
 
 // The length ids of a field; none where it keeps no lengths, or isn't there.
-fn column_of(columns: &[Vec<u8>], field: u32) -> &[u8]
+pub(crate) fn column_of(columns: &[Vec<u8>], field: u32) -> &[u8]
     ensures { result.now ≡ slice_index_or (map (λ c. c.items) columns.now) field [] }
 {
     match columns.get(field as usize) {
@@ -112,7 +112,7 @@ fn end_of(documents: &[DocId], end: usize) -> DocId
     }
 }
 
-fn greatest_of(frequencies: &[u32]) -> u32
+pub(crate) fn greatest_of(frequencies: &[u32]) -> u32
     ensures { result ≡ greatest frequencies.now }
 {
     let mut greatest = 0;

@@ -5,6 +5,7 @@ use Rattle.qm_docset.specs.Members.{members_between}
 use Rattle.qm_postings.specs.Deletions.{HasSameAlive, is_left_out, left_out}
 use Rattle.qm_postings.specs.Kept.{posted_of, segment_from}
 use Rattle.qm_postings.specs.Reading.{Reader, deleting}
+use Rattle.qm_postings.specs.Rows.{rows_in}
 use Rattle.qm_postings.specs.Segment.{without}
 use Rattle.qm_postings.proofs.DeletedDocuments.{passing_too, removed_leaves_out, removed_too}
 use Rattle.qm_postings.proofs.LengthsKept.{count_of_documents}
@@ -38,10 +39,11 @@ returns-clause-deleted c =
     let columns = map (λ c. c.items) inside.lengths.items in
     let kept = segment_from inside.schema inside.block_len posted columns n in
     let terms = map (λ e. e.term) inside.terms.items in
+    let rows = rows_in inside.terms.items inside.documents.items inside.frequencies inside.positions.items in
     let before = left_out inside.alive n in
     let same : HasSameAlive n inside.alive c.in_ok-alive.alive =
     subst (λ a. HasSameAlive n a c.in_ok-alive.alive) c.take.ensures.value c.in_ok-alive.ensures.same in
-    let reader : List ℕ → Reader = λ numbers. record { segment = without numbers kept; terms = terms } in
+    let reader : List ℕ → Reader = λ numbers. record { segment = without numbers kept; terms = terms; rows = rows } in
     ap reader (passing_too (is_left_out inside.alive) (is_left_out (Some c.remove.new.self)) doc n
     (removed_too inside.alive c.in_ok-alive.alive c.remove.new.self n doc same c.remove.ensures.alive))
     ∙ ap (λ count. reader (members_between (λ x. x == doc || list_any (λ y. y == x) before) 0 count))
