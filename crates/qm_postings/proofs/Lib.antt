@@ -29,6 +29,7 @@ pub mod LaidRows
 pub mod ReaderRows
 pub mod RowTerms
 pub mod Restrictions
+pub mod Unplaced
 pub mod TermHeads
 pub mod FrequencyParts
 pub mod ShortTerms

@@ -21,7 +21,7 @@ use Rattle.qm_postings.proofs.FoundTerms.{found_in, found_in-both, found_in-othe
 
 -- ---- what is said of a wanted term
 
-kept-in : (wanted : TermKey → Bool) (document : Document) (t : TermKey) →
+pub kept-in : (wanted : TermKey → Bool) (document : Document) (t : TermKey) →
     get (keeping wanted document).terms t ≡ cond (wanted t) (get document.terms t) None
 kept-in wanted document t = get-retain_keys document.terms wanted t (λ x tied. ap wanted (sym (term_cmp_antisymmetric t x tied)))
 
