@@ -22,7 +22,8 @@ use Rattle.qm_weight.specs.Counts.{alive_matching}
 use Rattle.qm_weight.specs.Tree.{Tree, matching, score}
 use Rattle.qm_script.proofs.PartListings.{items, items-few_segments, items-segments, items_from}
 use Rattle.qm_script.proofs.Ranges.{map-map}
-use Rattle.qm_script.proofs.TreeParts.{score-documents, score-same}
+use Rattle.qm_weight.specs.LookingFacts.{score-documents}
+use Rattle.qm_script.proofs.TreeParts.{score-same}
 
 -- ---- other names for what is ranked
 

@@ -14,7 +14,8 @@ use Rattle.qm_script.specs.Reached.{is_reached}
 use Rattle.qm_script.specs.ScriptSegments.{Script}
 use Rattle.qm_weight.specs.Tree.{Tree}
 use Rattle.qm_script.proofs.PartListings.{IsByDocument, IsByDocuments, items-few_parts, items-few_segments, items-parts, items-segments, items_from}
-use Rattle.qm_script.proofs.TreeParts.{score-documents, score-same}
+use Rattle.qm_weight.specs.LookingFacts.{score-documents}
+use Rattle.qm_script.proofs.TreeParts.{score-same}
 
 module _ (tree : Tree) where
   -- a document's number over all segments, and its score

@@ -18,7 +18,8 @@ use Rattle.qm_weight.specs.Tree.{Tree, matches, matching}
 use Rattle.qm_script.proofs.PrefixDocuments.{document_at}
 use Rattle.qm_script.proofs.ReachedParts.{parts-reach, whole-reaches}
 use Rattle.qm_script.proofs.Ranges.{map-filter-shifted, range-append}
-use Rattle.qm_script.proofs.TreeParts.{matches-same, matching-documents}
+use Rattle.qm_weight.specs.LookingFacts.{matching-documents}
+use Rattle.qm_script.proofs.TreeParts.{matches-same}
 
 -- An item is made of its number, the schema, one document, and whether this was deleted, where a prefix that passes the
 -- test is expanded to all terms that begin with it.

@@ -4,6 +4,8 @@ mod Listings
 mod SharedTerms
 mod Phrases
 pub mod HeldTerms
+pub mod RestrictedTrees
+pub mod UnplacedTrees
 mod PrefixSets
 mod Prefixes
 mod PrefixRows

@@ -13,12 +13,12 @@ use Rattle.qm_postings.specs.Segment.{Document, Segment}
 use Rattle.qm_postings.proofs.Restrictions.{frequency-wanted, holds-wanted, kept-in, length_id-restricted, positions-wanted}
 use Rattle.qm_schema.specs.Term.{TermKey, term_cmp_antisymmetric, term_cmp_total}
 use Rattle.qm_schema.specs.declared.schema.option.IndexRecordOption.TheVariants.{WithFreqsAndPositions}
-use Rattle.qm_weight.specs.Looking.{AreAlike, HaveAlikeLengths, IsAlike, LookAlike, LooksAlike}
+use Rattle.qm_weight.specs.Looking.{AreAlike, IsAlike, LooksAlike, StandAlike, StandsAlike}
 use Rattle.qm_weight.specs.LookingFacts.{matches-alike, prefix_matches-alike, score-alike}
 use Rattle.qm_weight.specs.Names.{AreWanted, ClausesName, Names}
 use Rattle.qm_weight.specs.Tree.{Tree, Clauses, Placed, all, none, term, phrase, phrase_prefix, boolean, boost, constant, clause, no_clause, begins_with}
 use Rattle.qm_weight.specs.Tree.{expansions, held_terms, list, matches, matching, score}
-use Rattle.qm_weight.proofs.HeldTerms.{among-filter, among-held, is_among, is_held, sorted-filter, sorted-held}
+use Rattle.qm_weight.proofs.HeldTerms.{among-filter, among-held, is_held, sorted-filter, sorted-held}
 
 -- ---- the terms that are held
 
@@ -87,25 +87,28 @@ module _ (wanted : TermKey → Bool) (s : Segment) where
     wanted-alike t is = record {
       held = holds-wanted wanted s t is d;
       often = λ option. frequency-wanted wanted s t is option d;
-      places = positions-wanted wanted s t is WithFreqsAndPositions d;
     }
 
-    all-alike : (terms : List Placed) → AreWanted wanted terms → LookAlike (restricted wanted s) d s d terms
-    all-alike terms are = All-weaker (λ (t : Placed). wanted t.term ≡ true) (λ (t : Placed). LooksAlike (restricted wanted s) d s d t.term)
-        (λ t is. wanted-alike t.term is) terms are
+    wanted-stands : (t : TermKey) → wanted t ≡ true → StandsAlike (restricted wanted s) d s d t
+    wanted-stands t is = positions-wanted wanted s t is WithFreqsAndPositions d
+
+    all-stand : (terms : List Placed) → AreWanted wanted terms → StandAlike (restricted wanted s) d s d terms
+    all-stand terms are = All-weaker (λ (t : Placed). wanted t.term ≡ true) (λ (t : Placed). StandsAlike (restricted wanted s) d s d t.term)
+        (λ t is. wanted-stands t.term is) terms are
 
     mutual
       named-alike : (tree : Tree) → Names wanted s tree → IsAlike (restricted wanted s) d s d tree
       named-alike all named = tt
       named-alike none named = tt
       named-alike (term t option weight) named = wanted-alike t named
-      named-alike (phrase terms slop weight) named = all-alike terms named
+      named-alike (phrase terms slop weight) named = all-stand terms named
       named-alike (phrase_prefix full prefix most weight) named =
-          let same = expansions-restricted wanted s prefix.term most named.1 in (
-            all-alike full named.0,
-            prefix_matches-alike (restricted wanted s) d s d full prefix most (all-alike full named.0) same
-                (All-weaker (λ t. wanted t ≡ true) (LooksAlike (restricted wanted s) d s d) wanted-alike _
-                (subst (All (λ t. wanted t ≡ true)) (sym same) named.1)),
+          let same = expansions-restricted wanted s prefix.term most named.1 in
+          let each = subst (All (λ t. wanted t ≡ true)) (sym same) named.1 in (
+            all-stand full named.0,
+            prefix_matches-alike (restricted wanted s) d s d full prefix most (all-stand full named.0) same
+                (All-weaker (λ t. wanted t ≡ true) (LooksAlike (restricted wanted s) d s d) wanted-alike _ each)
+                (All-weaker (λ t. wanted t ≡ true) (StandsAlike (restricted wanted s) d s d) wanted-stands _ each),
           )
       named-alike (boolean scoring minimum combiner clauses) named = clauses-alike clauses named
       named-alike (boost k inside) named = named-alike inside named

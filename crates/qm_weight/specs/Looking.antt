@@ -1,6 +1,6 @@
--- What a tree looks at in a document of a segment: of each term that it names whether the document holds it, how often and
--- where; of a prefix whether it matches there; and the length ids. Where two documents of two segments look alike,
--- the tree says the same of both.
+-- What a tree looks at in a document of a segment: of a term whether the document holds it, and how often; of the terms of
+-- a phrase where they stand; of a prefix whether it matches; and the length ids. Where two documents of two segments are
+-- alike in these, the tree says the same of both.
 use Rattle.std.specs.Prelude.{◌≡◌, ℕ, List, All}
 use Rattle.qm_postings.specs.Segment.{Segment, frequency, holds, length_id, positions}
 use Rattle.qm_schema.specs.Term.{TermKey}
@@ -12,11 +12,14 @@ use Rattle.qm_weight.specs.Tree.{Tree, Clauses, Placed, all, none, term, phrase,
 pub record LooksAlike (s : Segment) (d : ℕ) (u : Segment) (e : ℕ) (t : TermKey) : Type 0 where
   pub held : holds s t d ≡ holds u t e
   pub often : (option : IndexRecordOption) → frequency s option t d ≡ frequency u option t e
-  pub places : positions s WithFreqsAndPositions t d ≡ positions u WithFreqsAndPositions t e
 
--- the same of the terms of a phrase
-abbrev pub LookAlike : Segment → ℕ → Segment → ℕ → List Placed → Type 0
-LookAlike s d u e terms = All (λ t. LooksAlike s d u e t.term) terms
+-- where it stands there
+abbrev pub StandsAlike : Segment → ℕ → Segment → ℕ → TermKey → Type 0
+StandsAlike s d u e t = positions s WithFreqsAndPositions t d ≡ positions u WithFreqsAndPositions t e
+
+-- where the terms of a phrase do
+abbrev pub StandAlike : Segment → ℕ → Segment → ℕ → List Placed → Type 0
+StandAlike s d u e terms = All (λ t. StandsAlike s d u e t.term) terms
 
 -- the length ids of both documents
 abbrev pub HaveAlikeLengths : Segment → ℕ → Segment → ℕ → Type 0
@@ -28,9 +31,9 @@ abbrev mutual
   IsAlike s d u e all = Unit {0}
   IsAlike s d u e none = Unit {0}
   IsAlike s d u e (term t option weight) = LooksAlike s d u e t
-  IsAlike s d u e (phrase terms slop weight) = LookAlike s d u e terms
+  IsAlike s d u e (phrase terms slop weight) = StandAlike s d u e terms
   IsAlike s d u e (phrase_prefix full prefix most weight) =
-      LookAlike s d u e full × (prefix_matches s full prefix most d ≡ prefix_matches u full prefix most e)
+      StandAlike s d u e full × (prefix_matches s full prefix most d ≡ prefix_matches u full prefix most e)
   IsAlike s d u e (boolean scoring minimum combiner clauses) = AreAlike s d u e clauses
   IsAlike s d u e (boost k inside) = IsAlike s d u e inside
   IsAlike s d u e (constant k inside) = IsAlike s d u e inside

@@ -1,8 +1,10 @@
--- What a tree says of a document follows from what it looks at there.
-use Rattle.std.specs.Prelude.{◌≡◌, ℕ, ◌-◌, ◌*◌, ◌+◌, ◌&&◌, ◌||◌, if◌then◌else◌, List, [], ◌∷◌, All, Option, None, Some, length, map, min, nat_lt, take}
-use Rattle.std.specs.List.{count_by, list_any, sum}
-use Rattle.std.proofs.Common.{ap, refl, ◌∙◌}
+-- What a tree says of a document follows from what it looks at there; so of all documents it follows from the schema and the
+-- documents alone.
+use Rattle.std.specs.Prelude.{◌≡◌, ℕ, ◌-◌, ◌*◌, ◌+◌, ◌&&◌, ◌||◌, if◌then◌else◌, List, [], ◌∷◌, All, Option, None, Some, filter, length, map, min, nat_lt}
+use Rattle.std.specs.List.{count_by, list_any, range_with_len, sum}
+use Rattle.std.proofs.Common.{ap, refl, sym, ◌∙◌}
 use Rattle.std.proofs.lemmas.List.Elements.{All-head, All-tail}
+use Rattle.qm_docset.specs.Gather.{scored}
 use Rattle.qm_phrase.specs.Starts.{starts_held}
 use Rattle.qm_postings.specs.Positions.{is_in, shifted}
 use Rattle.qm_postings.specs.Segment.{Segment, holds}
@@ -10,44 +12,44 @@ use Rattle.qm_schema.specs.Term.{TermKey}
 use Rattle.qm_schema.specs.declared.occur.Occur.{Occur}
 use Rattle.qm_schema.specs.declared.occur.Occur.TheVariants.{Should, Must, MustNot}
 use Rattle.qm_term.specs.Bm25.{Weighing, bm25, boosted_by}
-use Rattle.qm_weight.specs.Looking.{AreAlike, HaveAlikeLengths, IsAlike, LookAlike, LooksAlike}
+use Rattle.qm_weight.specs.Looking.{AreAlike, HaveAlikeLengths, IsAlike, LooksAlike, StandAlike, StandsAlike}
 use Rattle.qm_weight.specs.Tree.{Tree, Clauses, Placed, all, none, term, phrase, phrase_prefix, boolean, boost, constant, clause, no_clause, boolean_matches}
-use Rattle.qm_weight.specs.Tree.{clause_matches, clause_scores, combined, common_places, expansions, field_of, followed, full_places, greatest_offset, matches}
-use Rattle.qm_weight.specs.Tree.{occurs_as, phrase_count, places, prefix_count, prefix_matches, prefix_score, score, weighed}
+use Rattle.qm_weight.specs.Tree.{clause_matches, clause_scores, combined, common_places, expansions, field_of, followed, full_places, greatest_offset, list, matches}
+use Rattle.qm_weight.specs.Tree.{matching, occurs_as, phrase_count, places, prefix_matches, prefix_score, score, weighed}
 
 module _ (s : Segment) (d : ℕ) (u : Segment) (e : ℕ) where
   -- ---- phrases
 
-  places-alike : (greatest : ℕ) (t : Placed) → LooksAlike s d u e t.term → places s d greatest t ≡ places u e greatest t
-  places-alike greatest t alike = ap (shifted (greatest - t.offset)) alike.places
+  places-alike : (greatest : ℕ) (t : Placed) → StandsAlike s d u e t.term → places s d greatest t ≡ places u e greatest t
+  places-alike greatest t alike = ap (shifted (greatest - t.offset)) alike
 
-  all_places-alike : (greatest : ℕ) (terms : List Placed) → LookAlike s d u e terms → map (places s d greatest) terms ≡ map (places u e greatest) terms
+  all_places-alike : (greatest : ℕ) (terms : List Placed) → StandAlike s d u e terms → map (places s d greatest) terms ≡ map (places u e greatest) terms
   all_places-alike greatest [] alike = refl
   all_places-alike greatest (t ∷ terms) alike =
-      let here = places-alike greatest t (All-head (λ (t : Placed). LooksAlike s d u e t.term) t terms alike) in
-      let others = all_places-alike greatest terms (All-tail (λ (t : Placed). LooksAlike s d u e t.term) t terms alike) in
+      let here = places-alike greatest t (All-head (λ (t : Placed). StandsAlike s d u e t.term) t terms alike) in
+      let others = all_places-alike greatest terms (All-tail (λ (t : Placed). StandsAlike s d u e t.term) t terms alike) in
       λ i. here i ∷ others i
 
-  phrase_count-alike : (terms : List Placed) (slop : ℕ) → LookAlike s d u e terms → phrase_count s terms slop d ≡ phrase_count u terms slop e
+  phrase_count-alike : (terms : List Placed) (slop : ℕ) → StandAlike s d u e terms → phrase_count s terms slop d ≡ phrase_count u terms slop e
   phrase_count-alike terms slop alike = ap (starts_held slop) (all_places-alike (greatest_offset terms) terms alike)
 
-  full_places-alike : (full : List Placed) (prefix : Placed) → LookAlike s d u e full → full_places s full prefix d ≡ full_places u full prefix e
+  full_places-alike : (full : List Placed) (prefix : Placed) → StandAlike s d u e full → full_places s full prefix d ≡ full_places u full prefix e
   full_places-alike full prefix alike = ap common_places (all_places-alike (greatest_offset (prefix ∷ full)) full alike)
 
   -- ---- prefixes, where both segments expand them to the same terms
 
-  followed-alike : (full : List Placed) (prefix : Placed) (x : TermKey) → LookAlike s d u e full → LooksAlike s d u e x →
+  followed-alike : (full : List Placed) (prefix : Placed) (x : TermKey) → StandAlike s d u e full → StandsAlike s d u e x →
       followed s full prefix d x ≡ followed u full prefix e x
   followed-alike full prefix x alike own =
       let here = places-alike (greatest_offset (prefix ∷ full)) (record prefix { term = x }) own in
       λ i. count_by (λ y. is_in y (here i)) (full_places-alike full prefix alike i)
 
-  all_followed-alike : (full : List Placed) (prefix : Placed) (xs : List TermKey) → LookAlike s d u e full → All (LooksAlike s d u e) xs →
+  all_followed-alike : (full : List Placed) (prefix : Placed) (xs : List TermKey) → StandAlike s d u e full → All (StandsAlike s d u e) xs →
       map (followed s full prefix d) xs ≡ map (followed u full prefix e) xs
   all_followed-alike full prefix [] alike each = refl
   all_followed-alike full prefix (x ∷ xs) alike each =
-      let here = followed-alike full prefix x alike (All-head (LooksAlike s d u e) x xs each) in
-      let others = all_followed-alike full prefix xs alike (All-tail (LooksAlike s d u e) x xs each) in
+      let here = followed-alike full prefix x alike (All-head (StandsAlike s d u e) x xs each) in
+      let others = all_followed-alike full prefix xs alike (All-tail (StandsAlike s d u e) x xs each) in
       λ i. here i ∷ others i
 
   any_holds-alike : (xs : List TermKey) → All (LooksAlike s d u e) xs → list_any (λ x. holds s x d) xs ≡ list_any (λ x. holds u x e) xs
@@ -57,13 +59,19 @@ module _ (s : Segment) (d : ℕ) (u : Segment) (e : ℕ) where
       let others = any_holds-alike xs (All-tail (LooksAlike s d u e) x xs each) in
       λ i. here i || others i
 
-  pub prefix_matches-alike : (full : List Placed) (prefix : Placed) (most : ℕ) → LookAlike s d u e full →
-      expansions s prefix.term most ≡ expansions u prefix.term most → All (LooksAlike s d u e) (expansions s prefix.term most) →
-      prefix_matches s full prefix most d ≡ prefix_matches u full prefix most e
-  prefix_matches-alike [] prefix most alike same each =
+  -- a prefix alone
+  pub prefix_alone-alike : (prefix : Placed) (most : ℕ) → expansions s prefix.term most ≡ expansions u prefix.term most →
+      All (LooksAlike s d u e) (expansions s prefix.term most) → prefix_matches s [] prefix most d ≡ prefix_matches u [] prefix most e
+  prefix_alone-alike prefix most same each =
       any_holds-alike (expansions s prefix.term most) each ∙ ap (list_any (λ x. holds u x e)) same
-  prefix_matches-alike (t ∷ full) prefix most alike same each =
-      ap (λ ns. nat_lt 0 (min 4294967295 (sum ns))) (all_followed-alike (t ∷ full) prefix (expansions s prefix.term most) alike each)
+
+  -- behind full terms or not
+  pub prefix_matches-alike : (full : List Placed) (prefix : Placed) (most : ℕ) → StandAlike s d u e full →
+      expansions s prefix.term most ≡ expansions u prefix.term most → All (LooksAlike s d u e) (expansions s prefix.term most) →
+      All (StandsAlike s d u e) (expansions s prefix.term most) → prefix_matches s full prefix most d ≡ prefix_matches u full prefix most e
+  prefix_matches-alike [] prefix most alike same each stand = prefix_alone-alike prefix most same each
+  prefix_matches-alike (t ∷ full) prefix most alike same each stand =
+      ap (λ ns. nat_lt 0 (min 4294967295 (sum ns))) (all_followed-alike (t ∷ full) prefix (expansions s prefix.term most) alike stand)
       ∙ ap (λ xs. nat_lt 0 (min 4294967295 (sum (map (followed u (t ∷ full) prefix e) xs)))) same
 
   -- ---- a tree
@@ -95,7 +103,7 @@ module _ (s : Segment) (d : ℕ) (u : Segment) (e : ℕ) where
     weighed-alike None b field n m same = refl
     weighed-alike (Some weight) b field n m same = λ i. bm25 (boosted_by b weight) (lengths field i) (same i)
 
-    prefix_score-alike : (full : List Placed) (prefix : Placed) (weight : Option Weighing) (b : ℕ) → LookAlike s d u e full →
+    prefix_score-alike : (full : List Placed) (prefix : Placed) (weight : Option Weighing) (b : ℕ) → StandAlike s d u e full →
         prefix_score s full prefix weight b d ≡ prefix_score u full prefix weight b e
     prefix_score-alike [] prefix weight b alike = refl
     prefix_score-alike (t ∷ []) prefix None b alike = refl
@@ -125,3 +133,50 @@ module _ (s : Segment) (d : ℕ) (u : Segment) (e : ℕ) where
           let scored_here = score-alike inside b alike.0 in
           let others = clause_scores-alike clauses wanted b alike.1 in
           λ i. if occurs_as wanted occur && here i then scored_here i ∷ others i else others i
+
+-- ---- the schema and the documents decide, whatever the tree
+
+-- a segment of these documents
+abbrev plain : Segment → Segment
+plain s = record { schema = s.schema; block_len = 0; documents = s.documents; deleted = [] }
+
+module _ (s : Segment) (d : ℕ) where
+  mutual
+    alike-plain : (tree : Tree) → IsAlike s d (plain s) d tree
+    alike-plain all = tt
+    alike-plain none = tt
+    alike-plain (term t option weight) = record { held = refl; often = λ option. refl }
+    alike-plain (phrase terms slop weight) = λ k t within. refl
+    alike-plain (phrase_prefix [] prefix most weight) = (λ k t within. refl, refl)
+    alike-plain (phrase_prefix (t ∷ full) prefix most weight) = (λ k t within. refl, refl)
+    alike-plain (boolean scoring minimum combiner clauses) = clauses_alike-plain clauses
+    alike-plain (boost k inside) = alike-plain inside
+    alike-plain (constant k inside) = alike-plain inside
+
+    clauses_alike-plain : (clauses : Clauses) → AreAlike s d (plain s) d clauses
+    clauses_alike-plain no_clause = tt
+    clauses_alike-plain (clause occur inside clauses) = (alike-plain inside, clauses_alike-plain clauses)
+
+  matches-plain : (tree : Tree) → matches tree s d ≡ matches tree (plain s) d
+  matches-plain tree = matches-alike s d (plain s) d tree (alike-plain tree)
+
+  score-plain : (tree : Tree) (b : ℕ) → score tree b s d ≡ score tree b (plain s) d
+  score-plain tree b = score-alike s d (plain s) d (λ field. refl) tree b (alike-plain tree)
+
+module _ (s t : Segment) (schema : s.schema ≡ t.schema) (documents : s.documents ≡ t.documents) (tree : Tree) where
+  same_plain : plain s ≡ plain t
+  same_plain = ap (λ f. record (plain s) { schema = f }) schema ∙ ap (λ ds. record (plain t) { documents = ds }) documents
+
+  pub matches-documents : (d : ℕ) → matches tree s d ≡ matches tree t d
+  matches-documents d = matches-plain s d tree ∙ ap (λ a. matches tree a d) same_plain ∙ sym (matches-plain t d tree)
+
+  pub score-documents : (b d : ℕ) → score tree b s d ≡ score tree b t d
+  score-documents b d = score-plain s d tree b ∙ ap (λ a. score tree b a d) same_plain ∙ sym (score-plain t d tree b)
+
+  pub matching-documents : matching tree s ≡ matching tree t
+  matching-documents =
+      ap (λ ds. filter (matches tree s) (range_with_len 0 (length ds))) documents
+      ∙ (λ i. filter (λ d. matches-documents d i) (range_with_len 0 (length t.documents)))
+
+  pub list-documents : (b : ℕ) → list tree b s ≡ list tree b t
+  list-documents b = ap (map (λ d. scored d (score tree b s d))) matching-documents ∙ (λ i. map (λ d. scored d (score-documents b d i)) (matching tree t))
