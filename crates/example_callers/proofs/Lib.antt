@@ -3,3 +3,4 @@ mod BestFound
 mod Searched
 mod PhraseFields
 mod HeldTerms
+mod WantedRows

@@ -1,6 +1,7 @@
 -- What callers find, and what they do.
 use Rattle.std.specs.Prelude.{◌≡◌, ℕ, ℤ, ◌⊎◌, ◌&&◌, All, Bool, IsTrue, List, Option, filter, length, nat_le, slice_get}
-use Rattle.std.specs.List.{range_with_len}
+use Rattle.std.specs.List.{list_any, range_with_len}
+use Rattle.std.specs.Ordering.{eq_by_cmp}
 use Rattle.qm_docset.specs.Entry.{Entry, head_document}
 use Rattle.qm_docset.specs.Gather.{documents_below, scores_at}
 use Rattle.qm_docset.specs.declared.numbers.TheConstants.{TERMINATED}
@@ -15,7 +16,7 @@ use Rattle.qm_query.specs.Query.{Query}
 use Rattle.qm_query.specs.QueryTree.{query_tree}
 use Rattle.qm_query.specs.Searches.{count_in, with_scores}
 use Rattle.qm_query.specs.TopDocs.{StandsBefore, score_first}
-use Rattle.qm_schema.specs.Term.{TermKey}
+use Rattle.qm_schema.specs.Term.{TermKey, term_cmp}
 use Rattle.qm_schema.specs.declared.schema.option.IndexRecordOption.TheVariants.{WithFreqs}
 use Rattle.qm_weight.specs.Best.{best}
 use Rattle.qm_weight.specs.BoostFacts.{RoundsNothing}
@@ -54,3 +55,7 @@ StandsFirst all first = All (λ d. (score_first d ≡ first) ⊎ StandsBefore fi
 -- how many documents a query finds in all segments of a searcher that were not deleted
 abbrev pub found_count : Ghosts Searched → Searched → Query → ℕ
 found_count S searcher query = count_in (query_tree S (with_scores searcher) query) searcher.segments
+
+-- whether a term is one of these
+abbrev pub is_wanted : List TermKey → TermKey → Bool
+is_wanted terms t = list_any (λ u. eq_by_cmp term_cmp u t) terms

@@ -10,6 +10,7 @@ mod laws;
 mod library_use;
 mod phrase_callers;
 mod query_callers;
+mod row_callers;
 mod term_callers;
 mod top_docs_callers;
 mod weight_callers;
@@ -24,6 +25,7 @@ pub use laws::{
 pub use library_use::phrase_and_word;
 pub use phrase_callers::{count_behind_buffer, positions_behind_buffer, scored_phrase};
 pub use query_callers::{best_document, matches, matching_documents};
+pub use row_callers::{join_matches_of_terms, with_terms_alone};
 pub use term_callers::{best_of_term, end_of_block};
 pub use top_docs_callers::{best_address, first_page};
 pub use weight_callers::{best_matches, holders_of_both, join_matches};
