@@ -386,6 +386,24 @@ def of_words(random, segment):
     yield from Counted(random, {doc: (count[doc], found[doc]) for doc in found}, segment.deleted).rows(12)
 
 
+def row_of(segment, field, term):
+    """The row of a term: its documents, how often each holds it, and where the field keeps that, its places there."""
+    held = {doc: it.places[term] for doc, it in enumerate(segment.documents) if it.holds(term)}
+    places = [place for doc in held for place in held[doc]] if field.keeps == "positions" else []
+    return ":".join(["0", term[1], joined(held), joined(map(len, held.values())), joined(places)])
+
+
+def of_rows(random, segment, field):
+    """The rows and the column of a segment, which is made of them anew; then what was deleted is deleted once more."""
+    yield "segment"
+    yield row("rows", " ".join(row_of(segment, field, term) for term in segment.terms))
+    ids = [it.length_id(field.name) for it in segment.documents] if field.lengths else []
+    yield row(f"columns {field.name}", " ".join(map(str, ids)))
+    if random.random() < 0.5:
+        yield row("again", "made")
+        yield from (row(f"delete {doc}") for doc in sorted(segment.deleted))
+
+
 def by_chance(random):
     """Phrases and unions on their own, and the postings of a segment."""
     for generate in (phrase, prefix, phrase, prefix, union):
@@ -399,6 +417,7 @@ def by_segment(random):
     segment, words = chance.segment(random, chance.size(random), field)
     length = random.choice(chance.BLOCKS)
     yield from spelled.one_segment(segment, words, length, field)
+    yield from of_rows(random, segment, field)
     for term in random.sample(segment.terms, min(5, len(segment.terms))):
         yield from of_term(random, segment, field, term)
         yield from of_blocks(random, segment, field, term, length)
