@@ -26,6 +26,7 @@ PROGRAMS = {
     "cases_postings": ["qm_schema", "qm_postings", "qm_index", "qm_term", "qm_phrase"],
     "cases_weights": ["qm_scorer", "qm_weight"],
     "cases_queries": ["qm_query"],
+    "cases_store": ["qm_store"],
     "cases_scripts": ["qm_script"],
 }
 # how many rows by chance each program plays
@@ -34,6 +35,7 @@ ROWS = {
     "cases_postings": 75_000,
     "cases_weights": 200_000,
     "cases_queries": 100_000,
+    "cases_store": 30_000,
     "cases_scripts": 6_000,
 }
 # A program that takes longer than this many seconds is taken never to end.

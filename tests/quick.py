@@ -25,6 +25,7 @@ BUILT = {
     "cases_scripts": ["--optimised"],
     "cases_postings": ["--optimised"],
     "cases_cursors": ["--optimised"],
+    "cases_store": ["--optimised"],
 }
 
 

@@ -17,7 +17,7 @@ import sys
 ROOT = os.path.realpath(os.path.join(os.path.dirname(os.path.abspath(__file__)), ".."))
 TABLE = "tests/refused_calls.txt"
 CRATES = (
-    "qm_docset qm_schema qm_postings qm_index qm_combine qm_term qm_phrase qm_scorer qm_weight qm_query qm_script"
+    "qm_docset qm_schema qm_postings qm_index qm_store qm_combine qm_term qm_phrase qm_scorer qm_weight qm_query qm_script"
 ).split()
 # by trait the rows that name its calls, none of which takes memory
 ROWS = {

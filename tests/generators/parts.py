@@ -2,7 +2,7 @@
 
 import itertools
 
-from generators import cursors, indexes, postings, queries, runs, scripts, sets, tables, trees, weights
+from generators import cursors, indexes, postings, queries, runs, scripts, sets, stored, tables, trees, weights
 
 GENERATORS = {
     "runs of Booleans": tables.runs_of_booleans,
@@ -28,6 +28,7 @@ GENERATORS = {
     "postings": postings.by_chance,
     "runs": runs.by_chance,
     "indexes": indexes.by_chance,
+    "stored rows": stored.by_chance,
     "scripts": scripts.by_chance,
 }
 
@@ -55,6 +56,7 @@ TABLES = {
         ("small phrases", [*((slop, (0, 1)) for slop in (0, 1, 2, 7)), (1, (2, 0, 3))]),
         ("blocks of small lists", list(itertools.product((1, 2, 3, 128), postings.SMALL_LISTS))),
     ],
+    "cases_store": [],
     "cases_scripts": [],
 }
 
@@ -64,5 +66,6 @@ BY_CHANCE = {
     "cases_queries": ["queries"],
     "cases_cursors": ["cursors", "windows", "cursors", "cursors", "sets"],
     "cases_postings": ["postings", "runs", "indexes"],
+    "cases_store": ["stored rows"],
     "cases_scripts": ["scripts"],
 }

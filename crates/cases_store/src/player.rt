@@ -1,0 +1,51 @@
+//! Which blocks there are.
+
+use crate::given_row::GivenRow;
+use crate::spelled::{keeps_positions, read_bytes, write_read};
+use cases::{Asker, Block, Fault, Memory, Player, Report, end_refusals, play_asked, word};
+use qm_schema::{Field, Term};
+use qm_store::read_row;
+use std::alloc::Global;
+
+/// Plays blocks of rows and of bytes.
+#[derive(Drop)]
+pub struct Store;
+
+impl Player for Store {
+    fn play(&mut self, alloc: Global, block: Block<'_>, report: &mut Report) -> Result<(), Fault> {
+        match word(block.words, 0) {
+            "row" => {
+                let mut row = GivenRow::make(alloc, block.words)?;
+                play_asked(alloc, &mut row, block.rows, report)
+            }
+            "read" => {
+                let has_positions = keeps_positions(word(block.words, 1))?;
+                play_asked(alloc, &mut ReadRows { has_positions }, block.rows, report)
+            }
+            _ => Err(Fault::NotUnderstood),
+        }
+    }
+}
+
+/// Rows of bytes, in a field that keeps positions or in another: each is answered with the row that they are.
+#[derive(Drop)]
+struct ReadRows {
+    has_positions: bool,
+}
+
+impl Asker for ReadRows {
+    fn ask(
+        &mut self,
+        alloc: Global,
+        call: &str,
+        memory: Memory,
+        text: &mut String,
+    ) -> Result<(), Fault> {
+        let bytes = read_bytes(alloc, call)?;
+        let term = Term::from_field_text(alloc, Field::from_field_id(0), "")?;
+        memory.begin(alloc);
+        let read = read_row(alloc, term, self.has_positions, &bytes);
+        end_refusals(alloc);
+        write_read(read, text)
+    }
+}

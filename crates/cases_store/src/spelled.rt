@@ -1,0 +1,81 @@
+//! What words of a case spell.
+
+use cases::{Fault, read_documents, write_space};
+use qm_postings::TermRow;
+use qm_schema::QueryError;
+use std::alloc::{AllocError, Global};
+
+/// Whether a field of this word keeps positions.
+pub fn keeps_positions(kept: &str) -> Result<bool, Fault> {
+    match kept {
+        "positions" => Ok(true),
+        "freqs" => Ok(false),
+        _ => Err(Fault::NotUnderstood),
+    }
+}
+
+/// The numbers that a word spells, with `,` between two, and none for `-`.
+pub fn read_numbers(alloc: Global, spelled: &str) -> Result<Vec<u32>, Fault> {
+    let mut parts = Vec::new(alloc);
+    if spelled != "-" {
+        for part in spelled.split(',') {
+            parts.push(part)?;
+        }
+    }
+    read_documents(alloc, &parts)
+}
+
+/// The bytes that words spell, each by two hexadecimal digits, and none for `-`.
+pub fn read_bytes(alloc: Global, spelled: &str) -> Result<Vec<u8>, Fault> {
+    let mut bytes = Vec::new(alloc);
+    if spelled == "-" {
+        return Ok(bytes);
+    }
+    for digits in spelled.split_whitespace() {
+        let byte = u8::from_str_radix(digits, 16).map_err(|_| Fault::NotUnderstood)?;
+        bytes.push(byte)?;
+    }
+    Ok(bytes)
+}
+
+/// Writes bytes as they are read.
+pub fn write_bytes(bytes: &[u8], text: &mut String) -> Result<(), AllocError> {
+    for byte in bytes {
+        write_space(text)?;
+        write!(text, "{byte:02x}")?;
+    }
+    Ok(())
+}
+
+/// Writes what was read: the documents, the frequencies and the positions of a row, or `none`.
+pub fn write_read(
+    read: Result<Option<TermRow>, AllocError>,
+    text: &mut String,
+) -> Result<(), Fault> {
+    match read {
+        Err(_) => Err(Fault::Refused(QueryError::Memory)),
+        Ok(None) => Ok(text.push_str("none")?),
+        Ok(Some(row)) => {
+            write_numbers(&row.documents, text)?;
+            text.push(' ')?;
+            write_numbers(&row.frequencies, text)?;
+            text.push(' ')?;
+            Ok(write_numbers(&row.positions, text)?)
+        }
+    }
+}
+
+fn write_numbers(numbers: &[u32], text: &mut String) -> Result<(), AllocError> {
+    if numbers.is_empty() {
+        return text.push('-');
+    }
+    let mut is_first = true;
+    for number in numbers {
+        if !is_first {
+            text.push(',')?;
+        }
+        write!(text, "{number}")?;
+        is_first = false;
+    }
+    Ok(())
+}

@@ -1,0 +1,4 @@
+pub mod NumberBytes
+pub mod GapBytes
+pub mod RowsRead
+pub mod RowSteps
