@@ -3,6 +3,7 @@
 #![tactic(auto)]
 
 mod best;
+mod bytes_callers;
 mod callers;
 mod cursor_callers;
 mod index_callers;
@@ -16,6 +17,7 @@ mod top_docs_callers;
 mod weight_callers;
 
 pub use best::{BestPairs, best_pairs};
+pub use bytes_callers::row_through_bytes;
 pub use callers::{Joined, collect_calls, collect_matches, count_calls, join_slices};
 pub use cursor_callers::{documents_in_enough, documents_with_term};
 pub use index_callers::{replace_document, searched_segments, unsearched_documents};
