@@ -38,7 +38,8 @@ pub fn play_stored(
         made: None,
     };
     play_asked(alloc, &mut maker, block.rows, report)?;
-    if let Some(segment) = maker.made {
+    let StoredMaker { made, .. } = maker;
+    if let Some(segment) = made {
         bench.alive = alive_of(alloc, &segment)?;
         bench.segment = segment;
     }
@@ -59,7 +60,7 @@ impl<'s> StoredMaker<'s> {
         let (name, numbers) = cut(spelled);
         let mut ids = Vec::new(alloc);
         for number in read_numbers(alloc, numbers)? {
-            ids.push(number as u8)?;
+            ids.push(u8::try_from(number).map_err(|_| Fault::NotUnderstood)?)?;
         }
         if name == "more" {
             self.lengths.push(ids)?;
