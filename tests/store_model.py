@@ -1,9 +1,9 @@
-"""Rows as bytes, by a plain reader and a plain writer that know nothing of the program.
+"""Rows and terms as bytes, by a plain reader and a plain writer that know nothing of the program.
 
 A number has seven bits in each byte, the lowest first, and the eighth is set where more come; nine bytes at most. A row
 is how many postings it has, then the postings, then the positions. A posting is the gap between its document and the
 one before, doubled, and one more where its frequency is 1; else the frequency stands behind it. Positions are gaps too,
-anew in each posting.
+anew in each posting. A term is its field, how many bytes its text has, and these.
 """
 
 MOST = 4294967295
@@ -94,3 +94,19 @@ def read_row(found, has_positions):
     except NotThere:
         return None
     return None if reading.left else (documents, frequencies, positions)
+
+
+def term_bytes(field, text):
+    return number_bytes(field) + number_bytes(len(text)) + list(text)
+
+
+def begun_term(found):
+    """The field and the text that bytes begin with, and what is left behind them, or nothing."""
+    reading = Reading(found)
+    try:
+        field, count = reading.number(), reading.number()
+    except NotThere:
+        return None
+    if field > MOST or count > len(reading.left):
+        return None
+    return field, reading.left[:count], reading.left[count:]

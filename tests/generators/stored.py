@@ -1,7 +1,7 @@
-"""Cases of rows as bytes, by chance: rows that are written and read again, and bytes that were damaged."""
+"""Cases of rows and terms as bytes, by chance: those that are written and read again, and bytes that were damaged."""
 
 from generators.spelled import row
-from store_model import read_row, row_bytes
+from store_model import begun_term, read_row, row_bytes, term_bytes
 
 # below which number documents, frequencies and positions are
 BOUNDS = (4, 70, 300, 20000, 4294967295)
@@ -41,7 +41,27 @@ def told(found, has_positions):
     return "none" if read is None else " ".join(map(joined, read))
 
 
-def by_chance(random):
+def told_term(found):
+    begun = begun_term(found)
+    if begun is None:
+        return "none"
+    field, text, left = begun
+    return " ".join([str(field), "text", *(f"{it:02x}" for it in text), "left", *(f"{it:02x}" for it in left)])
+
+
+def term_by_chance(random):
+    field = random.choice([0, 1, 127, 128, random.randrange(4294967296)])
+    text = "".join(random.choice("abzäß") for _ in range(random.choice([0, 1, 2, 14, 15, 90])))
+    found = term_bytes(field, text.encode())
+    yield f"term {field} {text or '-'}"
+    yield row("bytes", spelled([255, *found]))
+    for _ in range(20):
+        begun = damaged(random, [*found, *random.choice([[], [0], [255, 1]])])
+        yield f"begin {spelled(begun)}"
+        yield row("term", told_term(begun))
+
+
+def row_by_chance(random):
     has_positions = random.random() < 0.6
     documents = ascending(random, random.choice([1, 2, 3, 20, 200]), min(random.choice(BOUNDS), 2147483647))
     most = random.choice(BOUNDS)
@@ -60,3 +80,7 @@ def by_chance(random):
     for _ in range(20):
         other = damaged(random, found)
         yield row(spelled(other), told(other, has_positions))
+
+
+def by_chance(random):
+    yield from random.choice([row_by_chance, row_by_chance, term_by_chance])(random)

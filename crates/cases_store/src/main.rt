@@ -2,6 +2,7 @@
 #![tactic(auto)]
 
 mod given_row;
+mod given_term;
 mod player;
 mod spelled;
 

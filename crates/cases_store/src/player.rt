@@ -1,13 +1,14 @@
 //! Which blocks there are.
 
 use crate::given_row::GivenRow;
+use crate::given_term::{GivenBytes, GivenTerm};
 use crate::spelled::{keeps_positions, read_bytes, write_read};
 use cases::{Asker, Block, Fault, Memory, Player, Report, end_refusals, play_asked, word};
 use qm_schema::{Field, Term};
 use qm_store::read_row;
 use std::alloc::Global;
 
-/// Plays blocks of rows and of bytes.
+/// Plays blocks of rows, of terms and of bytes.
 #[derive(Drop)]
 pub struct Store;
 
@@ -21,6 +22,14 @@ impl Player for Store {
             "read" => {
                 let has_positions = keeps_positions(word(block.words, 1))?;
                 play_asked(alloc, &mut ReadRows { has_positions }, block.rows, report)
+            }
+            "term" => {
+                let mut term = GivenTerm::make(alloc, block.words)?;
+                play_asked(alloc, &mut term, block.rows, report)
+            }
+            "begin" => {
+                let mut bytes = GivenBytes::make(alloc, block.words)?;
+                play_asked(alloc, &mut bytes, block.rows, report)
             }
             _ => Err(Fault::NotUnderstood),
         }

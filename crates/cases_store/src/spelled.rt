@@ -25,13 +25,22 @@ pub fn read_numbers(alloc: Global, spelled: &str) -> Result<Vec<u32>, Fault> {
     read_documents(alloc, &parts)
 }
 
-/// The bytes that words spell, each by two hexadecimal digits, and none for `-`.
+/// The bytes that a text spells, each by two hexadecimal digits, and none for `-`.
 pub fn read_bytes(alloc: Global, spelled: &str) -> Result<Vec<u8>, Fault> {
+    let mut words = Vec::new(alloc);
+    for word in spelled.split_whitespace() {
+        words.push(word)?;
+    }
+    bytes_of(alloc, &words)
+}
+
+/// The bytes that words spell.
+pub fn bytes_of(alloc: Global, words: &[&str]) -> Result<Vec<u8>, Fault> {
     let mut bytes = Vec::new(alloc);
-    if spelled == "-" {
+    if words.first() == Some(&"-") {
         return Ok(bytes);
     }
-    for digits in spelled.split_whitespace() {
+    for digits in words {
         let byte = u8::from_str_radix(digits, 16).map_err(|_| Fault::NotUnderstood)?;
         bytes.push(byte)?;
     }

@@ -2,3 +2,4 @@ pub mod NumberBytes
 pub mod GapBytes
 pub mod RowsRead
 pub mod RowSteps
+pub mod TermsRead
