@@ -104,7 +104,9 @@ def runs_of(program, seed, rows):
     """What a program is to play: its files, and what the model says, some to each processor. Each with whether it is
     flat."""
     parts, rows = os.cpu_count() or 1, rows or ROWS[program]
-    texts = [(lambda: files_of(PROGRAMS[program], True), True), (lambda: files_of(PROGRAMS[program]), False)]
+    texts = [(lambda: files_of(PROGRAMS[program]), False)]
+    if any(os.path.exists(f"{ROOT}/cases/{crate}/{FLAT}") for crate in PROGRAMS[program]):
+        texts.insert(0, (lambda: files_of(PROGRAMS[program], True), True))
     for part in range(parts):
         texts.append((lambda part=part: generated(program, seed * parts + part, rows // parts, parts), False))
     return texts
