@@ -3,3 +3,5 @@ pub mod GapBytes
 pub mod RowsRead
 pub mod RowSteps
 pub mod TermsRead
+pub mod BlockOrder
+pub mod ReadingOn

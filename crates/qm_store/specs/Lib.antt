@@ -1,3 +1,10 @@
 pub mod Numbers
 pub mod RowBytes
 pub mod TermBytes
+pub mod Words
+pub mod Pieces
+pub mod Entries
+pub mod Dictionary
+pub mod Columns
+pub mod Ends
+pub mod StoredSegment

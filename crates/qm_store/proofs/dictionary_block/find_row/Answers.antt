@@ -1,0 +1,38 @@
+use Rattle.std.proofs.Common.{rules, ◌≡◌, ◌+◌, ◌-◌, false, true, not, arith, ap, sym, ◌∙◌, is_some, option_map}
+use Rattle.std.proofs.lemmas.Bool.{cases_Bool}
+use Rattle.qm_schema.specs.Term.{TermKey}
+use Rattle.qm_store.specs.Dictionary.{entries_at, row_with}
+use Rattle.qm_store.specs.Entries.{Part, lent_part}
+use Rattle.qm_store.specs.declared.entry.PartRef.{PartRef}
+use Rattle.qm_store.proofs.ReadingOn.{entry-passes, first-kept, first-taken, found_by, or_else_among, other-passed}
+use Rattle.qm_store.proofs.dictionary_block.find_row.Goals as goal
+use Rattle.qm_store.proofs.dictionary_block.find_row.Goals.{then-is_none+then-is_term, else-is_none, else-is_none-via-then-is_none+else-is_term, else-is_none-via-else-is_none}
+
+abbrev lent : PartRef × PartRef → Part × Part
+lent p = (lent_part p.0, lent_part p.1)
+
+pub loop-preserved : goal.loop-preserved
+loop-preserved c =
+    let at = c.loop in
+    let t = c.args.term.now in
+    let u : TermKey = record { field = c.in-Some-read_term.field; bytes = c.in-Some-read_term.text.now } in
+    let p : Part × Part = (lent_part c.in-Some-read_parts.postings, lent_part c.in-Some-read_parts.places) in
+    let rest = c.in-Some-read_parts.behind.now in
+    let left = c.in-Some.count - at.counter in
+    let e : c.in-Some.count - (at.counter + 1) ≡ left - 1 = omega arith in
+    let same : option_map (λ p. (lent_part p.0, lent_part p.1)) c.if-is_none.found ≡ found_by t (option_map (λ p. (lent_part p.0, lent_part p.1)) at.found) u p =
+    elim c.if-is_none.branch [
+      | then-is_none+then-is_term w ↦ ap (option_map lent) w.found-is ∙ first-taken lent t at.found u (c.in-Some-read_parts.postings, c.in-Some-read_parts.places) w.if-is_none.ensures (search rules)
+      | else-is_none w ↦ ap (option_map lent) w.found-is ∙ elim w.else-is_none.branch [
+        | else-is_none-via-then-is_none+else-is_term w' ↦ other-passed lent t at.found u p w'.if-is_none.ensures (search rules)
+        | else-is_none-via-else-is_none w' ↦ first-kept lent t at.found u p w'.if-is_none.ensures
+      ]
+    ]
+    in
+    record {
+      whole =
+          (λ i. option_map (or_else_among t (same i)) (entries_at (e i) rest))
+          ∙ entry-passes t (option_map (λ p. (lent_part p.0, lent_part p.1)) at.found) left at.rest.now u c.in-Some-read_term.between.now p rest
+          (omega (arith, c.loop-test.true)) (sym c.in-Some-read_term.ensures) (search rules)
+          ∙ at.invariant.whole;
+    }

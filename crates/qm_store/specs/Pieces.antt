@@ -1,0 +1,68 @@
+-- Pieces of a file, and their digests; and when a function returned what some bytes are.
+use Rattle.std.specs.Prelude.{◌≡◌, ℕ, ◌+◌, ◌==◌, nat_le, if◌then◌else◌, List, ◌++◌, Option, None, Some, Result, Ok, Err, drop, length, option_and_then, take}
+use Rattle.std.specs.Int.{w64, to_le_bytes}
+use Rattle.std.specs.Hash.DefaultHasher.{finish, initial, write}
+use Rattle.qm_store.specs.Numbers.{number_at, spelled}
+use Rattle.qm_store.specs.RowBytes.{followed_by}
+use Rattle.qm_store.specs.Words.{word_at}
+use Rattle.qm_store.specs.declared.piece.Piece.{Piece}
+use Rattle.qm_store.specs.declared.store_error.StoreError.{StoreError}
+use Rattle.qm_store.specs.declared.store_error.StoreError.TheVariants.{Damaged, Failed, Memory, NotSegment, OtherVersion}
+
+-- ---- what a function returned
+
+-- an error tells that nothing was there to be read, or memory ran out
+abbrev pub TellsOf : {Y : Type 0} → StoreError → Option Y → Type 0
+TellsOf Memory found = Unit {0}
+TellsOf Failed found = ⊥
+TellsOf NotSegment found = ⊥
+TellsOf OtherVersion found = ⊥
+TellsOf Damaged found = found ≡ None
+
+-- What was returned is what was found, and damaged where nothing was, unless memory ran out.
+abbrev pub GivesSome : {X Y : Type 0} → (X → Y) → Result X StoreError → Option Y → Type 0
+GivesSome view (Ok x) found = found ≡ Some (view x)
+GivesSome view (Err e) found = TellsOf e found
+
+-- an error tells of what reading gives, or memory ran out
+abbrev pub Fails : {Y : Type 0} → StoreError → Result Y StoreError → Type 0
+Fails Memory read = Unit {0}
+Fails Failed read = ⊥
+Fails NotSegment read = read ≡ Err NotSegment
+Fails OtherVersion read = read ≡ Err OtherVersion
+Fails Damaged read = read ≡ Err Damaged
+
+-- What was returned is what reading gives, unless memory ran out.
+abbrev pub Gives : {X Y : Type 0} → (X → Y) → Result X StoreError → Result Y StoreError → Type 0
+Gives view (Ok x) read = read ≡ Ok (view x)
+Gives view (Err e) read = Fails e read
+
+-- ---- pieces
+
+-- so many bytes of a file from a place on, where they are there
+abbrev pub part_at : ℕ → ℕ → List ℕ → Option (List ℕ)
+part_at at count file = if nat_le (at + count) (length file) then Some (take count (drop at file)) else None
+
+-- the digest of bytes that stand at a place of the segment of a key
+unfoldable pub digest : ℕ → ℕ → List ℕ → ℕ
+digest key at bs = finish (write (write (write initial (to_le_bytes w64 key)) (to_le_bytes w64 at)) bs)
+
+-- these bytes, where their digest is this one
+abbrev pub digested : ℕ → Piece → List ℕ → Option (List ℕ)
+digested key p bs = if digest key p.at bs == p.digest then Some bs else None
+
+-- The bytes of a piece in the file of a key, where they are there, and have its digest.
+abbrev pub piece_in : ℕ → List ℕ → Piece → Option (List ℕ)
+piece_in key file p = option_and_then (digested key p) (part_at p.at p.len file)
+
+-- ---- pieces as bytes
+
+abbrev pub piece_bytes : Piece → List ℕ
+piece_bytes p = spelled p.at ++ (spelled p.len ++ to_le_bytes w64 p.digest)
+
+-- the piece that some bytes begin with the name of, and the bytes behind it
+abbrev pub piece_at : List ℕ → Option (Piece × List ℕ)
+piece_at bs =
+    followed_by (number_at 8 bs) (λ at rest.
+    followed_by (number_at 8 rest) (λ len rest.
+    followed_by (word_at rest) (λ d rest. Some (record { at = at; len = len; digest = d }, rest))))

@@ -1,0 +1,99 @@
+-- What some bytes are as a stored segment, and what they say of a term.
+use Rattle.std.specs.Prelude.{ℕ, Bool, if◌then◌else◌, List, ◌++◌, Option, None, Some, Result, Ok, Err, map, ok_or, option_and_then, option_map}
+use Rattle.qm_postings.specs.Rows.{Row}
+use Rattle.qm_schema.specs.Schema.{FieldFacts}
+use Rattle.qm_schema.specs.Term.{TermKey}
+use Rattle.qm_store.specs.Columns.{columns_at}
+use Rattle.qm_store.specs.Dictionary.{Block, block_at, block_for, index_at, row_with, start_of}
+use Rattle.qm_store.specs.Ends.{ending_in, headed}
+use Rattle.qm_store.specs.Entries.{Part, here, there}
+use Rattle.qm_store.specs.Pieces.{piece_in}
+use Rattle.qm_store.specs.RowBytes.{row_at}
+use Rattle.qm_store.specs.declared.ending.Ending.{Ending}
+use Rattle.qm_store.specs.declared.piece.Piece.{Piece}
+use Rattle.qm_store.specs.declared.store_error.StoreError.{StoreError}
+use Rattle.qm_store.specs.declared.store_error.StoreError.TheVariants.{Damaged}
+use Rattle.qm_store.specs.declared.stored_segment.StoredSegment.{StoredSegment}
+
+-- ---- what is known of a stored segment once it is open
+
+pub record Opened : Type 0 where
+  -- how many postings a block has, and how many documents there are
+  pub block_len : ℕ
+  pub documents : ℕ
+  -- the blocks of its dictionary, and the length ids of each field
+  pub blocks : List Block
+  pub columns : List (List ℕ)
+
+-- with these blocks, the length ids that some bytes are
+abbrev pub with_columns : List FieldFacts → Ending → List Block → List ℕ → Option Opened
+with_columns schema e blocks bs =
+    option_map (λ columns. record { block_len = e.block_len; documents = e.documents; blocks = blocks; columns = columns })
+    (columns_at schema e.documents bs)
+
+-- the length ids behind the index
+abbrev pub lengths_in : List FieldFacts → ℕ → List ℕ → Ending → List Block → Option Opened
+lengths_in schema key file e blocks = option_and_then (with_columns schema e blocks) (piece_in key file e.lengths)
+
+-- what an ending names: the index and the length ids
+abbrev pub parts_in : List FieldFacts → ℕ → List ℕ → Ending → Option Opened
+parts_in schema key file e = option_and_then (lengths_in schema key file e) (option_and_then index_at (piece_in key file e.index))
+
+-- what stands behind the first bytes
+abbrev pub opened_in : List FieldFacts → ℕ → List ℕ → Option Opened
+opened_in schema key file = option_and_then (parts_in schema key file) (ending_in key file)
+
+-- ---- a term
+
+-- the bytes of a part of a row
+abbrev pub part_in : ℕ → List ℕ → Part → Option (List ℕ)
+part_in key file (here bs) = Some bs
+part_in key file (there p) = piece_in key file p
+
+-- the bytes of a row: its postings, and its positions where they are wanted
+abbrev pub row_bytes_in : ℕ → List ℕ → Bool → Part × Part → Option (List ℕ)
+row_bytes_in key file placed parts =
+    option_and_then (λ front. if placed then option_map (λ back. front ++ back) (part_in key file parts.1) else Some front) (part_in key file parts.0)
+
+-- the row of a term whose parts stand there
+abbrev pub row_in : ℕ → List ℕ → Bool → TermKey → Part × Part → Option Row
+row_in key file placed term parts = option_and_then (row_at term placed) (row_bytes_in key file placed parts)
+
+-- the same, where a block tells of one
+abbrev pub found_in : ℕ → List ℕ → Bool → TermKey → Option (Part × Part) → Option (Option Row)
+found_in key file placed term None = Some None
+found_in key file placed term (Some parts) = option_map (λ row. Some row) (row_in key file placed term parts)
+
+-- the row of a term by the bytes of a block
+abbrev pub row_by : ℕ → List ℕ → Bool → TermKey → List ℕ → Option (Option Row)
+row_by key file placed term bs = option_and_then (λ es. found_in key file placed term (row_with term es)) (block_at bs)
+
+-- the same by where the block stands, if there is one
+abbrev pub looked_up_in : ℕ → List ℕ → Bool → TermKey → Option Piece → Option (Option Row)
+looked_up_in key file placed term None = Some None
+looked_up_in key file placed term (Some p) = option_and_then (row_by key file placed term) (piece_in key file p)
+
+-- What a file says of a term, by the blocks of its dictionary: nothing where it is damaged, else the row of the term,
+-- or that it has none.
+abbrev pub looked_up : ℕ → List ℕ → Bool → TermKey → List Block → Option (Option Row)
+looked_up key file placed term blocks = looked_up_in key file placed term (option_map (λ b. b.piece) (block_for term blocks))
+
+-- ---- a file
+
+-- what stands behind its first bytes, where these are as they should
+abbrev pub behind_head : Result (List ℕ) StoreError → Option Opened → Result Opened StoreError
+behind_head (Ok file) found = ok_or found Damaged
+behind_head (Err e) found = Err e
+
+-- What a file is as the stored segment of a key.
+abbrev pub opened : List FieldFacts → ℕ → List ℕ → Result Opened StoreError
+opened schema key file = behind_head (headed file) (opened_in schema key file)
+
+-- what is known of an open segment
+abbrev pub opened_of : {P : Type 0} → StoredSegment P → Opened
+opened_of s = record {
+  block_len = s.block_len;
+  documents = s.documents;
+  blocks = map start_of s.index.starts.items;
+  columns = map (λ c. c.items) s.columns.items;
+}
