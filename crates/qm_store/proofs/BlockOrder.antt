@@ -1,5 +1,5 @@
 -- Blocks that begin with terms in order are searched by halving.
-use Rattle.std.proofs.Common.{◌≡◌, ℕ, zero, suc, ◌+◌, ◌-◌, ◌<◌, ◌≤◌, ◌&&◌, Bool, true, false, not, List, [], ◌∷◌, add-one, cond, length, get_or, take, map, ◌++◌, is_some, option_map, slice_get, Option, None, Some, unwrap_or, refl, ap, sym, ◌∙◌, arith, Ordering, Less, Equal, Greater, is_lt}
+use Rattle.std.proofs.Common.{◌≡◌, ℕ, zero, suc, ◌-◌, ◌<◌, ◌≤◌, ◌&&◌, Bool, true, false, not, List, [], ◌∷◌, add-one, cond, length, get_or, take, map, ◌++◌, is_some, option_map, slice_get, Option, None, Some, unwrap_or, refl, ap, sym, ◌∙◌, arith, Ordering, Less, Equal, Greater, is_lt}
 use Rattle.std.specs.List.Sorted.{IsPartitionPoint, IsPartitionedBy, IsSortedBy}
 use Rattle.std.specs.Ordering.{is_gt, ordering_index, ordering_reverse}
 use Rattle.std.proofs.lemmas.Bool.{and_from, false≢true}

@@ -5,3 +5,4 @@ pub mod RowSteps
 pub mod TermsRead
 pub mod BlockOrder
 pub mod ReadingOn
+pub mod StoredSteps

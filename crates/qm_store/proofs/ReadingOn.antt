@@ -1,5 +1,5 @@
 -- What a reading of blocks, of entries, or of columns is in the midst of.
-use Rattle.std.proofs.Common.{◌≡◌, ℕ, zero, suc, ◌+◌, ◌-◌, ◌<◌, ◌≤◌, Bool, true, false, cond, List, [], ◌∷◌, ◌++◌, drop, length, map, take, Option, None, Some, option_map, refl, ap, sym, ◌∙◌, append_assoc, arith, get_or, is_some}
+use Rattle.std.proofs.Common.{◌≡◌, ℕ, zero, suc, ◌-◌, ◌<◌, ◌≤◌, Bool, true, false, cond, List, [], ◌∷◌, ◌++◌, drop, length, map, take, Option, None, Some, option_map, refl, ap, sym, ◌∙◌, append_assoc, arith, get_or, is_some}
 use Rattle.std.specs.Prelude.{nat_le}
 use Rattle.std.specs.Ordering.{eq_by_cmp}
 use Rattle.std.proofs.lemmas.Bool.{false≢true, le-leb, lt-leb}
@@ -9,7 +9,7 @@ use Rattle.qm_schema.specs.Schema.{FieldFacts}
 use Rattle.qm_schema.specs.Term.{TermKey, term_cmp}
 use Rattle.qm_store.specs.Columns.{columns_at}
 use Rattle.qm_store.specs.Dictionary.{Block, block_start_at, entries_at, is_behind, last_of, row_with, start_of, starts_at}
-use Rattle.qm_store.specs.Entries.{Entry, Part, entry_at, parts_at}
+use Rattle.qm_store.specs.Entries.{Entry, Part, parts_at}
 use Rattle.qm_store.specs.RowBytes.{followed_by}
 use Rattle.qm_store.specs.TermBytes.{term_at}
 use Rattle.qm_store.specs.declared.dictionary_index.BlockStart.{BlockStart}

@@ -11,7 +11,7 @@ use Rattle.qm_postings.specs.Segment.{AscendFrom, keeps_positions}
 use Rattle.qm_postings.specs.StoredFacts.{drop-nil, take-nil}
 use Rattle.qm_postings.proofs.SegmentGrowth.{differ}
 use Rattle.qm_store.specs.Numbers.{number_at, number_bytes, spelled}
-use Rattle.qm_store.specs.RowBytes.{Postings, ended, followed_by, gaps, gaps_at, in_front_of_all, in_front_of_both, placed_at, places_at, places_bytes}
+use Rattle.qm_store.specs.RowBytes.{places_part, postings_part, Postings, ended, followed_by, gaps, gaps_at, in_front_of_all, in_front_of_both, placed_at, places_at, places_bytes}
 use Rattle.qm_store.specs.RowBytes.{posting_at, posting_bytes, postings_at, postings_bytes, row_at, row_bytes}
 use Rattle.qm_store.proofs.GapBytes.{gaps-read}
 use Rattle.qm_store.proofs.NumberBytes.{number-read}
@@ -117,6 +117,7 @@ postings-bytes low (d ∷ ds) (f ∷ fs) paired =
 -- its postings, and what stands behind them
 pub row-read : (schema : List FieldFacts) (count : ℕ) (r : Row) → IsRow schema count r → All IsFrequency r.frequencies →
     row_at r.term (keeps_positions schema r.term.field) (row_bytes r) ≡ Some r
+unfolding postings_part places_part
 row-read schema count r is fit =
     let postings = postings_bytes 0 r.documents r.frequencies in
     let places = places_bytes r.frequencies r.positions in
@@ -124,7 +125,8 @@ row-read schema count r is fit =
     let many = ascend-length 0 r.documents is.ascending (omega arith) in
     let enough : length r.documents ≤ length (postings ++ places) =
     omega (arith, postings-bytes 0 r.documents r.frequencies is.paired, length-append postings places) in
-    ap (λ (x : Option (ℕ × List ℕ)). followed_by x (λ n rest.
+    ap (λ (bs : List ℕ). row_at r.term keeps bs) (append_assoc (spelled (length r.documents)) postings places)
+    ∙ ap (λ (x : Option (ℕ × List ℕ)). followed_by x (λ n rest.
     cond (nat_le n (length rest)) (followed_by (postings_at n 0 rest) (placed_at r.term keeps)) None))
     (number-read 8 (length r.documents) (postings ++ places) (omega (arith, many)))
     ∙ ap (λ b. cond b (followed_by (postings_at (length r.documents) 0 (postings ++ places)) (placed_at r.term keeps)) None)

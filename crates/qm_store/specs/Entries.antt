@@ -1,10 +1,9 @@
 -- What a dictionary says of a term, as bytes, and which entry some bytes begin with: the term, and where its row stands.
-use Rattle.std.specs.Prelude.{ℕ, ◌+◌, ◌*◌, ◌/◌, ◌%◌, ◌==◌, Bool, nat_le, if◌then◌else◌, List, ◌++◌, Option, None, Some, drop, length, take}
-use Rattle.std.specs.Int.{w64, to_le_bytes}
+use Rattle.std.specs.Prelude.{ℕ, ◌+◌, ◌/◌, ◌%◌, ◌==◌, nat_le, if◌then◌else◌, List, Option, None, Some, drop, length, take}
 use Rattle.qm_schema.specs.Term.{TermKey}
-use Rattle.qm_store.specs.Numbers.{number_at, spelled}
+use Rattle.qm_store.specs.Numbers.{number_at}
 use Rattle.qm_store.specs.RowBytes.{followed_by}
-use Rattle.qm_store.specs.TermBytes.{term_at, term_bytes}
+use Rattle.qm_store.specs.TermBytes.{term_at}
 use Rattle.qm_store.specs.Words.{word_at}
 use Rattle.qm_store.specs.declared.entry.PartRef.{PartRef}
 use Rattle.qm_store.specs.declared.entry.PartRef.TheVariants.{Here, There}

@@ -8,3 +8,4 @@ pub mod Dictionary
 pub mod Columns
 pub mod Ends
 pub mod StoredSegment
+pub mod Stored

@@ -1,5 +1,5 @@
 -- Pieces of a file, and their digests; and when a function returned what some bytes are.
-use Rattle.std.specs.Prelude.{◌≡◌, ℕ, ◌+◌, ◌==◌, nat_le, if◌then◌else◌, List, ◌++◌, Option, None, Some, Result, Ok, Err, drop, length, option_and_then, take}
+use Rattle.std.specs.Prelude.{◌≡◌, ℕ, ◌+◌, ◌^◌, ◌≤◌, ◌==◌, nat_le, if◌then◌else◌, List, ◌++◌, Option, None, Some, Result, Ok, Err, drop, length, option_and_then, take}
 use Rattle.std.specs.Int.{w64, to_le_bytes}
 use Rattle.std.specs.Hash.DefaultHasher.{finish, initial, write}
 use Rattle.qm_store.specs.Numbers.{number_at, spelled}
@@ -54,6 +54,11 @@ digested key p bs = if digest key p.at bs == p.digest then Some bs else None
 -- The bytes of a piece in the file of a key, where they are there, and have its digest.
 abbrev pub piece_in : ℕ → List ℕ → Piece → Option (List ℕ)
 piece_in key file p = option_and_then (digested key p) (part_at p.at p.len file)
+
+-- a piece of a file that is not too great: it begins, and ends, within 2^60 bytes
+pub record IsInFile (p : Piece) : Type 0 where
+  pub at : p.at ≤ 2 ^ 60
+  pub len : p.len ≤ 2 ^ 60
 
 -- ---- pieces as bytes
 

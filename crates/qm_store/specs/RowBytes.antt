@@ -86,9 +86,16 @@ places_at (f ∷ fs) bs = followed_by (gaps_at f 0 bs) (λ xs rest. in_front_of_
 abbrev pub IsSomeRow : Row → Type 0
 IsSomeRow r = (schema : List FieldFacts) × (count : ℕ) × IsRow schema count r
 
+-- its postings, with their number in front, and its positions
+unfoldable pub postings_part : Row → List ℕ
+postings_part r = spelled (length r.documents) ++ postings_bytes 0 r.documents r.frequencies
+
+unfoldable pub places_part : Row → List ℕ
+places_part r = places_bytes r.frequencies r.positions
+
 -- its bytes
 abbrev pub row_bytes : Row → List ℕ
-row_bytes r = spelled (length r.documents) ++ (postings_bytes 0 r.documents r.frequencies ++ places_bytes r.frequencies r.positions)
+row_bytes r = postings_part r ++ places_part r
 
 -- a row of a term, where no bytes are left
 abbrev pub ended : TermKey → List ℕ × List ℕ → List ℕ → List ℕ → Option Row

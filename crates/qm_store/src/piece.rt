@@ -1,8 +1,8 @@
 //! A piece of a stored segment, and its digest.
 
-ghost use Rattle.std.specs.Prelude.{◌≡◌, ◌<◌, ◌^◌, ◌++◌, List, ℕ, Some, IfSome, OnOk, option_map};
+ghost use Rattle.std.specs.Prelude.{◌≡◌, ◌++◌, List, ℕ, Some, IfSome, OnOk, option_map};
 ghost use Rattle.std.specs.Int.{w64, to_le_bytes};
-ghost use Rattle.qm_store.specs.Pieces.{GivesSome, digest, piece_at, piece_bytes, piece_in};
+ghost use Rattle.qm_store.specs.Pieces.{GivesSome, IsInFile, digest, piece_at, piece_bytes, piece_in};
 
 use crate::numbers::{push_number, read_number};
 use crate::pieces::Pieces;
@@ -57,8 +57,7 @@ pub(crate) fn read_piece<P: Pieces>(
 
 // Adds the bytes that name a piece.
 pub(crate) fn push_piece(out: &mut Vec<u8>, piece: &Piece) -> Result<(), AllocError>
-    requires at { piece.now.at < 128 ^ 9 }
-    requires len { piece.now.len < 128 ^ 9 }
+    requires { IsInFile piece.now }
     ensures added { OnOk result (out.new.items ≡ out.old.items ++ piece_bytes piece.now) }
 {
     push_number(out, piece.at)?;

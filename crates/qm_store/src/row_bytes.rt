@@ -4,7 +4,7 @@ ghost use Rattle.std.specs.Prelude.{◌≡◌, ◌<◌, ◌≤◌, ◌^◌, ◌+
 ghost use Rattle.qm_postings.specs.LentRow.{lent_row};
 ghost use Rattle.qm_postings.specs.Rows.{ArePlaces};
 ghost use Rattle.qm_postings.specs.Segment.{AscendFrom};
-ghost use Rattle.qm_store.specs.RowBytes.{IsSomeRow, behind_both, in_front_of_all, places_at, places_bytes, posting_at, posting_bytes, postings_at, postings_bytes};
+ghost use Rattle.qm_store.specs.RowBytes.{IsSomeRow, behind_both, in_front_of_all, places_at, places_bytes, places_part, posting_at, posting_bytes, postings_at, postings_bytes, postings_part};
 ghost use Rattle.qm_store.specs.RowBytes.{row_at, row_bytes};
 
 use crate::gaps::{LIMIT, push_gaps, read_gaps};
@@ -20,8 +20,29 @@ pub fn push_row(out: &mut Vec<u8>, row: &TermRowRef<'_>) -> Result<(), AllocErro
     ensures added { OnOk result (out.new.items ≡ out.old.items ++ row_bytes (lent_row row.now)) }
     ensures small { OnOk result (All (λ f. f ≤ u32.MAX) (lent_row row.now).frequencies) }
 {
+    push_counted(out, row)?;
+    push_positions(out, row)?;
+    Ok(())
+}
+
+// Adds how many postings a row has, and these.
+#[tactic(auto, unfolding(crate::specs::RowBytes::postings_part))]
+pub(crate) fn push_counted(out: &mut Vec<u8>, row: &TermRowRef<'_>) -> Result<(), AllocError>
+    requires { IsSomeRow (lent_row row.now) }
+    ensures added { OnOk result (out.new.items ≡ out.old.items ++ postings_part (lent_row row.now)) }
+    ensures small { OnOk result (All (λ f. f ≤ u32.MAX) (lent_row row.now).frequencies) }
+{
     push_number(out, row.documents().len() as u64)?;
     push_postings(out, row)?;
+    Ok(())
+}
+
+// Adds the positions of a row, if its field keeps them.
+#[tactic(auto, unfolding(crate::specs::RowBytes::places_part))]
+pub(crate) fn push_positions(out: &mut Vec<u8>, row: &TermRowRef<'_>) -> Result<(), AllocError>
+    requires { IsSomeRow (lent_row row.now) }
+    ensures { OnOk result (out.new.items ≡ out.old.items ++ places_part (lent_row row.now)) }
+{
     if !row.positions().is_empty() {
         push_places(out, row)?;
     }

@@ -1,7 +1,6 @@
-use Rattle.std.proofs.Common.{rules, ◌≡◌, ◌+◌, ◌-◌, false, true, not, arith, ap, sym, ◌∙◌, is_some, option_map}
-use Rattle.std.proofs.lemmas.Bool.{cases_Bool}
+use Rattle.std.proofs.Common.{rules, ◌≡◌, ◌+◌, ◌-◌, arith, ap, sym, ◌∙◌, option_map}
 use Rattle.qm_schema.specs.Term.{TermKey}
-use Rattle.qm_store.specs.Dictionary.{entries_at, row_with}
+use Rattle.qm_store.specs.Dictionary.{entries_at}
 use Rattle.qm_store.specs.Entries.{Part, lent_part}
 use Rattle.qm_store.specs.declared.entry.PartRef.{PartRef}
 use Rattle.qm_store.proofs.ReadingOn.{entry-passes, first-kept, first-taken, found_by, or_else_among, other-passed}

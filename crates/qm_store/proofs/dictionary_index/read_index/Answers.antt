@@ -1,6 +1,6 @@
-use Rattle.std.proofs.Common.{◌≡◌, ◌+◌, ◌-◌, ◌++◌, [], ◌∷◌, arith, ap, sym, ◌∙◌, None, Some, false, true, map, option_map, List, ℕ, Option}
+use Rattle.std.proofs.Common.{◌≡◌, ◌+◌, ◌-◌, ◌++◌, [], ◌∷◌, arith, ap, sym, ◌∙◌, None, false, true, map, option_map, List, ℕ, Option}
 use Rattle.std.proofs.lemmas.List.{map_push}
-use Rattle.qm_store.specs.Dictionary.{Block, ascend, block_start_at, is_behind, last_of, start_of, starts_at}
+use Rattle.qm_store.specs.Dictionary.{ascend, is_behind, last_of, start_of, starts_at}
 use Rattle.qm_store.specs.RowBytes.{followed_by}
 use Rattle.qm_store.proofs.BlockOrder.{after-none, ascend-pushed, last-pushed}
 use Rattle.qm_store.proofs.ReadingOn.{index-goes-on, index-stops, index-turns, last_first}

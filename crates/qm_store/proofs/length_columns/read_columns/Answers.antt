@@ -1,6 +1,5 @@
-use Rattle.std.proofs.Common.{◌≡◌, ◌+◌, ◌++◌, ◌<◌, ◌≤◌, [], ◌∷◌, arith, ap, sym, ◌∙◌, add-one, drop, length, map, option_map, get_or, take, suc}
+use Rattle.std.proofs.Common.{◌++◌, ◌<◌, ◌≤◌, [], ◌∷◌, arith, ap, ◌∙◌, add-one, drop, length, map, option_map, suc}
 use Rattle.std.proofs.lemmas.List.{map_push}
-use Rattle.qm_schema.specs.Schema.{FieldFacts}
 use Rattle.qm_store.specs.Columns.{columns_at}
 use Rattle.qm_store.proofs.ReadingOn.{column-lacks, column-passes, next-column, no_field}
 use Rattle.qm_store.proofs.length_columns.read_columns.Goals as goal

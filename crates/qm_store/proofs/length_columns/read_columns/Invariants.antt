@@ -1,4 +1,4 @@
-use Rattle.std.proofs.Common.{◌≡◌, ◌++◌, drop, length, map, option_map}
+use Rattle.std.proofs.Common.{◌≡◌, ◌++◌, drop, map, option_map}
 use Rattle.qm_store.specs.Columns.{columns_at}
 use Rattle.qm_store.proofs.length_columns.read_columns.Given as goal
 

@@ -1,0 +1,50 @@
+use Rattle.std.proofs.Common.{◌≡◌, ◌+◌, ◌*◌, ◌<◌, ◌≤◌, ◌++◌, ap, sym, ◌∙◌, append-nil, arith, length, min}
+use Rattle.std.specs.Int.{div_ceil}
+use Rattle.std.specs.List.{flat_map}
+use Rattle.qm_store.specs.Numbers.{spelled}
+use Rattle.qm_store.specs.Stored.{block_named, blocks_named, dictionary_bytes, group_bytes, group_count, start_bytes, stored_blocks}
+use Rattle.qm_store.proofs.StoredSteps.{between, group-more, groups_left, length-blocks, none-left, start-more, starts-within}
+use Rattle.qm_store.proofs.stored_bytes.push_dictionary.Goals as goal
+
+pub loop-number-preserved : goal.loop-number-preserved
+loop-number-preserved c =
+    let at = c.loop-number in
+    let rows = c.args.segment.now.rows in
+    let key = c.args.key in
+    let i = at.number in
+    let count = c.row_count-count.ensures.count in
+    let blocks = c.div_ceil-blocks.ensures ∙ ap (λ n. div_ceil n 128) count in
+    let some : i < group_count rows = omega (arith, blocks, c.loop-number-test.true) in
+    let start = starts-within rows i some in
+    let end-is : i * 128 + c.min.result ≡ min (i * 128 + 128) (length rows) = omega (arith, c.min.ensures, count, start) in
+    let out = c.in_ok-push_group.ensures.out ∙ ap (λ n. at.out.items ++ group_bytes key (length at.out.items) (between rows (i * 128) n)) end-is in
+    let index = c.in_ok-push_group.ensures.index
+    ∙ ap (λ n. at.index.items ++ start_bytes (block_named key (length at.out.items) (between rows (i * 128) n))) end-is in
+    record {
+      out = (λ k. out k ++ dictionary_bytes key (length (out k)) (groups_left rows (i + 1))) ∙ group-more key at.out.items rows i some ∙ at.invariant.out;
+      index =
+          (λ k. index k ++ flat_map start_bytes (blocks_named key (length (out k)) (groups_left rows (i + 1))))
+          ∙ start-more key at.out.items rows i some at.index.items ∙ at.invariant.index;
+    }
+
+pub returns-clause-out : goal.returns-clause-out
+returns-clause-out c =
+    let at = c.loop-number in
+    let rows = c.args.segment.now.rows in
+    let blocks = c.div_ceil-blocks.ensures ∙ ap (λ n. div_ceil n 128) c.row_count-count.ensures.count in
+    let past : group_count rows ≤ at.number = omega (arith, blocks, c.loop-number-test.false) in
+    sym (append-nil at.out.items)
+    ∙ ap (λ gs. at.out.items ++ dictionary_bytes c.args.key (length at.out.items) gs) (sym (none-left rows at.number past))
+    ∙ at.invariant.out
+
+pub returns-clause-index : goal.returns-clause-index
+returns-clause-index c =
+    let at = c.loop-number in
+    let rows = c.args.segment.now.rows in
+    let key = c.args.key in
+    let blocks = c.div_ceil-blocks.ensures ∙ ap (λ n. div_ceil n 128) c.row_count-count.ensures.count in
+    let past : group_count rows ≤ at.number = omega (arith, blocks, c.loop-number-test.false) in
+    sym (append-nil at.index.items)
+    ∙ ap (λ gs. at.index.items ++ flat_map start_bytes (blocks_named key (length at.out.items) gs)) (sym (none-left rows at.number past))
+    ∙ at.invariant.index
+    ∙ ap (λ n. spelled n ++ flat_map start_bytes (stored_blocks key rows)) (sym (length-blocks key 16 (group_count rows) rows))

@@ -1,0 +1,13 @@
+use Rattle.std.proofs.Common.{◌≡◌, ◌++◌, length}
+use Rattle.std.specs.List.{flat_map}
+use Rattle.qm_store.specs.Numbers.{spelled}
+use Rattle.qm_store.specs.Stored.{blocks_named, dictionary_bytes, group_count, rows_bytes, start_bytes, stored_blocks}
+use Rattle.qm_store.proofs.StoredSteps.{groups_left}
+use Rattle.qm_store.proofs.stored_bytes.push_dictionary.Given as goal
+
+abbrev pub invariant-loop-number : goal.invariant-loop-number
+invariant-loop-number l = record {
+  out : l.out.items ++ dictionary_bytes l.key (length l.out.items) (groups_left l.segment.rows l.number) ≡ rows_bytes l.key l.segment.rows;
+  index : l.index.items ++ flat_map start_bytes (blocks_named l.key (length l.out.items) (groups_left l.segment.rows l.number))
+      ≡ spelled (group_count l.segment.rows) ++ flat_map start_bytes (stored_blocks l.key l.segment.rows);
+}

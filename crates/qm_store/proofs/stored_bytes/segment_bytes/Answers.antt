@@ -1,0 +1,19 @@
+use Rattle.std.proofs.Common.{◌++◌, ◌∙◌, length}
+use Rattle.qm_store.specs.Stored.{ending_bytes, last_bytes, named}
+use Rattle.qm_store.proofs.stored_bytes.segment_bytes.Goals as goal
+
+pub returns : goal.returns
+returns c =
+    let key = c.args.key in
+    let s = c.args.segment.now.segment in
+    let rows = c.in_ok-push_dictionary.ensures.out in
+    let told = c.deref.ensures.value ∙ c.in_ok-push_dictionary.ensures.index in
+    let with_index = c.in_ok-index.ensures.added ∙ (λ i. rows i ++ told i) in
+    let index = c.in_ok-index.ensures.named ∙ (λ i. named key (length (rows i)) (told i)) in
+    let ids = c.deref-2.ensures.value ∙ c.in_ok-lengths.ensures in
+    let with_lengths = c.in_ok-lengths-2.ensures.added ∙ (λ i. with_index i ++ ids i) in
+    let lengths = c.in_ok-lengths-2.ensures.named ∙ (λ i. named key (length (with_index i)) (ids i)) in
+    let ends = c.deref-3.ensures.value ∙ c.in_ok-ending.ensures ∙ (λ i. ending_bytes key s (index i) (lengths i)) in
+    let with_ending = c.in_ok-ending-2.ensures.added ∙ (λ i. with_lengths i ++ ends i) in
+    let ending = c.in_ok-ending-2.ensures.named ∙ (λ i. named key (length (with_lengths i)) (ends i)) in
+    c.in_ok-push_last.ensures ∙ (λ i. with_ending i ++ last_bytes (ending i))
