@@ -6,3 +6,8 @@ pub mod TermsRead
 pub mod BlockOrder
 pub mod ReadingOn
 pub mod StoredSteps
+pub mod DigestFits
+pub mod PiecesRead
+pub mod EntriesRead
+pub mod RowsFound
+pub mod StoredRead
