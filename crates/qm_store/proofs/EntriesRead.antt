@@ -14,8 +14,8 @@ use Rattle.qm_store.specs.Entries.{Entry, Part, Parts, entry_at, here, here_at, 
 use Rattle.qm_store.specs.Numbers.{number_at, spelled}
 use Rattle.qm_store.specs.Pieces.{digest}
 use Rattle.qm_store.specs.RowBytes.{followed_by, places_part, postings_part}
-use Rattle.qm_store.specs.Stored.{apart, block_bytes, digests_bytes, entries_bytes, entry_bytes, here_bytes, is_short, named, parts_bytes, there_bytes}
-use Rattle.qm_store.specs.TermBytes.{IsSomeTerm, term_at, term_bytes}
+use Rattle.qm_store.specs.Stored.{IsStorable, apart, block_bytes, digests_bytes, entries_bytes, entry_bytes, here_bytes, is_short, named, parts_bytes, there_bytes}
+use Rattle.qm_store.specs.TermBytes.{term_at, term_bytes}
 use Rattle.qm_store.specs.Words.{word_at}
 use Rattle.qm_store.proofs.DigestFits.{digest-fits}
 use Rattle.qm_store.proofs.NumberBytes.{number-read}
@@ -99,20 +99,14 @@ module _ (key at : ℕ) (front back rest : List ℕ) (near : at ≤ 2 ^ 60) (few
 abbrev pub entry_stored : ℕ → ℕ → Row → Entry
 entry_stored key at r = record { term = r.term; row = parts_stored key at (postings_part r) (places_part r) }
 
--- what a row of a stored segment keeps to: its term can be had, and its parts are not too long
-pub record IsShortEnough (r : Row) : Type 0 where
-  pub term : IsSomeTerm r.term
-  pub postings : length (postings_part r) ≤ 2 ^ 60
-  pub places : length (places_part r) ≤ 2 ^ 60
-
-pub entry-read : (key at : ℕ) (r : Row) (rest : List ℕ) → IsShortEnough r → at ≤ 2 ^ 60 →
+pub entry-read : (key at : ℕ) (r : Row) (rest : List ℕ) → IsStorable r → at ≤ 2 ^ 60 →
     entry_at (entry_bytes key at r ++ rest) ≡ Some (entry_stored key at r, rest)
 unfolding entry_bytes
 entry-read key at r rest is near =
     let parts = parts_bytes key at (postings_part r) (places_part r) in
     ap entry_at (append_assoc (term_bytes r.term) parts rest)
     ∙ ap (λ (x : Option (TermKey × List ℕ)). followed_by x then_parts) (term-read r.term (parts ++ rest) is.term)
-    ∙ ap (λ (x : Option Parts). followed_by x (then_entry r.term)) (parts-read key at (postings_part r) (places_part r) rest near is.postings is.places)
+    ∙ ap (λ (x : Option Parts). followed_by x (then_entry r.term)) (parts-read key at (postings_part r) (places_part r) rest near is.parts.in_front is.parts.behind)
   where
     then_entry : TermKey → Part × Part → List ℕ → Option (Entry × List ℕ)
     then_entry t p rest = Some (record { term = t; row = p }, rest)
@@ -128,18 +122,18 @@ abbrev pub all_apart_len : List Row → ℕ
 all_apart_len [] = 0
 all_apart_len (r ∷ rs) = length (apart r) + all_apart_len rs
 
-pub entries-read : (key at : ℕ) (rs : List Row) → All IsShortEnough rs → at + all_apart_len rs ≤ 2 ^ 60 →
+pub entries-read : (key at : ℕ) (rs : List Row) → All IsStorable rs → at + all_apart_len rs ≤ 2 ^ 60 →
     entries_at (length rs) (entries_bytes key at rs) ≡ Some (entries_stored key at rs)
 entries-read key at [] are near = refl
 entries-read key at (r ∷ rs) are near =
     ap (λ (x : Option (Entry × List ℕ)). followed_by x then_entries)
-    (entry-read key at r (entries_bytes key (at + length (apart r)) rs) (All-head IsShortEnough r rs are) (omega (arith, near)))
-    ∙ ap (option_map (λ es. entry_stored key at r ∷ es)) (entries-read key (at + length (apart r)) rs (All-tail IsShortEnough r rs are) (omega (arith, near)))
+    (entry-read key at r (entries_bytes key (at + length (apart r)) rs) (All-head IsStorable r rs are) (omega (arith, near)))
+    ∙ ap (option_map (λ es. entry_stored key at r ∷ es)) (entries-read key (at + length (apart r)) rs (All-tail IsStorable r rs are) (omega (arith, near)))
   where
     then_entries : Entry → List ℕ → Option (List Entry)
     then_entries e rest = option_map (λ es. e ∷ es) (entries_at (length rs) rest)
 
-pub block-read : (key at : ℕ) (rs : List Row) → All IsShortEnough rs → at + all_apart_len rs ≤ 2 ^ 60 → length rs < 2 ^ 60 →
+pub block-read : (key at : ℕ) (rs : List Row) → All IsStorable rs → at + all_apart_len rs ≤ 2 ^ 60 → length rs < 2 ^ 60 →
     block_at (block_bytes key at rs) ≡ Some (entries_stored key at rs)
 block-read key at rs are near few =
     ap (λ (x : Option (ℕ × List ℕ)). followed_by x entries_at) (number-read 8 (length rs) (entries_bytes key at rs) (omega (arith, few)))

@@ -11,3 +11,4 @@ pub mod PiecesRead
 pub mod EntriesRead
 pub mod RowsFound
 pub mod StoredRead
+pub mod FileRead

@@ -12,10 +12,10 @@ use Rattle.qm_store.specs.Dictionary.{Block, block_at, block_for, row_with}
 use Rattle.qm_store.specs.Entries.{Entry, Part, here, there}
 use Rattle.qm_store.specs.Pieces.{piece_in}
 use Rattle.qm_store.specs.RowBytes.{places_part, postings_part, row_at}
-use Rattle.qm_store.specs.Stored.{all_apart, apart, block_bytes, block_named, blocks_named, dictionary_bytes, first_row, group_bytes, is_short, named, parts_apart}
+use Rattle.qm_store.specs.Stored.{IsStorable, all_apart, apart, block_bytes, block_named, blocks_named, dictionary_bytes, first_row, group_bytes, is_short, named, parts_apart, row_of}
 use Rattle.qm_store.specs.StoredSegment.{found_in, looked_up_in, part_in, row_bytes_in, row_by, row_in}
 use Rattle.qm_store.specs.declared.piece.Piece.{Piece}
-use Rattle.qm_store.proofs.EntriesRead.{IsShortEnough, all_apart_len, block-read, entries_stored, parts_stored}
+use Rattle.qm_store.proofs.EntriesRead.{all_apart_len, block-read, entries_stored, parts_stored}
 use Rattle.qm_store.proofs.PiecesRead.{piece-there}
 
 -- ---- the bytes of a row
@@ -49,11 +49,6 @@ module _ (key : ℕ) (before front back behind : List ℕ) where
           ((λ i. piece_in key (second i) (named key (sym (length-append before front) i) back)) ∙ piece-there key (before ++ front) back behind)
 
 -- ---- a term among rows
-
--- the first row of a term
-abbrev pub row_of : TermKey → List Row → Option Row
-row_of t [] = None
-row_of t (r ∷ rs) = cond (eq_by_cmp term_cmp r.term t) (Some r) (row_of t rs)
 
 -- what is read of it
 abbrev pub read_as : Bool → TermKey → Row → Option Row
@@ -91,7 +86,7 @@ found-in-group key placed t (r ∷ rs) before behind = by_term (eq_by_cmp term_c
         ∙ ap (option_and_then (row_at t placed)) (parts-found key before front back (all_apart rs ++ behind) placed)
 
     by_term : (b : Bool) → found_in key ((before ++ apart r) ++ (all_apart rs ++ behind)) placed t (row_with t (entries_stored key (length (before ++ apart r)) rs))
-            ≡ found_as placed t (row_of t rs) →
+        ≡ found_as placed t (row_of t rs) →
         found_in key whole placed t (cond b (Some (parts_stored key (length before) front back)) (row_with t (entries_stored key (length before + length (apart r)) rs)))
         ≡ found_as placed t (cond b (Some r) (row_of t rs))
     by_term true others = ap (option_map (λ row. Some row)) here-found
@@ -101,7 +96,7 @@ found-in-group key placed t (r ∷ rs) before behind = by_term (eq_by_cmp term_c
 
 -- ---- a group
 
-pub group-looked : (key : ℕ) (placed : Bool) (t : TermKey) (g : List Row) (before behind : List ℕ) → All IsShortEnough g →
+pub group-looked : (key : ℕ) (placed : Bool) (t : TermKey) (g : List Row) (before behind : List ℕ) → All IsStorable g →
     length before + all_apart_len g ≤ 2 ^ 60 → length g < 2 ^ 60 →
     looked_up_in key (before ++ (group_bytes key (length before) g ++ behind)) placed t (Some (block_named key (length before) g).piece) ≡ found_as placed t (row_of t g)
 group-looked key placed t g before behind are near few =

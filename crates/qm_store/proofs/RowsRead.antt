@@ -21,7 +21,7 @@ use Rattle.qm_store.proofs.NumberBytes.{number-read}
 abbrev told : List ℕ → ℕ → List ℕ → Option ((ℕ × ℕ) × List ℕ)
 told bs n rest = cond (n % 2 == 1) (Some ((n / 2, 1), rest)) (followed_by (number_at 8 rest) (λ f rest. Some ((n / 2, f), rest)))
 
-abbrev IsFrequency : ℕ → Type 0
+abbrev pub IsFrequency : ℕ → Type 0
 IsFrequency f = f ≤ 4294967295
 
 posting-read : (gap f : ℕ) (rest : List ℕ) → gap < 4294967296 → f ≤ 4294967295 → posting_at (posting_bytes gap f ++ rest) ≡ Some ((gap, f), rest)
@@ -85,7 +85,7 @@ no-places (f ∷ fs) = (λ i. gaps 0 (take-nil f i) ++ places_bytes fs (drop-nil
 
 -- ---- a row
 
-ascend-length : (low : ℕ) (xs : List ℕ) → AscendFrom low xs → low ≤ 4294967295 → low + length xs ≤ 4294967295
+pub ascend-length : (low : ℕ) (xs : List ℕ) → AscendFrom low xs → low ≤ 4294967295 → low + length xs ≤ 4294967295
 ascend-length low [] up small = omega (arith, small)
 ascend-length low (x ∷ xs) up small = omega (arith, up.0, ascend-length (x + 1) xs up.2 (omega (arith, up.1)))
 
@@ -103,7 +103,7 @@ posting-byte gap f = elim (cases_Bool (f == 1)) [
       (omega (arith, some-byte 8 (2 * gap), length-append (spelled (2 * gap)) (spelled f)))
 ]
 
-postings-bytes : (low : ℕ) (ds fs : List ℕ) → length fs ≡ length ds → length ds ≤ length (postings_bytes low ds fs)
+pub postings-bytes : (low : ℕ) (ds fs : List ℕ) → length fs ≡ length ds → length ds ≤ length (postings_bytes low ds fs)
 postings-bytes low [] fs paired = omega arith
 postings-bytes low (d ∷ ds) [] paired = absurd (omega (arith, paired))
 postings-bytes low (d ∷ ds) (f ∷ fs) paired =

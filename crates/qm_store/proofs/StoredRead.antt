@@ -10,16 +10,16 @@ use Rattle.std.proofs.lemmas.Option.{same_Some}
 use Rattle.qm_postings.specs.Rows.{Row}
 use Rattle.qm_schema.specs.Term.{TermKey, term_cmp}
 use Rattle.qm_store.specs.Dictionary.{Block, block_for}
-use Rattle.qm_store.specs.Stored.{all_apart, apart, block_bytes, block_named, blocks_named, dictionary_bytes, first_row, group_bytes}
+use Rattle.qm_store.specs.Stored.{IsStorable, all_apart, apart, block_bytes, block_named, blocks_named, dictionary_bytes, first_row, group_bytes, row_of}
 use Rattle.qm_store.specs.StoredSegment.{looked_up_in}
 use Rattle.qm_store.specs.declared.piece.Piece.{Piece}
-use Rattle.qm_store.proofs.EntriesRead.{IsShortEnough, all_apart_len}
-use Rattle.qm_store.proofs.RowsFound.{before-all, behind-all, found_as, group-looked, none-behind, none-in-front, none-of, read_as, row_of}
+use Rattle.qm_store.proofs.EntriesRead.{all_apart_len}
+use Rattle.qm_store.proofs.RowsFound.{before-all, behind-all, found_as, group-looked, none-behind, none-in-front, none-of, read_as}
 
-abbrev term_of : Row → TermKey
+abbrev pub term_of : Row → TermKey
 term_of r = r.term
 
-abbrev all_rows : List (List Row) → List Row
+abbrev pub all_rows : List (List Row) → List Row
 all_rows gs = flat_map (λ g. g) gs
 
 -- ---- rows in order
@@ -74,7 +74,7 @@ none-found placed t (Some r) e = absurd (other (read_as placed t r) e)
 pub record IsGroup (g : List Row) : Type 0 where
   pub some : 0 < length g
   pub few : length g < 2 ^ 60
-  pub rows : All IsShortEnough g
+  pub rows : All IsStorable g
 
 apart-len : (g : List Row) → all_apart_len g ≡ length (all_apart g)
 apart-len [] = refl
@@ -128,11 +128,11 @@ module _ (key : ℕ) (placed : Bool) (t : TermKey) where
       let long = length-append own (dictionary_bytes key (at + length own) gs) in
       let more = length-append before own in
       let others : looked_up_in key whole placed t (option_map (λ b. b.piece) (block_for t next)) ≡ found_as placed t (row_of t (all_rows gs)) =
-          (λ i. looked_up_in key (regrouped (s ∷ g) gs before behind i) placed t (option_map (λ b. b.piece) (block_for t next)))
-          ∙ (λ i. looked_up_in key ((before ++ own) ++ (dictionary_bytes key (sym more i) gs ++ behind)) placed t
-            (option_map (λ b. b.piece) (block_for t (blocks_named key (sym more i) gs))))
-          ∙ looked gs (before ++ own) behind are.1 (behind-sorted (s ∷ g) (all_rows gs) sorted)
-          (subst (λ n. n + length (dictionary_bytes key n gs) ≤ 2 ^ 60) (sym more) (omega (arith, near, long)))
+      (λ i. looked_up_in key (regrouped (s ∷ g) gs before behind i) placed t (option_map (λ b. b.piece) (block_for t next)))
+      ∙ (λ i. looked_up_in key ((before ++ own) ++ (dictionary_bytes key (sym more i) gs ++ behind)) placed t
+      (option_map (λ b. b.piece) (block_for t (blocks_named key (sym more i) gs))))
+      ∙ looked gs (before ++ own) behind are.1 (behind-sorted (s ∷ g) (all_rows gs) sorted)
+      (subst (λ n. n + length (dictionary_bytes key n gs) ≤ 2 ^ 60) (sym more) (omega (arith, near, long)))
       in
       by_first (is_gt (term_cmp s.term t)) refl (block_for t next) refl others
     where

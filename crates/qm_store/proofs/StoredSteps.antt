@@ -1,7 +1,8 @@
 -- What the writing of a stored segment is in the midst of.
-use Rattle.std.proofs.Common.{◌≡◌, ℕ, zero, suc, ◌+◌, ◌-◌, ◌*◌, ◌<◌, ◌≤◌, List, [], ◌∷◌, ◌++◌, drop, get_or, length, take, refl, ap, sym, ◌∙◌, append_assoc, arith, min}
+use Rattle.std.proofs.Common.{◌≡◌, ℕ, zero, suc, ◌+◌, ◌-◌, ◌*◌, ◌<◌, ◌≤◌, List, [], ◌∷◌, ◌++◌, drop, get_or, length, take, refl, ap, sym, ◌∙◌, append_assoc, arith, min, inl, inr}
 use Rattle.std.proofs.lemmas.List.{drop-drop, drop_more, length-append, length-drop, length-take, take_min}
-use Rattle.std.specs.List.{flat_map}
+use Rattle.std.specs.List.{AllWithin, HoldsAt, flat_map}
+use Rattle.std.proofs.lemmas.Bool.{cases_lt}
 use Rattle.std.proofs.lemmas.Grind.{div_ceil_times}
 use Rattle.qm_postings.specs.Rows.{Row, no_row}
 use Rattle.qm_store.specs.Stored.{all_apart, apart, block_named, blocks_named, dictionary_bytes, entries_bytes, entry_bytes, first_row, group_bytes, group_count, groups, start_bytes}
@@ -104,3 +105,18 @@ module _ (key : ℕ) (out : List ℕ) (rows : List Row) (i : ℕ) (some : i < gr
 pub length-blocks : (key at n : ℕ) (rows : List Row) → length (blocks_named key at (groups n rows)) ≡ n
 length-blocks key at zero rows = refl
 length-blocks key at (suc n) rows = ap suc (length-blocks key (at + length (group_bytes key at (take 128 rows))) n (drop 128 rows))
+
+-- ---- what could be written
+
+-- the row at a place, whatever stands for one that is not there
+pub at-place : (P : Row → Type 0) (rows : List Row) (k : ℕ) (e : Row) → k < length rows → P (get_or rows k e) → HoldsAt P rows k
+at-place P [] k e inside here = absurd (omega (arith, inside))
+at-place P (r ∷ rs) zero e inside here = λ d. here
+at-place P (r ∷ rs) (suc k) e inside here = at-place P rs k e (omega (arith, inside)) here
+
+-- those before a place, and those from there on
+pub joined : (P : Row → Type 0) (rows : List Row) (low middle high : ℕ) → AllWithin P rows low middle → AllWithin P rows middle high → AllWithin P rows low high
+joined P rows low middle high front back k d up down = elim (cases_lt k middle) [
+  | inl before ↦ front k d up before
+  | inr past ↦ back k d past down
+]

@@ -1,16 +1,19 @@
 -- The bytes of a stored segment.
-use Rattle.std.specs.Prelude.{ℕ, ◌+◌, ◌*◌, nat_le, Bool, if◌then◌else◌, List, [], ◌∷◌, ◌++◌, drop, length, take}
+use Rattle.std.specs.Prelude.{ℕ, ◌+◌, ◌*◌, ◌^◌, ◌≤◌, All, nat_le, Bool, if◌then◌else◌, List, [], ◌∷◌, ◌++◌, Option, None, Some, drop, length, option_map, take}
 use Rattle.std.proofs.Common.{zero, suc}
 use Rattle.std.specs.Int.{div_ceil, w64, to_le_bytes}
 use Rattle.std.specs.List.{flat_map}
+use Rattle.std.specs.Ordering.{eq_by_cmp}
 use Rattle.qm_postings.specs.Reading.{Reader}
 use Rattle.qm_postings.specs.Rows.{Row, columns_of, no_row}
+use Rattle.qm_postings.specs.Restriction.{unplaced_row}
 use Rattle.qm_postings.specs.Segment.{Segment}
+use Rattle.qm_schema.specs.Term.{TermKey, term_cmp}
 use Rattle.qm_store.specs.Dictionary.{Block}
 use Rattle.qm_store.specs.Numbers.{spelled}
 use Rattle.qm_store.specs.Pieces.{digest, piece_bytes}
 use Rattle.qm_store.specs.RowBytes.{places_part, postings_part}
-use Rattle.qm_store.specs.TermBytes.{term_bytes}
+use Rattle.qm_store.specs.TermBytes.{IsSomeTerm, term_bytes}
 use Rattle.qm_store.specs.declared.piece.Piece.{Piece}
 
 -- the piece that some bytes are at a place of the file of a key
@@ -18,6 +21,17 @@ abbrev pub named : ℕ → ℕ → List ℕ → Piece
 named key at bs = record { at = at; len = length bs; digest = digest key at bs }
 
 -- ---- rows
+
+-- parts of a row that are not too long to be written
+pub record AreShortEnough (front back : List ℕ) : Type 0 where
+  pub in_front : length front ≤ 2 ^ 60
+  pub behind : length back ≤ 2 ^ 60
+
+-- a row that could be written
+pub record IsStorable (r : Row) : Type 0 where
+  pub term : IsSomeTerm r.term
+  pub frequencies : All (λ f. f ≤ 4294967295) r.frequencies
+  pub parts : AreShortEnough (postings_part r) (places_part r)
 
 -- whether a row whose parts are these stands in the dictionary itself: where it has 64 bytes at most
 abbrev pub is_short : List ℕ → List ℕ → Bool
@@ -134,3 +148,23 @@ stored key r =
     let lengths = flat_map (λ c. c) (columns_of r.segment) in
     let ending = ending_bytes key r.segment (named key (length rows) index) (named key (length (rows ++ index)) lengths) in
     (((rows ++ index) ++ lengths) ++ ending) ++ last_bytes (named key (length ((rows ++ index) ++ lengths)) ending)
+
+-- a segment that could be written: each row could, and the file is not too long
+pub record AreStorable (key : ℕ) (r : Reader) : Type 0 where
+  pub each : All IsStorable r.rows
+  pub whole : length (stored key r) ≤ 2 ^ 60 + 24
+
+-- ---- a term
+
+-- the row of a term among some rows
+abbrev pub row_of : TermKey → List Row → Option Row
+row_of t [] = None
+row_of t (r ∷ rs) = if eq_by_cmp term_cmp r.term t then Some r else row_of t rs
+
+-- a row with its positions, or without
+abbrev pub with_places : Bool → Row → Row
+with_places placed r = if placed then r else unplaced_row r
+
+-- what a file that was written says of a term
+abbrev pub kept_row : Bool → TermKey → List Row → Option Row
+kept_row placed t rows = option_map (with_places placed) (row_of t rows)

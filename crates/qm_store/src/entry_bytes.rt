@@ -1,10 +1,10 @@
 //! Entries of a dictionary as bytes.
 
-ghost use Rattle.std.specs.Prelude.{◌≡◌, ◌≤◌, ◌+◌, ◌++◌, IfOk, OnOk, drop, length, take};
+ghost use Rattle.std.specs.Prelude.{◌≡◌, ◌≤◌, ◌+◌, ◌++◌, All, IfOk, OnOk, drop, length, take};
 ghost use Rattle.qm_postings.specs.LentRow.{lent_row};
 ghost use Rattle.qm_store.specs.Pieces.{IsInFile};
 ghost use Rattle.qm_store.specs.RowBytes.{IsSomeRow, postings_part, row_bytes};
-ghost use Rattle.qm_store.specs.Stored.{apart, digests_bytes, entry_bytes, here_bytes, parts_apart, parts_bytes, there_bytes};
+ghost use Rattle.qm_store.specs.Stored.{AreShortEnough, IsStorable, apart, digests_bytes, entry_bytes, here_bytes, parts_apart, parts_bytes, there_bytes};
 
 use crate::named_piece::push_named;
 use crate::numbers::push_number;
@@ -31,6 +31,7 @@ pub(crate) fn push_entry(
     requires { IsSomeRow (lent_row row.now) }
     ensures out { OnOk result (out.new.items ≡ out.old.items ++ apart (lent_row row.now)) }
     ensures block { OnOk result (block.new.items ≡ block.old.items ++ entry_bytes key (length out.old.items) (lent_row row.now)) }
+    ensures storable { OnOk result (IsStorable (lent_row row.now)) }
 {
     let postings = write_parts(room, row)?;
     push_term(block, row.term())?;
@@ -43,6 +44,7 @@ fn write_parts(room: &mut Vec<u8>, row: &TermRowRef<'_>) -> Result<usize, AllocE
     requires { IsSomeRow (lent_row row.now) }
     ensures row { OnOk result (room.new.items ≡ row_bytes (lent_row row.now)) }
     ensures postings { IfOk result (λ n. n ≡ length (postings_part (lent_row row.now))) }
+    ensures small { OnOk result (All (λ f. f ≤ u32.MAX) (lent_row row.now).frequencies) }
 {
     room.clear();
     push_counted(room, row)?;
@@ -62,6 +64,7 @@ fn push_parts(
     requires { postings ≤ length row.now }
     ensures out { OnOk result (out.new.items ≡ out.old.items ++ parts_apart (take postings row.now) (drop postings row.now)) }
     ensures block { OnOk result (block.new.items ≡ block.old.items ++ parts_bytes key (length out.old.items) (take postings row.now) (drop postings row.now)) }
+    ensures few { OnOk result (AreShortEnough (take postings row.now) (drop postings row.now)) }
 {
     let (first, second) = row.split_at(postings);
     if row.len() <= SHORT_ROW {

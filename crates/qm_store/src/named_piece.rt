@@ -1,6 +1,6 @@
 //! A piece that is added to a file.
 
-ghost use Rattle.std.specs.Prelude.{◌≡◌, ◌++◌, IfOk, OnOk, length};
+ghost use Rattle.std.specs.Prelude.{◌≡◌, ◌≤◌, ◌^◌, ◌++◌, IfOk, OnOk, length};
 ghost use Rattle.qm_store.specs.Pieces.{IsInFile};
 ghost use Rattle.qm_store.specs.Stored.{named};
 
@@ -15,6 +15,7 @@ pub(crate) fn push_named(out: &mut Vec<u8>, key: u64, bytes: &[u8]) -> Result<Pi
     ensures added { OnOk result (out.new.items ≡ out.old.items ++ bytes.now) }
     ensures named { IfOk result (λ piece. piece ≡ named key (length out.old.items) bytes.now) }
     ensures few { IfOk result IsInFile }
+    ensures end { OnOk result (length out.new.items ≤ 2 ^ 60) }
 {
     let start = out.len();
     if start > MOST || bytes.len() > MOST - start {

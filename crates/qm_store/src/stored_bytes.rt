@@ -1,11 +1,11 @@
 //! A segment as bytes.
 
-ghost use Rattle.std.specs.Prelude.{◌≡◌, ◌≤◌, ◌<◌, ◌+◌, ◌-◌, ◌++◌, [], IfOk, OnOk, drop, length, take};
+ghost use Rattle.std.specs.Prelude.{◌≡◌, ◌≤◌, ◌<◌, ◌+◌, ◌-◌, ◌++◌, [], All, IfOk, OnOk, drop, length, take};
 ghost use Rattle.std.specs.Io.KnownBytes.{Appends};
-ghost use Rattle.std.specs.List.{flat_map};
+ghost use Rattle.std.specs.List.{AllWithin, flat_map};
 ghost use Rattle.qm_postings.specs.Reading.{IsOfRows};
 ghost use Rattle.qm_postings.specs.Rows.{columns_of};
-ghost use Rattle.qm_store.specs.Stored.{all_apart, block_named, ending_bytes, entries_bytes, group_bytes, index_bytes, last_bytes, rows_bytes, start_bytes, stored, stored_blocks};
+ghost use Rattle.qm_store.specs.Stored.{AreStorable, IsStorable, all_apart, block_named, ending_bytes, entries_bytes, group_bytes, index_bytes, last_bytes, rows_bytes, start_bytes, stored, stored_blocks};
 ghost use Rattle.qm_store.specs.Pieces.{IsInFile};
 
 use crate::entry_bytes::push_entry;
@@ -32,7 +32,8 @@ pub fn segment_bytes(
     segment: &SegmentReader,
     key: u64,
 ) -> Result<Vec<u8>, StoreError>
-    ensures { IfOk result (λ bytes. bytes.items ≡ stored key segment.now) }
+    ensures stored { IfOk result (λ bytes. bytes.items ≡ stored key segment.now) }
+    ensures storable { OnOk result (AreStorable key segment.now) }
 {
     let mut out = Vec::new(alloc);
     let mut index = Vec::new(alloc);
@@ -101,6 +102,7 @@ fn push_dictionary(
     requires no_blocks { index.old.items ≡ [] }
     ensures out { OnOk result (out.new.items ≡ rows_bytes key segment.now.rows) }
     ensures index { OnOk result (index.new.items ≡ index_bytes (stored_blocks key segment.now.rows)) }
+    ensures storable { OnOk result (All IsStorable segment.now.rows) }
 {
     out.extend_from_slice(b"birchseg")?;
     push_word(out, 1)?;
@@ -132,6 +134,7 @@ fn push_group(
     requires within { end ≤ length segment.now.rows }
     ensures out { OnOk result (out.new.items ≡ out.old.items ++ group_bytes key (length out.old.items) (take (end - start) (drop start segment.now.rows))) }
     ensures index { OnOk result (index.new.items ≡ index.old.items ++ start_bytes (block_named key (length out.old.items) (take (end - start) (drop start segment.now.rows)))) }
+    ensures storable { OnOk result (AllWithin IsStorable segment.now.rows start end) }
 {
     let mut block = Vec::new(alloc);
     push_number(&mut block, (end - start) as u64)?;
@@ -157,6 +160,7 @@ fn push_entries(
     requires within { end ≤ length segment.now.rows }
     ensures out { OnOk result (out.new.items ≡ out.old.items ++ all_apart (take (end - start) (drop start segment.now.rows))) }
     ensures block { OnOk result (block.new.items ≡ block.old.items ++ entries_bytes key (length out.old.items) (take (end - start) (drop start segment.now.rows))) }
+    ensures storable { OnOk result (AllWithin IsStorable segment.now.rows start end) }
 {
     let mut room = Vec::new(alloc);
     // those before it are there
@@ -176,7 +180,8 @@ pub fn write_segment<W: Write>(
     key: u64,
     out: &mut W,
 ) -> Result<(), StoreError>
-    ensures { OnOk result (Appends (W.contents out.old) (W.contents out.new) (stored key segment.now)) }
+    ensures written { OnOk result (Appends (W.contents out.old) (W.contents out.new) (stored key segment.now)) }
+    ensures storable { OnOk result (AreStorable key segment.now) }
 {
     let bytes = segment_bytes(alloc, segment, key)?;
     match out.write_all(&bytes) {

@@ -1,9 +1,10 @@
-use Rattle.std.proofs.Common.{◌≡◌, ◌+◌, ◌*◌, ◌<◌, ◌≤◌, ◌++◌, ap, sym, ◌∙◌, append-nil, arith, length, min}
+use Rattle.std.proofs.Common.{◌≡◌, ◌+◌, ◌*◌, ◌<◌, ◌≤◌, ◌++◌, ap, sym, ◌∙◌, append-nil, arith, length, min, subst}
 use Rattle.std.specs.Int.{div_ceil}
-use Rattle.std.specs.List.{flat_map}
+use Rattle.std.specs.List.{AllWithin, flat_map}
+use Rattle.std.proofs.lemmas.Grind.{div_ceil_times}
 use Rattle.qm_store.specs.Numbers.{spelled}
-use Rattle.qm_store.specs.Stored.{block_named, blocks_named, dictionary_bytes, group_bytes, group_count, start_bytes, stored_blocks}
-use Rattle.qm_store.proofs.StoredSteps.{between, group-more, groups_left, length-blocks, none-left, start-more, starts-within}
+use Rattle.qm_store.specs.Stored.{IsStorable, block_named, blocks_named, dictionary_bytes, group_bytes, group_count, start_bytes, stored_blocks}
+use Rattle.qm_store.proofs.StoredSteps.{between, group-more, groups_left, joined, length-blocks, none-left, start-more, starts-within}
 use Rattle.qm_store.proofs.stored_bytes.push_dictionary.Goals as goal
 
 pub loop-number-preserved : goal.loop-number-preserved
@@ -17,6 +18,8 @@ loop-number-preserved c =
     let some : i < group_count rows = omega (arith, blocks, c.loop-number-test.true) in
     let start = starts-within rows i some in
     let end-is : i * 128 + c.min.result ≡ min (i * 128 + 128) (length rows) = omega (arith, c.min.ensures, count, start) in
+    let so_far : min (i * 128) (length rows) ≡ i * 128 = omega (arith, start) in
+    let through : i * 128 + c.min.result ≡ min ((i + 1) * 128) (length rows) = omega (arith, c.min.ensures, count, start) in
     let out = c.in_ok-push_group.ensures.out ∙ ap (λ n. at.out.items ++ group_bytes key (length at.out.items) (between rows (i * 128) n)) end-is in
     let index = c.in_ok-push_group.ensures.index
     ∙ ap (λ n. at.index.items ++ start_bytes (block_named key (length at.out.items) (between rows (i * 128) n))) end-is in
@@ -25,6 +28,10 @@ loop-number-preserved c =
       index =
           (λ k. index k ++ flat_map start_bytes (blocks_named key (length (out k)) (groups_left rows (i + 1))))
           ∙ start-more key at.out.items rows i some at.index.items ∙ at.invariant.index;
+      storable =
+          subst (AllWithin IsStorable rows 0) through
+          (joined IsStorable rows 0 (i * 128) (i * 128 + c.min.result) (subst (AllWithin IsStorable rows 0) so_far at.invariant.storable)
+          c.in_ok-push_group.ensures.storable);
     }
 
 pub returns-clause-out : goal.returns-clause-out
@@ -48,3 +55,12 @@ returns-clause-index c =
     ∙ ap (λ gs. at.index.items ++ flat_map start_bytes (blocks_named key (length at.out.items) gs)) (sym (none-left rows at.number past))
     ∙ at.invariant.index
     ∙ ap (λ n. spelled n ++ flat_map start_bytes (stored_blocks key rows)) (sym (length-blocks key 16 (group_count rows) rows))
+
+pub returns-clause-storable : goal.returns-clause-storable
+returns-clause-storable c =
+    let at = c.loop-number in
+    let rows = c.args.segment.now.rows in
+    let blocks = c.div_ceil-blocks.ensures ∙ ap (λ n. div_ceil n 128) c.row_count-count.ensures.count in
+    let bounds = div_ceil_times (length rows) 128 (omega arith) in
+    let past : length rows ≤ at.number * 128 = omega (arith, blocks, c.loop-number-test.false, bounds.0) in
+    λ k d inside. at.invariant.storable k d (omega arith) (omega (arith, inside, past))

@@ -1,7 +1,8 @@
 use Rattle.std.proofs.Common.{◌+◌, ◌<◌, ◌++◌, ap, sym, ◌∙◌, append-nil, arith, length, subst}
+use Rattle.std.proofs.lemmas.List.Elements.{AllWithin-more, AllWithin-upto}
 use Rattle.qm_postings.specs.Rows.{IsRow, no_row}
-use Rattle.qm_store.specs.Stored.{all_apart, apart, entries_bytes, entry_bytes}
-use Rattle.qm_store.proofs.StoredSteps.{apart-more, between, entry-more, none-between}
+use Rattle.qm_store.specs.Stored.{IsStorable, all_apart, apart, entries_bytes, entry_bytes}
+use Rattle.qm_store.proofs.StoredSteps.{apart-more, at-place, between, entry-more, none-between}
 use Rattle.qm_store.proofs.stored_bytes.push_entries.Goals as goal
 
 pub push_entry-requires : goal.push_entry-requires
@@ -21,6 +22,7 @@ loop-place-preserved c =
     let rows = c.args.segment.now.rows in
     let end = c.args.end in
     let rest = between rows (at.place + 1) end in
+    let inside : at.place < length rows = omega (arith, c.loop-place-test.true, c.requires.within) in
     let out = c.in_ok-push_entry.ensures.out ∙ ap (λ r. at.out.items ++ apart r) c.row.ensures in
     let block = c.in_ok-push_entry.ensures.block ∙ ap (λ r. at.block.items ++ entry_bytes key (length at.out.items) r) c.row.ensures in
     record {
@@ -30,6 +32,8 @@ loop-place-preserved c =
       block =
           (λ i. block i ++ entries_bytes key (length (out i)) rest)
           ∙ entry-more key at.out.items at.block.items rows at.place end c.loop-place-test.true c.requires.within ∙ at.invariant.block;
+      storable = AllWithin-more IsStorable rows c.args.start at.place at.invariant.storable
+          (at-place IsStorable rows at.place no_row inside (subst IsStorable c.row.ensures c.in_ok-push_entry.ensures.storable));
     }
 
 pub returns-clause-out : goal.returns-clause-out
@@ -46,3 +50,7 @@ returns-clause-block c =
     ∙ ap (λ rs. at.block.items ++ entries_bytes c.args.key (length at.out.items) rs)
     (sym (none-between c.args.segment.now.rows at.place c.args.end c.loop-place-test.false))
     ∙ at.invariant.block
+
+pub returns-clause-storable : goal.returns-clause-storable
+returns-clause-storable c =
+    AllWithin-upto IsStorable c.args.segment.now.rows c.args.start c.loop-place.place c.args.end c.loop-place-test.false c.loop-place.invariant.storable

@@ -1,9 +1,10 @@
-use Rattle.std.proofs.Common.{◌++◌, ◌∙◌, length}
+use Rattle.std.proofs.Common.{◌≡◌, ◌++◌, ◌∙◌, ap, arith, length, refl, sym}
+use Rattle.std.proofs.lemmas.List.{length-append}
 use Rattle.qm_store.specs.Stored.{ending_bytes, last_bytes, named}
 use Rattle.qm_store.proofs.stored_bytes.segment_bytes.Goals as goal
 
-pub returns : goal.returns
-returns c =
+pub returns-clause-stored : goal.returns-clause-stored
+returns-clause-stored c =
     let key = c.args.key in
     let s = c.args.segment.now.segment in
     let rows = c.in_ok-push_dictionary.ensures.out in
@@ -17,3 +18,13 @@ returns c =
     let with_ending = c.in_ok-ending-2.ensures.added ∙ (λ i. with_lengths i ++ ends i) in
     let ending = c.in_ok-ending-2.ensures.named ∙ (λ i. named key (length (with_lengths i)) (ends i)) in
     c.in_ok-push_last.ensures ∙ (λ i. with_ending i ++ last_bytes (ending i))
+
+pub returns-clause-storable : goal.returns-clause-storable
+returns-clause-storable c =
+    let last = last_bytes c.in_ok-ending-2.ending in
+    let few : length last ≡ 24 = refl in
+    let whole = ap length (sym (returns-clause-stored c) ∙ c.in_ok-push_last.ensures) ∙ length-append c.push_named-3.new.out.items last in
+    record {
+      each = c.in_ok-push_dictionary.ensures.storable;
+      whole = omega (arith, whole, few, c.in_ok-ending-2.ensures.end);
+    }
