@@ -1,7 +1,7 @@
 -- A digest has eight bytes.
-use Rattle.std.proofs.Common.{◌≡◌, ℕ, ◌+◌, ◌-◌, ◌*◌, ◌/◌, ◌%◌, ◌^◌, ◌<◌, ◌==◌, Bool, true, false, cond, List, [], ◌∷◌, arith, bit_and, bit_or}
+use Rattle.std.proofs.Common.{ℕ, ◌+◌, ◌*◌, ◌/◌, ◌%◌, ◌^◌, ◌<◌, ◌==◌, Bool, true, false, cond, List, [], ◌∷◌, arith, bit_and, bit_or}
 use Rattle.std.specs.Prelude.{bit_xor, fold}
-use Rattle.std.specs.Int.{w64, rotate_left, to_le_bytes}
+use Rattle.std.specs.Int.{w64, to_le_bytes}
 use Rattle.std.specs.Hash.DefaultHasher.{finish, initial, round, wrapping_add, write, write_byte, write_word}
 use Rattle.std.specs.declared.hash.DefaultHasher.{DefaultHasher}
 use Rattle.std.proofs.lemmas.Nat.{or_lt, shr_le, xor_lt}

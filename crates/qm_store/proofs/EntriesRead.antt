@@ -1,8 +1,8 @@
 -- Entries of a dictionary that were written are read again.
-use Rattle.std.proofs.Common.{◌≡◌, ℕ, zero, suc, ◌+◌, ◌*◌, ◌/◌, ◌%◌, ◌^◌, ◌<◌, ◌≤◌, ◌==◌, Bool, true, false, cond, List, [], ◌∷◌, ◌++◌, drop, length, take, Option, None, Some, refl, ap, sym, ◌∙◌, append_assoc, append-nil, arith}
-use Rattle.std.specs.Prelude.{All, nat_le, option_map}
+use Rattle.std.proofs.Common.{◌≡◌, ℕ, ◌+◌, ◌*◌, ◌/◌, ◌%◌, ◌^◌, ◌<◌, ◌≤◌, ◌==◌, Bool, true, false, cond, List, [], ◌∷◌, ◌++◌, drop, length, take, Option, None, Some, refl, ap, ◌∙◌, append_assoc, arith}
+use Rattle.std.specs.Prelude.{All, option_map}
 use Rattle.std.specs.Int.{w64, to_le_bytes}
-use Rattle.std.proofs.lemmas.Bool.{cases_eq, eq-eqb, le-leb}
+use Rattle.std.proofs.lemmas.Bool.{eq-eqb, le-leb}
 use Rattle.std.proofs.lemmas.List.{length-append}
 use Rattle.std.proofs.lemmas.List.Elements.{All-head, All-tail}
 use Rattle.std.proofs.Math.Seq.{drop-append_seam, take-append_seam}
@@ -14,8 +14,8 @@ use Rattle.qm_store.specs.Entries.{Entry, Part, Parts, entry_at, here, here_at, 
 use Rattle.qm_store.specs.Numbers.{number_at, spelled}
 use Rattle.qm_store.specs.Pieces.{digest}
 use Rattle.qm_store.specs.RowBytes.{followed_by, places_part, postings_part}
-use Rattle.qm_store.specs.Stored.{IsStorable, apart, block_bytes, digests_bytes, entries_bytes, entry_bytes, here_bytes, is_short, named, parts_bytes, there_bytes}
-use Rattle.qm_store.specs.TermBytes.{term_at, term_bytes}
+use Rattle.qm_store.specs.Stored.{IsStorable, apart, block_bytes, entries_bytes, entry_bytes, here_bytes, is_short, named, parts_bytes, there_bytes}
+use Rattle.qm_store.specs.TermBytes.{term_bytes}
 use Rattle.qm_store.specs.Words.{word_at}
 use Rattle.qm_store.proofs.DigestFits.{digest-fits}
 use Rattle.qm_store.proofs.NumberBytes.{number-read}

@@ -1,10 +1,10 @@
 -- What a file says of a term that a segment was written into: its row there.
-use Rattle.std.proofs.Common.{◌≡◌, ℕ, zero, suc, ◌+◌, ◌-◌, ◌*◌, ◌^◌, ◌<◌, ◌≤◌, Bool, true, false, cond, List, [], ◌∷◌, ◌++◌, drop, length, take, map, Option, None, Some, refl, ap, sym, subst, ◌∙◌, append_assoc, append-nil, arith}
-use Rattle.std.specs.Prelude.{All, nat_le, option_map}
+use Rattle.std.proofs.Common.{◌≡◌, ℕ, zero, suc, ◌+◌, ◌-◌, ◌*◌, ◌^◌, ◌<◌, ◌≤◌, Bool, true, false, cond, List, [], ◌∷◌, ◌++◌, drop, length, take, map, Option, None, Some, Ok, Err, refl, ap, sym, subst, ◌∙◌, append_assoc, append-nil, arith}
+use Rattle.std.specs.Prelude.{All, nat_le, ok_or, option_and_then, option_map}
 use Rattle.std.specs.List.{AllByRecursion, flat_map}
 use Rattle.std.specs.List.Sorted.{IsStrictlySortedBy}
 use Rattle.std.specs.Ordering.{eq_by_cmp}
-use Rattle.std.proofs.lemmas.Bool.{cases_Bool, false≢true, le-leb}
+use Rattle.std.proofs.lemmas.Bool.{le-leb, le-ltb}
 use Rattle.std.proofs.lemmas.Grind.{div_ceil_times}
 use Rattle.std.proofs.lemmas.List.{length-append, length-drop, length-take, take-append-drop}
 use Rattle.std.proofs.lemmas.List.Elements.{All-head, All-tail, All-take, All-drop}
@@ -13,13 +13,22 @@ use Rattle.qm_postings.specs.Rows.{IsRow, Row, columns_of}
 use Rattle.qm_postings.specs.Segment.{keeps_positions}
 use Rattle.qm_schema.specs.Schema.{FieldFacts}
 use Rattle.qm_schema.specs.Term.{TermKey, same_term, term_cmp}
-use Rattle.qm_store.specs.RowBytes.{Postings, ended, followed_by, places_part, placed_at, postings_at, postings_bytes, postings_part, row_at, row_bytes}
+use Rattle.qm_store.specs.RowBytes.{Postings, followed_by, placed_at, postings_at, postings_bytes, postings_part, row_at, row_bytes}
 use Rattle.qm_store.specs.Numbers.{spelled}
-use Rattle.qm_store.specs.Stored.{AreStorable, IsStorable, dictionary_bytes, ending_bytes, group_count, groups, head_bytes, index_bytes, kept_row, last_bytes, named, row_of, rows_bytes, stored, stored_blocks, with_places}
-use Rattle.qm_store.specs.StoredSegment.{looked_up}
+use Rattle.qm_store.specs.Stored.{AreStorable, IsStorable, all_apart, block_bytes, blocks_named, dictionary_bytes, ending_bytes, entries_bytes, group_bytes, group_count, groups, head_bytes, index_bytes, kept_row, last_bytes, named, row_of, rows_bytes, stored, stored_blocks, with_places}
+use Rattle.qm_store.specs.Dictionary.{index_at}
+use Rattle.qm_store.specs.Ends.{ending_at, ending_in, headed, last_piece_at}
+use Rattle.qm_store.specs.Pieces.{part_at, piece_in}
+use Rattle.qm_store.specs.StoredSegment.{Opened, behind_head, lengths_in, looked_up, opened, opened_in, opened_segment, parts_in, with_columns}
+use Rattle.qm_store.specs.declared.ending.Ending.{Ending}
+use Rattle.qm_store.specs.declared.piece.Piece.{Piece}
+use Rattle.qm_store.specs.declared.store_error.StoreError.TheVariants.{Damaged, NotSegment}
+use Rattle.qm_store.proofs.DigestFits.{digest-fits}
+use Rattle.qm_store.proofs.FileOpened.{columns-read, ending-read, index-read, last-read}
+use Rattle.qm_store.proofs.PiecesRead.{part-there, piece-there}
 use Rattle.qm_store.proofs.NumberBytes.{number-read}
 use Rattle.qm_store.proofs.RowsFound.{found_as, read_as}
-use Rattle.qm_store.proofs.RowsRead.{ascend-length, postings-bytes, postings-read, row-read}
+use Rattle.qm_store.proofs.RowsRead.{ascend-length, postings-bytes, postings-read, row-read, some-byte}
 use Rattle.qm_store.proofs.StoredRead.{IsGroup, all_rows, looked, term_of}
 
 -- ---- groups
@@ -37,9 +46,24 @@ whole-groups (suc n) rows few =
 are-groups : (n : ℕ) (rows : List Row) → n * 128 < length rows + 128 → All IsStorable rows → AllByRecursion IsGroup (groups n rows)
 are-groups zero rows some are = tt
 are-groups (suc n) rows some are =
-    let size = length-take 128 rows in
-    (record { some = omega (arith, size, some); few = omega (arith, size); rows = All-take IsStorable 128 rows are },
-    are-groups n (drop 128 rows) (omega (arith, length-drop 128 rows, some)) (All-drop IsStorable 128 rows are))
+    let size = length-take 128 rows in (
+      record { some = omega (arith, size, some); few = omega (arith, size); rows = All-take IsStorable 128 rows are },
+      are-groups n (drop 128 rows) (omega (arith, length-drop 128 rows, some)) (All-drop IsStorable 128 rows are),
+    )
+
+-- as many blocks as there are bytes, at most
+few-blocks : (key at : ℕ) (gs : List (List Row)) → length (blocks_named key at gs) ≤ length (dictionary_bytes key at gs)
+few-blocks key at [] = omega arith
+few-blocks key at (g ∷ gs) =
+    let own = group_bytes key at g in
+    omega (
+      arith,
+      few-blocks key (at + length own) gs,
+      length-append own (dictionary_bytes key (at + length own) gs),
+      length-append (all_apart g) (block_bytes key at g),
+      length-append (spelled (length g)) (entries_bytes key at g),
+      some-byte 8 (length g),
+    )
 
 -- ---- a row
 
@@ -134,3 +158,81 @@ module _ (key : ℕ) (r : Reader) (of : IsOfRows r) (are : AreStorable key r) wh
   term-kept placed t keeps =
       rows-found placed t
       ∙ rows-kept r.segment.schema (length r.segment.documents) placed t r.rows of.made.are_rows.each are.each keeps
+
+  -- ---- it opens
+
+  abbrev front : List ℕ
+  front = rows_bytes key r.rows
+
+  abbrev body : List ℕ
+  body = (front ++ index) ++ lengths
+
+  abbrev index_piece : Piece
+  index_piece = named key (length front) index
+
+  abbrev lengths_piece : Piece
+  lengths_piece = named key (length (front ++ index)) lengths
+
+  abbrev told : Ending
+  told = record { block_len = r.segment.block_len; documents = length r.segment.documents; index = index_piece; lengths = lengths_piece }
+
+  front-size : length front ≡ 16 + length dictionary
+  front-size = length-append head_bytes dictionary
+
+  body-size : length body ≡ 16 + (length dictionary + (length index + length lengths))
+  body-size = omega (arith, front-size, length-append front index, length-append (front ++ index) lengths)
+
+  -- the last bytes name the ending
+  ending-named : option_and_then (piece_in key (stored key r)) (option_and_then last_piece_at (part_at (length (stored key r) - 24) 24 (stored key r))) ≡ Some ending
+  ending-named =
+      let whole = body ++ ending in
+      let few : length last ≡ 24 = refl in
+      let joined = length-append whole last in
+      let at : length (stored key r) - 24 ≡ length whole = omega (arith, joined, few) in
+      ap (λ n. option_and_then (piece_in key (stored key r)) (option_and_then last_piece_at (part_at n 24 (stored key r)))) at
+      ∙ ap (λ l. option_and_then (piece_in key (stored key r)) (option_and_then last_piece_at (part_at (length whole) 24 (whole ++ l)))) (sym (append-nil last))
+      ∙ ap (λ x. option_and_then (piece_in key (stored key r)) (option_and_then last_piece_at x)) (part-there whole last [])
+      ∙ ap (option_and_then (piece_in key (stored key r)))
+      (last-read (named key (length body) ending) (omega (arith, are.whole, size, body-size)) (omega (arith, are.whole, size)) (digest-fits key (length body) ending))
+      ∙ ap (λ l. piece_in key l (named key (length body) ending)) (append_assoc body ending last)
+      ∙ piece-there key body ending last
+
+  module _ (fits : key < 2 ^ 64) where
+    ending-found : ending_in key (stored key r) ≡ Some told
+    ending-found =
+        ap (λ b. cond b (option_and_then (ending_at key) (option_and_then (piece_in key (stored key r)) (option_and_then last_piece_at (part_at (length (stored key r) - 24) 24 (stored key r))))) None)
+        (le-leb 24 (length (stored key r)) (omega (arith, size)))
+        ∙ ap (option_and_then (ending_at key)) ending-named
+        ∙ ending-read key r.segment.block_len (length r.segment.documents) index_piece lengths_piece fits (omega (arith, of.made.short)) (omega (arith, of.made.few))
+        (omega (arith, are.whole, size, front-size)) (omega (arith, are.whole, size)) (digest-fits key (length front) index)
+        (omega (arith, are.whole, size, front-size, length-append front index)) (omega (arith, are.whole, size)) (digest-fits key (length (front ++ index)) lengths)
+
+    index-found : option_and_then index_at (piece_in key (stored key r) index_piece) ≡ Some (stored_blocks key r.rows)
+    index-found =
+        let behind = append_assoc (front ++ index) lengths (ending ++ last) ∙ append_assoc front index (lengths ++ (ending ++ last)) in
+        let file = append_assoc body ending last ∙ behind in
+        let bounds = div_ceil_times (length r.rows) 128 (omega arith) in
+        let whole = whole-groups (group_count r.rows) r.rows (omega (arith, bounds.0)) in
+        ap (λ l. option_and_then index_at (piece_in key l index_piece)) file
+        ∙ ap (option_and_then index_at) (piece-there key front index (lengths ++ (ending ++ last)))
+        ∙ index-read key 16 (groups (group_count r.rows) r.rows) (are-groups (group_count r.rows) r.rows (omega (arith, bounds.1)) are.each)
+        (subst (λ rs. IsStrictlySortedBy term_cmp (map term_of rs)) (sym whole) of.made.are_rows.terms)
+        (omega (arith, are.whole, size)) (omega (arith, are.whole, size, few-blocks key 16 (groups (group_count r.rows) r.rows)))
+
+    lengths-found : piece_in key (stored key r) lengths_piece ≡ Some lengths
+    lengths-found =
+        let file = append_assoc body ending last ∙ append_assoc (front ++ index) lengths (ending ++ last) in
+        ap (λ l. piece_in key l lengths_piece) file ∙ piece-there key (front ++ index) lengths (ending ++ last)
+
+    pub segment-opens : opened r.segment.schema key (stored key r) ≡ Ok (opened_segment key r)
+    segment-opens =
+        ap (λ h. behind_head h (opened_in r.segment.schema key (stored key r))) begun
+        ∙ ap (λ (x : Option Opened). ok_or x Damaged) (
+        ap (option_and_then (parts_in r.segment.schema key (stored key r))) ending-found
+        ∙ ap (option_and_then (lengths_in r.segment.schema key (stored key r) told)) index-found
+        ∙ ap (option_and_then (with_columns r.segment.schema told (stored_blocks key r.rows))) lengths-found
+        ∙ ap (option_map (λ columns. record { block_len = r.segment.block_len; documents = length r.segment.documents; blocks = stored_blocks key r.rows; columns = columns }))
+        (columns-read r.segment.schema (length r.segment.documents) (columns_of r.segment) of.made.lengths))
+      where
+        begun : headed (stored key r) ≡ Ok (stored key r)
+        begun = ap (λ b. cond b (Err NotSegment) (Ok (stored key r))) (le-ltb (length (stored key r)) 16 (omega (arith, size)))

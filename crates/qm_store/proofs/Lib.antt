@@ -12,3 +12,4 @@ pub mod EntriesRead
 pub mod RowsFound
 pub mod StoredRead
 pub mod FileRead
+pub mod FileOpened

@@ -1,20 +1,18 @@
 -- What a stored segment says of a term: its row, where it has one.
-use Rattle.std.proofs.Common.{◌≡◌, ℕ, zero, suc, ◌+◌, ◌-◌, ◌*◌, ◌^◌, ◌<◌, ◌≤◌, Bool, true, false, cond, List, [], ◌∷◌, ◌++◌, drop, length, take, Option, None, Some, refl, ap, sym, subst, ◌∙◌, append_assoc, append-nil, arith, Ordering, Less, Equal, Greater, is_some, map}
+use Rattle.std.proofs.Common.{◌≡◌, ℕ, ◌+◌, ◌^◌, ◌<◌, ◌≤◌, Bool, true, false, cond, List, [], ◌∷◌, ◌++◌, length, Option, None, Some, refl, ap, sym, ◌∙◌, append_assoc, Ordering, Less, Equal, Greater, is_some}
 use Rattle.std.specs.Prelude.{All, option_and_then, option_map}
 use Rattle.std.specs.List.{AllByRecursion}
 use Rattle.std.specs.Ordering.{eq_by_cmp, is_gt, ordering_reverse}
-use Rattle.std.proofs.lemmas.Bool.{cases_Bool, false≢true}
-use Rattle.std.proofs.lemmas.List.{length-append, take-append-drop}
-use Rattle.std.proofs.lemmas.List.Elements.{All-head, All-tail}
+use Rattle.std.proofs.lemmas.Bool.{false≢true}
+use Rattle.std.proofs.lemmas.List.{length-append}
 use Rattle.qm_postings.specs.Rows.{Row}
 use Rattle.qm_schema.specs.Term.{TermKey, same_term, term_cmp, term_cmp_total}
-use Rattle.qm_store.specs.Dictionary.{Block, block_at, block_for, row_with}
-use Rattle.qm_store.specs.Entries.{Entry, Part, here, there}
+use Rattle.qm_store.specs.Dictionary.{row_with}
+use Rattle.qm_store.specs.Entries.{Part, here, there}
 use Rattle.qm_store.specs.Pieces.{piece_in}
 use Rattle.qm_store.specs.RowBytes.{places_part, postings_part, row_at}
-use Rattle.qm_store.specs.Stored.{IsStorable, all_apart, apart, block_bytes, block_named, blocks_named, dictionary_bytes, first_row, group_bytes, is_short, named, parts_apart, row_of}
+use Rattle.qm_store.specs.Stored.{IsStorable, all_apart, apart, block_bytes, block_named, group_bytes, is_short, named, parts_apart, row_of}
 use Rattle.qm_store.specs.StoredSegment.{found_in, looked_up_in, part_in, row_bytes_in, row_by, row_in}
-use Rattle.qm_store.specs.declared.piece.Piece.{Piece}
 use Rattle.qm_store.proofs.EntriesRead.{all_apart_len, block-read, entries_stored, parts_stored}
 use Rattle.qm_store.proofs.PiecesRead.{piece-there}
 

@@ -89,7 +89,7 @@ pub ascend-length : (low : ℕ) (xs : List ℕ) → AscendFrom low xs → low �
 ascend-length low [] up small = omega (arith, small)
 ascend-length low (x ∷ xs) up small = omega (arith, up.0, ascend-length (x + 1) xs up.2 (omega (arith, up.1)))
 
-some-byte : (more n : ℕ) → 0 < length (number_bytes more n)
+pub some-byte : (more n : ℕ) → 0 < length (number_bytes more n)
 some-byte zero n = omega arith
 some-byte (suc more) n = elim (cases_Bool (ltb n 128)) [
   | inl less ↦ subst (λ b. 0 < length (cond b (n ∷ []) ((n % 128 + 128) ∷ number_bytes more (n / 128)))) (sym less) (omega arith)

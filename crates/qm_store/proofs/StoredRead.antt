@@ -1,5 +1,5 @@
 -- A stored segment that was written is read again.
-use Rattle.std.proofs.Common.{◌≡◌, ℕ, zero, suc, ◌+◌, ◌-◌, ◌*◌, ◌^◌, ◌<◌, ◌≤◌, Bool, true, false, cond, List, [], ◌∷◌, ◌++◌, drop, length, take, map, Option, None, Some, unwrap_or, refl, ap, sym, subst, ◌∙◌, append_assoc, append-nil, arith, Ordering, Less, Equal, Greater, is_some}
+use Rattle.std.proofs.Common.{◌≡◌, ℕ, ◌+◌, ◌^◌, ◌<◌, ◌≤◌, Bool, true, false, cond, List, [], ◌∷◌, ◌++◌, length, map, Option, None, Some, unwrap_or, refl, ap, sym, subst, ◌∙◌, append_assoc, arith, Ordering, Less, Equal, Greater, is_some}
 use Rattle.std.specs.Prelude.{All, option_map}
 use Rattle.std.specs.List.{AllByRecursion, flat_map}
 use Rattle.std.specs.List.Sorted.{IsStrictlySortedBy}
@@ -10,9 +10,8 @@ use Rattle.std.proofs.lemmas.Option.{same_Some}
 use Rattle.qm_postings.specs.Rows.{Row}
 use Rattle.qm_schema.specs.Term.{TermKey, term_cmp}
 use Rattle.qm_store.specs.Dictionary.{Block, block_for}
-use Rattle.qm_store.specs.Stored.{IsStorable, all_apart, apart, block_bytes, block_named, blocks_named, dictionary_bytes, first_row, group_bytes, row_of}
+use Rattle.qm_store.specs.Stored.{IsStorable, all_apart, apart, block_bytes, block_named, blocks_named, dictionary_bytes, group_bytes, row_of}
 use Rattle.qm_store.specs.StoredSegment.{looked_up_in}
-use Rattle.qm_store.specs.declared.piece.Piece.{Piece}
 use Rattle.qm_store.proofs.EntriesRead.{all_apart_len}
 use Rattle.qm_store.proofs.RowsFound.{before-all, behind-all, found_as, group-looked, none-behind, none-in-front, none-of, read_as}
 
@@ -41,7 +40,7 @@ early-none t r rs sorted early =
     others (u ∷ us) above = (before-all r.term t u.term early above.0, others us above.1)
 
 -- one that is behind all in front of another row
-at-seam : (P : TermKey → Type 0) (g : List Row) (s : Row) (rs : List Row) → AllByRecursion P (map term_of (g ++ s ∷ rs)) → P s.term
+pub at-seam : (P : TermKey → Type 0) (g : List Row) (s : Row) (rs : List Row) → AllByRecursion P (map term_of (g ++ s ∷ rs)) → P s.term
 at-seam P [] s rs all = all.0
 at-seam P (u ∷ g) s rs all = at-seam P g s rs all.1
 
@@ -54,7 +53,7 @@ late-none t (u ∷ g) s rs sorted late =
     ap (λ b. cond b (Some u) (row_of t g)) other ∙ late-none t g s rs sorted.1 late
 
 -- what stands behind is in order too
-behind-sorted : (g rs : List Row) → IsStrictlySortedBy term_cmp (map term_of (g ++ rs)) → IsStrictlySortedBy term_cmp (map term_of rs)
+pub behind-sorted : (g rs : List Row) → IsStrictlySortedBy term_cmp (map term_of (g ++ rs)) → IsStrictlySortedBy term_cmp (map term_of rs)
 unfolding IsStrictlySortedBy
 behind-sorted [] rs sorted = sorted
 behind-sorted (u ∷ g) rs sorted = behind-sorted g rs sorted.1

@@ -1,6 +1,7 @@
 -- What some bytes are as a stored segment, and what they say of a term.
-use Rattle.std.specs.Prelude.{ℕ, Bool, if◌then◌else◌, List, ◌++◌, Option, None, Some, Result, Ok, Err, map, ok_or, option_and_then, option_map}
-use Rattle.qm_postings.specs.Rows.{Row}
+use Rattle.std.specs.Prelude.{ℕ, Bool, if◌then◌else◌, List, ◌++◌, Option, None, Some, Result, Ok, Err, length, map, ok_or, option_and_then, option_map}
+use Rattle.qm_postings.specs.Reading.{Reader}
+use Rattle.qm_postings.specs.Rows.{Row, columns_of}
 use Rattle.qm_schema.specs.Schema.{FieldFacts}
 use Rattle.qm_schema.specs.Term.{TermKey}
 use Rattle.qm_store.specs.Columns.{columns_at}
@@ -9,6 +10,7 @@ use Rattle.qm_store.specs.Ends.{ending_in, headed}
 use Rattle.qm_store.specs.Entries.{Part, here, there}
 use Rattle.qm_store.specs.Pieces.{piece_in}
 use Rattle.qm_store.specs.RowBytes.{row_at}
+use Rattle.qm_store.specs.Stored.{stored_blocks}
 use Rattle.qm_store.specs.declared.ending.Ending.{Ending}
 use Rattle.qm_store.specs.declared.piece.Piece.{Piece}
 use Rattle.qm_store.specs.declared.store_error.StoreError.{StoreError}
@@ -42,6 +44,15 @@ parts_in schema key file e = option_and_then (lengths_in schema key file e) (opt
 -- what stands behind the first bytes
 abbrev pub opened_in : List FieldFacts → ℕ → List ℕ → Option Opened
 opened_in schema key file = option_and_then (parts_in schema key file) (ending_in key file)
+
+-- of one that was written
+abbrev pub opened_segment : ℕ → Reader → Opened
+opened_segment key r = record {
+  block_len = r.segment.block_len;
+  documents = length r.segment.documents;
+  blocks = stored_blocks key r.rows;
+  columns = columns_of r.segment;
+}
 
 -- ---- a term
 
