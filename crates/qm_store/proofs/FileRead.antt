@@ -8,14 +8,14 @@ use Rattle.std.proofs.lemmas.Bool.{le-leb, le-ltb}
 use Rattle.std.proofs.lemmas.Grind.{div_ceil_times}
 use Rattle.std.proofs.lemmas.List.{length-append, length-drop, length-take, take-append-drop}
 use Rattle.std.proofs.lemmas.List.Elements.{All-head, All-tail, All-take, All-drop}
-use Rattle.qm_postings.specs.Reading.{IsOfRows, Reader}
+use Rattle.qm_postings.specs.Reading.{Reader}
 use Rattle.qm_postings.specs.Rows.{IsRow, Row, columns_of}
 use Rattle.qm_postings.specs.Segment.{keeps_positions}
 use Rattle.qm_schema.specs.Schema.{FieldFacts}
 use Rattle.qm_schema.specs.Term.{TermKey, same_term, term_cmp}
 use Rattle.qm_store.specs.RowBytes.{Postings, followed_by, placed_at, postings_at, postings_bytes, postings_part, row_at, row_bytes}
 use Rattle.qm_store.specs.Numbers.{spelled}
-use Rattle.qm_store.specs.Stored.{AreStorable, IsStorable, all_apart, block_bytes, blocks_named, dictionary_bytes, ending_bytes, entries_bytes, group_bytes, group_count, groups, head_bytes, index_bytes, kept_row, last_bytes, named, row_of, rows_bytes, stored, stored_blocks, with_places}
+use Rattle.qm_store.specs.Stored.{IsStored, IsStorable, all_apart, block_bytes, blocks_named, dictionary_bytes, ending_bytes, entries_bytes, group_bytes, group_count, groups, head_bytes, index_bytes, kept_row, last_bytes, named, row_of, rows_bytes, stored, stored_blocks, with_places}
 use Rattle.qm_store.specs.Dictionary.{index_at}
 use Rattle.qm_store.specs.Ends.{ending_at, ending_in, headed, last_piece_at}
 use Rattle.qm_store.specs.Pieces.{part_at, piece_in}
@@ -115,7 +115,7 @@ regrouped h d i l e z =
     append_assoc (((h ++ d) ++ i) ++ l) e z ∙ append_assoc ((h ++ d) ++ i) l (e ++ z) ∙ append_assoc (h ++ d) i (l ++ (e ++ z))
     ∙ append_assoc h d (i ++ (l ++ (e ++ z)))
 
-module _ (key : ℕ) (r : Reader) (of : IsOfRows r) (are : AreStorable key r) where
+module _ (key : ℕ) (r : Reader) (are : IsStored key r) where
   abbrev dictionary : List ℕ
   dictionary = dictionary_bytes key 16 (groups (group_count r.rows) r.rows)
 
@@ -148,7 +148,7 @@ module _ (key : ℕ) (r : Reader) (of : IsOfRows r) (are : AreStorable key r) wh
       ap (λ l. looked_up key l placed t (stored_blocks key r.rows)) (regrouped head_bytes dictionary index lengths ending last)
       ∙ looked key placed t (groups (group_count r.rows) r.rows) head_bytes (index ++ (lengths ++ (ending ++ last)))
       (are-groups (group_count r.rows) r.rows (omega (arith, bounds.1)) are.each)
-      (subst (λ rs. IsStrictlySortedBy term_cmp (map term_of rs)) (sym whole) of.made.are_rows.terms)
+      (subst (λ rs. IsStrictlySortedBy term_cmp (map term_of rs)) (sym whole) are.of.made.are_rows.terms)
       (omega (arith, are.whole, size))
       ∙ ap (λ rs. found_as placed t (row_of t rs)) whole
 
@@ -157,7 +157,7 @@ module _ (key : ℕ) (r : Reader) (of : IsOfRows r) (are : AreStorable key r) wh
       looked_up key (stored key r) placed t (stored_blocks key r.rows) ≡ Some (kept_row placed t r.rows)
   term-kept placed t keeps =
       rows-found placed t
-      ∙ rows-kept r.segment.schema (length r.segment.documents) placed t r.rows of.made.are_rows.each are.each keeps
+      ∙ rows-kept r.segment.schema (length r.segment.documents) placed t r.rows are.of.made.are_rows.each are.each keeps
 
   -- ---- it opens
 
@@ -203,7 +203,7 @@ module _ (key : ℕ) (r : Reader) (of : IsOfRows r) (are : AreStorable key r) wh
         ap (λ b. cond b (option_and_then (ending_at key) (option_and_then (piece_in key (stored key r)) (option_and_then last_piece_at (part_at (length (stored key r) - 24) 24 (stored key r))))) None)
         (le-leb 24 (length (stored key r)) (omega (arith, size)))
         ∙ ap (option_and_then (ending_at key)) ending-named
-        ∙ ending-read key r.segment.block_len (length r.segment.documents) index_piece lengths_piece fits (omega (arith, of.made.short)) (omega (arith, of.made.few))
+        ∙ ending-read key r.segment.block_len (length r.segment.documents) index_piece lengths_piece fits (omega (arith, are.of.made.short)) (omega (arith, are.of.made.few))
         (omega (arith, are.whole, size, front-size)) (omega (arith, are.whole, size)) (digest-fits key (length front) index)
         (omega (arith, are.whole, size, front-size, length-append front index)) (omega (arith, are.whole, size)) (digest-fits key (length (front ++ index)) lengths)
 
@@ -216,7 +216,7 @@ module _ (key : ℕ) (r : Reader) (of : IsOfRows r) (are : AreStorable key r) wh
         ap (λ l. option_and_then index_at (piece_in key l index_piece)) file
         ∙ ap (option_and_then index_at) (piece-there key front index (lengths ++ (ending ++ last)))
         ∙ index-read key 16 (groups (group_count r.rows) r.rows) (are-groups (group_count r.rows) r.rows (omega (arith, bounds.1)) are.each)
-        (subst (λ rs. IsStrictlySortedBy term_cmp (map term_of rs)) (sym whole) of.made.are_rows.terms)
+        (subst (λ rs. IsStrictlySortedBy term_cmp (map term_of rs)) (sym whole) are.of.made.are_rows.terms)
         (omega (arith, are.whole, size)) (omega (arith, are.whole, size, few-blocks key 16 (groups (group_count r.rows) r.rows)))
 
     lengths-found : piece_in key (stored key r) lengths_piece ≡ Some lengths
@@ -232,7 +232,7 @@ module _ (key : ℕ) (r : Reader) (of : IsOfRows r) (are : AreStorable key r) wh
         ∙ ap (option_and_then (lengths_in r.segment.schema key (stored key r) told)) index-found
         ∙ ap (option_and_then (with_columns r.segment.schema told (stored_blocks key r.rows))) lengths-found
         ∙ ap (option_map (λ columns. record { block_len = r.segment.block_len; documents = length r.segment.documents; blocks = stored_blocks key r.rows; columns = columns }))
-        (columns-read r.segment.schema (length r.segment.documents) (columns_of r.segment) of.made.lengths))
+        (columns-read r.segment.schema (length r.segment.documents) (columns_of r.segment) are.of.made.lengths))
       where
         begun : headed (stored key r) ≡ Ok (stored key r)
         begun = ap (λ b. cond b (Err NotSegment) (Ok (stored key r))) (le-ltb (length (stored key r)) 16 (omega (arith, size)))

@@ -4,7 +4,7 @@ use Rattle.std.proofs.Common.{zero, suc}
 use Rattle.std.specs.Int.{div_ceil, w64, to_le_bytes}
 use Rattle.std.specs.List.{flat_map}
 use Rattle.std.specs.Ordering.{eq_by_cmp}
-use Rattle.qm_postings.specs.Reading.{Reader}
+use Rattle.qm_postings.specs.Reading.{IsOfRows, Reader}
 use Rattle.qm_postings.specs.Rows.{Row, columns_of, no_row}
 use Rattle.qm_postings.specs.Restriction.{unplaced_row}
 use Rattle.qm_postings.specs.Segment.{Segment}
@@ -149,8 +149,9 @@ stored key r =
     let ending = ending_bytes key r.segment (named key (length rows) index) (named key (length (rows ++ index)) lengths) in
     (((rows ++ index) ++ lengths) ++ ending) ++ last_bytes (named key (length ((rows ++ index) ++ lengths)) ending)
 
--- a segment that could be written: each row could, and the file is not too long
-pub record AreStorable (key : ℕ) (r : Reader) : Type 0 where
+-- a reader that could be written: its rows make its segment, each of them could be, and the file is not too long
+pub record IsStored (key : ℕ) (r : Reader) : Type 0 where
+  pub of : IsOfRows r
   pub each : All IsStorable r.rows
   pub whole : length (stored key r) ≤ 2 ^ 60 + 24
 

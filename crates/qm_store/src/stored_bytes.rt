@@ -5,7 +5,7 @@ ghost use Rattle.std.specs.Io.KnownBytes.{Appends};
 ghost use Rattle.std.specs.List.{AllWithin, flat_map};
 ghost use Rattle.qm_postings.specs.Reading.{IsOfRows};
 ghost use Rattle.qm_postings.specs.Rows.{columns_of};
-ghost use Rattle.qm_store.specs.Stored.{AreStorable, IsStorable, all_apart, block_named, ending_bytes, entries_bytes, group_bytes, index_bytes, last_bytes, rows_bytes, start_bytes, stored, stored_blocks};
+ghost use Rattle.qm_store.specs.Stored.{IsStored, IsStorable, all_apart, block_named, ending_bytes, entries_bytes, group_bytes, index_bytes, last_bytes, rows_bytes, start_bytes, stored, stored_blocks};
 ghost use Rattle.qm_store.specs.Pieces.{IsInFile};
 
 use crate::entry_bytes::push_entry;
@@ -33,7 +33,7 @@ pub fn segment_bytes(
     key: u64,
 ) -> Result<Vec<u8>, StoreError>
     ensures stored { IfOk result (λ bytes. bytes.items ≡ stored key segment.now) }
-    ensures storable { OnOk result (AreStorable key segment.now) }
+    ensures storable { OnOk result (IsStored key segment.now) }
 {
     let mut out = Vec::new(alloc);
     let mut index = Vec::new(alloc);
@@ -103,6 +103,7 @@ fn push_dictionary(
     ensures out { OnOk result (out.new.items ≡ rows_bytes key segment.now.rows) }
     ensures index { OnOk result (index.new.items ≡ index_bytes (stored_blocks key segment.now.rows)) }
     ensures storable { OnOk result (All IsStorable segment.now.rows) }
+    ensures rows { OnOk result (IsOfRows segment.now) }
 {
     out.extend_from_slice(b"birchseg")?;
     push_word(out, 1)?;
@@ -181,7 +182,7 @@ pub fn write_segment<W: Write>(
     out: &mut W,
 ) -> Result<(), StoreError>
     ensures written { OnOk result (Appends (W.contents out.old) (W.contents out.new) (stored key segment.now)) }
-    ensures storable { OnOk result (AreStorable key segment.now) }
+    ensures storable { OnOk result (IsStored key segment.now) }
 {
     let bytes = segment_bytes(alloc, segment, key)?;
     match out.write_all(&bytes) {

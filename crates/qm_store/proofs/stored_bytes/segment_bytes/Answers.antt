@@ -25,6 +25,7 @@ returns-clause-storable c =
     let few : length last ≡ 24 = refl in
     let whole = ap length (sym (returns-clause-stored c) ∙ c.in_ok-push_last.ensures) ∙ length-append c.push_named-3.new.out.items last in
     record {
+      of = c.in_ok-push_dictionary.ensures.rows;
       each = c.in_ok-push_dictionary.ensures.storable;
       whole = omega (arith, whole, few, c.in_ok-ending-2.ensures.end);
     }
