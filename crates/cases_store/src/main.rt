@@ -1,8 +1,10 @@
-//! Plays cases of rows as bytes: reads them from standard input, and writes which rows are wrong.
+//! Plays cases of rows and of segments as bytes: reads them from standard input, and writes which rows are wrong.
 #![tactic(auto)]
 
 mod given_row;
+mod given_segment;
 mod given_term;
+mod kept;
 mod player;
 mod spelled;
 

@@ -1,6 +1,7 @@
 //! Which blocks there are.
 
 use crate::given_row::GivenRow;
+use crate::given_segment::GivenSegment;
 use crate::given_term::{GivenBytes, GivenTerm};
 use crate::spelled::{keeps_positions, read_bytes, write_read};
 use cases::{Asker, Block, Fault, Memory, Player, Report, end_refusals, play_asked, word};
@@ -8,7 +9,7 @@ use qm_schema::{Field, Term};
 use qm_store::read_row;
 use std::alloc::Global;
 
-/// Plays blocks of rows, of terms and of bytes.
+/// Plays blocks of rows, of terms, of segments and of bytes.
 #[derive(Drop)]
 pub struct Store;
 
@@ -30,6 +31,10 @@ impl Player for Store {
             "begin" => {
                 let mut bytes = GivenBytes::make(alloc, block.words)?;
                 play_asked(alloc, &mut bytes, block.rows, report)
+            }
+            "stored" => {
+                let mut segment = GivenSegment::make(alloc, block.words)?;
+                play_asked(alloc, &mut segment, block.rows, report)
             }
             _ => Err(Fault::NotUnderstood),
         }
