@@ -1,32 +1,38 @@
 //! A stored segment over bytes that are given by hand.
 
+use crate::asked_segment::{Call, ask};
+use crate::heard_pieces::{Heard, HeardPieces};
 use crate::kept::read_schema;
-use crate::spelled::{bytes_of, read_text, write_row};
-use cases::{Asker, Fault, Memory, behind, end_refusals, number, word, words_of};
-use qm_postings::TermRow;
-use qm_schema::{Field, QueryError, Schema, Term};
-use qm_store::{StoreError, StoredSegment};
+use crate::spelled::bytes_of;
+use crate::written_file::file_of;
+use cases::{Asker, Fault, Memory, behind, number, word, words_of};
+use qm_schema::Schema;
 use std::alloc::Global;
 
 /// The bytes of a stored segment, or others; and what it is opened with.
 #[derive(Drop)]
-pub struct GivenSegment {
+pub struct GivenSegment<'r> {
+    rt: &'r HostRuntime,
     key: u64,
     schema: Schema,
     bytes: Vec<u8>,
+    // whether they are read from a file
+    is_file: bool,
 }
 
-impl GivenSegment {
-    /// That of the words `stored KEY FIELDS BYTES`.
-    pub fn make(alloc: Global, words: &[&str]) -> Result<GivenSegment, Fault> {
-        let key = match word(words, 1).parse() {
-            Ok(key) => key,
-            Err(_) => return Err(Fault::NotUnderstood),
-        };
+impl<'r> GivenSegment<'r> {
+    /// That of the words `stored KEY FIELDS BYTES`, or `filed KEY FIELDS BYTES`, whose bytes stand in a file.
+    pub fn make(
+        alloc: Global,
+        rt: &'r HostRuntime,
+        words: &[&str],
+    ) -> Result<GivenSegment<'r>, Fault> {
         Ok(GivenSegment {
-            key,
+            rt,
+            key: read_key(word(words, 1))?,
             schema: read_schema(alloc, word(words, 2))?,
             bytes: bytes_of(alloc, behind(words, 3))?,
+            is_file: word(words, 0) == "filed",
         })
     }
 
@@ -51,6 +57,14 @@ impl GivenSegment {
     }
 }
 
+/// The key that a word spells.
+pub fn read_key(spelled: &str) -> Result<u64, Fault> {
+    match spelled.parse() {
+        Ok(key) => Ok(key),
+        Err(_) => Err(Fault::NotUnderstood),
+    }
+}
+
 // Turns a bit of a byte.
 fn turn(bytes: &mut [u8], place: Option<u32>, bit: Option<u32>) -> Result<(), Fault> {
     let (Some(place), Some(bit)) = (place, bit) else {
@@ -66,9 +80,10 @@ fn turn(bytes: &mut [u8], place: Option<u32>, bit: Option<u32>) -> Result<(), Fa
     Ok(())
 }
 
-impl Asker for GivenSegment {
-    // `open`, how many documents it has, and `row FIELD TEXT`, the row of a term, without positions, or with them where
-    // `placed` stands behind it.
+impl<'r> Asker for GivenSegment<'r> {
+    // `open` and `row FIELD TEXT`, of the bytes as they are or changed; `failing N CALL`, the same where the N-th call of
+    // what has the bytes is refused, and `counted CALL`, behind whose answer stands how many such calls there were, and
+    // how many bytes they read.
     fn ask(
         &mut self,
         alloc: Global,
@@ -79,84 +94,54 @@ impl Asker for GivenSegment {
         let words = words_of(alloc, call)?;
         let (bytes, count) = self.changed(alloc, &words)?;
         let words = behind(&words, count);
+        let call = Call {
+            key: self.key,
+            schema: &self.schema,
+            memory,
+        };
         match word(words, 0) {
-            "open" => ask_open(alloc, bytes, &self.schema, self.key, memory, text),
-            "row" => {
-                let asked = Asked::read(alloc, words)?;
-                match StoredSegment::open(alloc, bytes, &self.schema, self.key) {
-                    Ok(segment) => ask_row(alloc, &segment, &asked, memory, text),
-                    Err(error) => write_error(error, text),
-                }
+            "failing" => ask_failing(alloc, &bytes, &call, words, text),
+            "counted" => ask_counted(alloc, &bytes, &call, behind(words, 1), text),
+            _ if self.is_file => {
+                let file = file_of(self.rt, alloc, &bytes)?;
+                ask(alloc, file, &call, words, text)
             }
-            _ => Err(Fault::NotUnderstood),
+            _ => ask(alloc, bytes, &call, words, text),
         }
     }
 }
 
-fn ask_open(
+fn ask_failing(
     alloc: Global,
-    bytes: Vec<u8>,
-    schema: &Schema,
-    key: u64,
-    memory: Memory,
+    bytes: &[u8],
+    call: &Call<'_>,
+    words: &[&str],
     text: &mut String,
 ) -> Result<(), Fault> {
-    memory.begin(alloc);
-    let opened = StoredSegment::open(alloc, bytes, schema, key);
-    end_refusals(alloc);
-    match opened {
-        Ok(segment) => Ok(write!(text, "{} documents", segment.max_doc())?),
-        Err(error) => write_error(error, text),
-    }
-}
-
-/// Which row is asked for.
-#[derive(Drop)]
-pub struct Asked {
-    term: Term,
-    with_positions: bool,
-}
-
-impl Asked {
-    /// That of the words `row FIELD TEXT`, or `row FIELD TEXT placed`.
-    pub fn read(alloc: Global, words: &[&str]) -> Result<Asked, Fault> {
-        let Some(field) = number(words, 1) else {
-            return Err(Fault::NotUnderstood);
-        };
-        let field = Field::from_field_id(field);
-        Ok(Asked {
-            term: Term::from_field_text(alloc, field, read_text(word(words, 2)))?,
-            with_positions: word(words, 3) == "placed",
-        })
-    }
-}
-
-/// Answers the row of a term.
-pub fn ask_row(
-    alloc: Global,
-    segment: &StoredSegment<Vec<u8>>,
-    asked: &Asked,
-    memory: Memory,
-    text: &mut String,
-) -> Result<(), Fault> {
-    memory.begin(alloc);
-    let found = segment.row(alloc, &asked.term, asked.with_positions);
-    end_refusals(alloc);
-    match found {
-        Ok(Some(row)) => write_row(&row, text),
-        Ok(None) => Ok(text.push_str("none")?),
-        Err(error) => write_error(error, text),
-    }
-}
-
-/// Writes why a stored segment can't be read or written.
-pub fn write_error(error: StoreError, text: &mut String) -> Result<(), Fault> {
-    let spelled = match error {
-        StoreError::Memory => return Err(Fault::Refused(QueryError::Memory)),
-        StoreError::Failed => "failed",
-        StoreError::NotSegment => "not a segment",
-        StoreError::OtherVersion => "another version",
-        StoreError::Damaged => "damaged",
+    let Some(refused) = number(words, 1) else {
+        return Err(Fault::NotUnderstood);
     };
-    Ok(text.push_str(spelled)?)
+    let heard = Heard::new(u64::from(refused));
+    let pieces = HeardPieces {
+        bytes,
+        heard: &heard,
+    };
+    ask(alloc, pieces, call, behind(words, 2), text)
+}
+
+fn ask_counted(
+    alloc: Global,
+    bytes: &[u8],
+    call: &Call<'_>,
+    words: &[&str],
+    text: &mut String,
+) -> Result<(), Fault> {
+    let heard = Heard::new(0);
+    let pieces = HeardPieces {
+        bytes,
+        heard: &heard,
+    };
+    ask(alloc, pieces, call, words, text)?;
+    let (calls, read) = (heard.calls.get(), heard.bytes.get());
+    Ok(write!(text, " calls {calls} bytes {read}")?)
 }

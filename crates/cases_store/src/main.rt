@@ -1,12 +1,15 @@
 //! Plays cases of rows and of segments as bytes: reads them from standard input, and writes which rows are wrong.
 #![tactic(auto)]
 
+mod asked_segment;
 mod given_row;
 mod given_segment;
 mod given_term;
+mod heard_pieces;
 mod kept;
 mod player;
 mod spelled;
+mod written_file;
 
 use crate::player::Store;
 use cases::{Report, play_cases};
@@ -16,7 +19,7 @@ use std::process::ExitCode;
 fn main(rt: HostRuntime) -> io::Result<ExitCode> {
     let text = io::read_to_string(rt.alloc(), rt.reader())?;
     let mut report = Report::new(rt.alloc())?;
-    let status = match play_cases(rt.alloc(), &mut Store, text.as_str(), &mut report) {
+    let status = match play_cases(rt.alloc(), &mut Store { rt: &rt }, text.as_str(), &mut report) {
         Ok(()) => u8::from(!report.is_right()),
         Err(_) => 2,
     };

@@ -11,9 +11,12 @@ use std::alloc::Global;
 
 /// Plays blocks of rows, of terms, of segments and of bytes.
 #[derive(Drop)]
-pub struct Store;
+pub struct Store<'r> {
+    /// where files can be made
+    pub rt: &'r HostRuntime,
+}
 
-impl Player for Store {
+impl<'r> Player for Store<'r> {
     fn play(&mut self, alloc: Global, block: Block<'_>, report: &mut Report) -> Result<(), Fault> {
         match word(block.words, 0) {
             "row" => {
@@ -32,8 +35,8 @@ impl Player for Store {
                 let mut bytes = GivenBytes::make(alloc, block.words)?;
                 play_asked(alloc, &mut bytes, block.rows, report)
             }
-            "stored" => {
-                let mut segment = GivenSegment::make(alloc, block.words)?;
+            "stored" | "filed" => {
+                let mut segment = GivenSegment::make(alloc, self.rt, block.words)?;
                 play_asked(alloc, &mut segment, block.rows, report)
             }
             _ => Err(Fault::NotUnderstood),
