@@ -1,5 +1,5 @@
-"""Cases of stored segments, by chance and in tables: all terms looked up and some that are not there, and bytes of which
-bits were turned, parts were changed, or some were cut off."""
+"""Cases of stored segments, by chance and in tables: all terms looked up and some that are not there, and bytes of
+which bits were turned, parts were changed, or some were cut off."""
 
 from generators.spelled import row
 from generators.stored import ascending, damaged, joined, spelled
@@ -58,8 +58,9 @@ class Segment:
         return [(field, text.decode()) for field, text, *_ in self.told[3]]
 
     def block(self, file, key=None):
-        """The line of a block that opens these bytes."""
-        return f"stored {self.key if key is None else key} {','.join(self.fields) or '-'} {spelled(file)}"
+        """The line of a block that opens these bytes, some of them in a file."""
+        kind = "filed" if len(file) % 5 == 0 else "stored"
+        return f"{kind} {self.key if key is None else key} {','.join(self.fields)} {spelled(file)}"
 
     def opener(self, file, key=None):
         """What opens a file, once and for all where that goes well."""

@@ -3,10 +3,9 @@
 use cases::Fault;
 use qm_store::SegmentFile;
 use std::alloc::Global;
-use std::fs;
 use std::fs::File;
-use std::io;
 use std::io::Write;
+use std::{fs, io};
 
 // so many names are tried
 const NAMES: u32 = 10000;
