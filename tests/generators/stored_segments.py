@@ -148,6 +148,30 @@ def whole(random):
     yield from asked(segment.opener(more), looked_up(random, segment, 1))
 
 
+def added(field, text, documents, places):
+    """The row of a case that adds a segment's row."""
+    often = [it if isinstance(it, int) else len(it) for it in places]
+    positions = [place for it in places if not isinstance(it, int) for place in it]
+    return row(" ".join(["add", str(field), text.decode() or "-", *map(joined, (documents, often, positions))]))
+
+
+def written(random):
+    """A segment that is given by its rows and written: its bytes, and what is looked up in them."""
+    segment = segment_by_chance(random)
+    file, (block_len, count, columns, rows) = segment_bytes(segment.key, *segment.told), segment.told
+    yield f"written {segment.key} {','.join(segment.fields)} {block_len} {count}"
+    for field, column in enumerate(columns):
+        yield row(f"column {field} {joined(column)}")
+    for it in rows:
+        yield added(*it)
+    yield row("make", "made")
+    yield row("bytes", spelled(file))
+    if len(rows) < 10:
+        yield row(random.choice(["written", "interrupted", "by 1", "by 2", "by 7"]), spelled(file))
+        yield row("each write fails", "failed")
+    yield from asked(segment.opener(file), looked_up(random, segment, 20))
+
+
 def changed(random):
     """A segment with one of its pieces changed before it was written."""
     segment = segment_by_chance(random, (1, 2, 3, 3, 129))
@@ -169,7 +193,7 @@ def swapped(random):
 
 
 def by_chance(random):
-    yield from random.choice([whole, changed, changed, changed, swapped])(random)
+    yield from random.choice([whole, written, written, changed, changed, changed, swapped])(random)
 
 
 # ---- tables

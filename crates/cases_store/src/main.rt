@@ -2,14 +2,18 @@
 #![tactic(auto)]
 
 mod asked_segment;
+mod error_texts;
 mod given_row;
+mod given_rows;
 mod given_segment;
 mod given_term;
 mod heard_pieces;
 mod kept;
 mod player;
+mod sink;
 mod spelled;
 mod written_file;
+mod written_segment;
 
 use crate::player::Store;
 use cases::{Report, play_cases};

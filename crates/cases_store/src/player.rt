@@ -1,6 +1,8 @@
 //! Which blocks there are.
 
+use crate::error_texts::ErrorTexts;
 use crate::given_row::GivenRow;
+use crate::given_rows::GivenRows;
 use crate::given_segment::GivenSegment;
 use crate::given_term::{GivenBytes, GivenTerm};
 use crate::spelled::{keeps_positions, read_bytes, write_read};
@@ -39,6 +41,11 @@ impl<'r> Player for Store<'r> {
                 let mut segment = GivenSegment::make(alloc, self.rt, block.words)?;
                 play_asked(alloc, &mut segment, block.rows, report)
             }
+            "written" => {
+                let mut rows = GivenRows::make(alloc, block.words)?;
+                play_asked(alloc, &mut rows, block.rows, report)
+            }
+            "errors" => play_asked(alloc, &mut ErrorTexts, block.rows, report),
             _ => Err(Fault::NotUnderstood),
         }
     }
