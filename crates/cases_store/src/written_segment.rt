@@ -70,7 +70,7 @@ fn ask_bytes(
     }
 }
 
-// The bytes that are written in a manner.
+// The bytes that are written in a manner. Where there is no memory for them, none may be written.
 fn ask_written_bytes(
     alloc: Global,
     segment: &SegmentReader,
@@ -84,6 +84,9 @@ fn ask_written_bytes(
     end_refusals(alloc);
     match written {
         Ok(()) => Ok(write_bytes(&sink.bytes, text)?),
+        Err(StoreError::Memory) if !sink.bytes.is_empty() => {
+            Ok(text.push_str("written before it was refused")?)
+        }
         Err(error) => write_error(error, text),
     }
 }
