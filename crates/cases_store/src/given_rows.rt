@@ -137,5 +137,8 @@ fn delete(alloc: Global, segment: &mut SegmentReader, words: &[&str]) -> Result<
     let Some(document) = number(words, 1) else {
         return Err(Fault::NotUnderstood);
     };
+    if document >= segment.max_doc() {
+        return Err(Fault::NotAllowed);
+    }
     Ok(segment.delete(alloc, document)?)
 }

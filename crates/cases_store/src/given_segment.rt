@@ -83,7 +83,7 @@ fn turn(bytes: &mut [u8], place: Option<u32>, bit: Option<u32>) -> Result<(), Fa
 impl<'r> Asker for GivenSegment<'r> {
     // `open` and `row FIELD TEXT`, of the bytes as they are or changed; `failing N CALL`, the same where the N-th call of
     // what has the bytes is refused, and `counted CALL`, behind whose answer stands how many such calls there were, and
-    // how many bytes they read.
+    // how many bytes they read; `shortened N CALL`, the same of a file of which the first N bytes are left once it is open.
     fn ask(
         &mut self,
         alloc: Global,
@@ -102,8 +102,15 @@ impl<'r> Asker for GivenSegment<'r> {
         match word(words, 0) {
             "failing" => ask_failing(alloc, &bytes, &call, words, text),
             "counted" => ask_counted(alloc, &bytes, &call, behind(words, 1), text),
+            "shortened" => {
+                let Some(left) = number(words, 1) else {
+                    return Err(Fault::NotUnderstood);
+                };
+                let file = file_of(self.rt, alloc, &bytes, u64::from(left))?;
+                ask(alloc, file, &call, behind(words, 2), text)
+            }
             _ if self.is_file => {
-                let file = file_of(self.rt, alloc, &bytes)?;
+                let file = file_of(self.rt, alloc, &bytes, bytes.len() as u64)?;
                 ask(alloc, file, &call, words, text)
             }
             _ => ask(alloc, bytes, &call, words, text),

@@ -10,13 +10,18 @@ use std::{fs, io};
 // so many names are tried
 const NAMES: u32 = 10000;
 
-/// A file of these bytes, which has no name any more.
-pub fn file_of(rt: &HostRuntime, alloc: Global, bytes: &[u8]) -> Result<SegmentFile, Fault> {
+/// A file of these bytes, which has no name any more; so many of them are left once it is open.
+pub fn file_of(
+    rt: &HostRuntime,
+    alloc: Global,
+    bytes: &[u8],
+    left: u64,
+) -> Result<SegmentFile, Fault> {
     for number in 0..NAMES {
         let name = format!(in alloc; "/tmp/cases_store-{number}")?;
         if let Ok(file) = File::create_new(rt, name.as_str()) {
             let removed = fs::remove_file(rt, name.as_str());
-            return match filled(file, bytes) {
+            return match filled(file, bytes, left) {
                 Ok(file) if removed.is_ok() => Ok(file),
                 _ => Err(Fault::NotAllowed),
             };
@@ -25,8 +30,11 @@ pub fn file_of(rt: &HostRuntime, alloc: Global, bytes: &[u8]) -> Result<SegmentF
     Err(Fault::NotAllowed)
 }
 
-fn filled(file: File, bytes: &[u8]) -> io::Result<SegmentFile> {
+fn filled(file: File, bytes: &[u8], left: u64) -> io::Result<SegmentFile> {
     let mut file = file;
     file.write_all(bytes)?;
-    SegmentFile::new(file)
+    let same = file.try_clone()?;
+    let open = SegmentFile::new(file)?;
+    same.set_len(left)?;
+    Ok(open)
 }
