@@ -35,7 +35,7 @@ ROWS = {
     "cases_postings": 75_000,
     "cases_weights": 200_000,
     "cases_queries": 100_000,
-    "cases_store": 30_000,
+    "cases_store": 24_000,
     "cases_scripts": 6_000,
 }
 # A program that takes longer than this many seconds is taken never to end.

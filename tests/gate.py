@@ -8,7 +8,8 @@ tries the wrong bodies of must-fail/ and runs the programs. As soon as it says o
 kept, tests/wrong_bodies.py tries the others of that crate beside it, at the lowest priority, so that proofs
 wait for nothing: those whose refusal does not stand, and some by chance (refused_before.py). tests/refusal_rows.py
 has rows of what counts as refused. Then tests/refused_calls.py looks whether each public call has its rows under
-refused memory, tests/cases.py plays the cases, and tests/program_runs.py and tests/birch_runs.py run the programs
+refused memory, tests/cases.py plays the cases, tests/format_runs.py holds two plain readings of docs/FORMAT.md against
+each other, and tests/program_runs.py and tests/birch_runs.py run the programs
 `qm_search` and `birch`; at last what docs/ has of specs/ and of crates.txt is compared with these, and the commands
 that the documents show are run. Then two tables say how many minutes each crate and each stage took, for
 docs/GATE.md. The last line counts what passed; the exit status is 1 where anything did not. Called by .ci/run.
@@ -38,6 +39,7 @@ COUNTED = {
     "rows of refusals": r"refusal rows: (\d+) as wanted",
     "calls under refusals": r"refused calls: (\d+) as wanted",
     "rows": r"cases: (\d+) rows, \d+ wrong",
+    "files of the format": r"format: (\d+) as wanted",
     "program runs": r"program runs: (\d+) as wanted",
     "birch runs": r"birch runs: (\d+) as wanted",
     "forms that grow as wanted": r"growth: (\d+) as wanted",
@@ -50,6 +52,7 @@ PLAYED = {
     "rows of refusals": ["refusal_rows.py"],
     "calls under refusals": ["refused_calls.py"],
     "rows": ["cases.py"],
+    "files of the format": ["format_runs.py"],
     "program runs": ["program_runs.py"],
     "birch runs": ["birch_runs.py"],
     "forms that grow as wanted": ["growth.py"],

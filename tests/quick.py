@@ -43,6 +43,7 @@ def main(words):
         runs = [
             [f"{ROOT}/tests/refused_calls.py"],
             [f"{ROOT}/tests/cases.py", "--built", room, *words],
+            [f"{ROOT}/tests/format_runs.py"],
             [f"{ROOT}/tests/program_runs.py", f"{room}/qm_search"],
             [f"{ROOT}/tests/birch_runs.py", f"{room}/birch"],
             [f"{ROOT}/tests/growth.py", f"{room}/qm_search"],

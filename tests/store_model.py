@@ -25,8 +25,9 @@ def gap_bytes(numbers):
     return found
 
 
-def row_bytes(documents, places):
-    """The bytes of a row: documents, and of each how often it holds the term, or its positions there."""
+def row_parts(documents, places):
+    """The postings of a row and its positions, as bytes: documents, and of each how often it holds the term, or its
+    positions there."""
     low, postings, positions = 0, [], []
     for document, held in zip(documents, places):
         often = held if isinstance(held, int) else len(held)
@@ -34,7 +35,13 @@ def row_bytes(documents, places):
         postings += number_bytes(gap + 1) if often == 1 else number_bytes(gap) + number_bytes(often)
         positions += [] if isinstance(held, int) else gap_bytes(held)
         low = document + 1
-    return number_bytes(len(documents)) + postings + positions
+    return number_bytes(len(documents)) + postings, positions
+
+
+def row_bytes(documents, places):
+    """The bytes of a row."""
+    postings, positions = row_parts(documents, places)
+    return postings + positions
 
 
 class NotThere(Exception):

@@ -2,7 +2,7 @@
 
 import itertools
 
-from generators import cursors, indexes, postings, queries, runs, scripts, sets, stored, tables, trees, weights
+from generators import cursors, indexes, postings, queries, runs, scripts, sets, stored, stored_segments, tables, trees, weights
 
 GENERATORS = {
     "runs of Booleans": tables.runs_of_booleans,
@@ -29,6 +29,9 @@ GENERATORS = {
     "runs": runs.by_chance,
     "indexes": indexes.by_chance,
     "stored rows": stored.by_chance,
+    "turned bits": stored_segments.turned_bits,
+    "cut segments": stored_segments.cuts,
+    "stored segments": stored_segments.by_chance,
     "scripts": scripts.by_chance,
 }
 
@@ -56,7 +59,7 @@ TABLES = {
         ("small phrases", [*((slop, (0, 1)) for slop in (0, 1, 2, 7)), (1, (2, 0, 3))]),
         ("blocks of small lists", list(itertools.product((1, 2, 3, 128), postings.SMALL_LISTS))),
     ],
-    "cases_store": [],
+    "cases_store": [("turned bits", range(stored_segments.PARTS_OF_BITS)), ("cut segments", (0,))],
     "cases_scripts": [],
 }
 
@@ -66,6 +69,6 @@ BY_CHANCE = {
     "cases_queries": ["queries"],
     "cases_cursors": ["cursors", "windows", "cursors", "cursors", "sets"],
     "cases_postings": ["postings", "runs", "indexes"],
-    "cases_store": ["stored rows"],
+    "cases_store": ["stored rows", "stored segments"],
     "cases_scripts": ["scripts"],
 }

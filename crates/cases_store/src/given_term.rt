@@ -1,6 +1,6 @@
 //! A term that is given by hand, and terms that are read of bytes.
 
-use crate::spelled::{bytes_of, write_bytes};
+use crate::spelled::{bytes_of, read_text, write_bytes};
 use cases::{Asker, Fault, Memory, behind, end_refusals, number, word};
 use qm_schema::{Field, QueryError, Term};
 use qm_store::{push_term, read_term};
@@ -18,10 +18,7 @@ impl GivenTerm {
         let Some(field) = number(words, 1) else {
             return Err(Fault::NotUnderstood);
         };
-        let text = match word(words, 2) {
-            "-" => "",
-            text => text,
-        };
+        let text = read_text(word(words, 2));
         let term = Term::from_field_text(alloc, Field::from_field_id(field), text)?;
         Ok(GivenTerm { term })
     }

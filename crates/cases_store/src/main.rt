@@ -1,10 +1,19 @@
-//! Plays cases of rows as bytes: reads them from standard input, and writes which rows are wrong.
+//! Plays cases of rows and of segments as bytes: reads them from standard input, and writes which rows are wrong.
 #![tactic(auto)]
 
+mod asked_segment;
+mod error_texts;
 mod given_row;
+mod given_rows;
+mod given_segment;
 mod given_term;
+mod heard_pieces;
+mod kept;
 mod player;
+mod sink;
 mod spelled;
+mod written_file;
+mod written_segment;
 
 use crate::player::Store;
 use cases::{Report, play_cases};
@@ -14,7 +23,12 @@ use std::process::ExitCode;
 fn main(rt: HostRuntime) -> io::Result<ExitCode> {
     let text = io::read_to_string(rt.alloc(), rt.reader())?;
     let mut report = Report::new(rt.alloc())?;
-    let status = match play_cases(rt.alloc(), &mut Store, text.as_str(), &mut report) {
+    let status = match play_cases(
+        rt.alloc(),
+        &mut Store { rt: &rt },
+        text.as_str(),
+        &mut report,
+    ) {
         Ok(()) => u8::from(!report.is_right()),
         Err(_) => 2,
     };

@@ -1,6 +1,9 @@
 //! Which blocks there are.
 
+use crate::error_texts::ErrorTexts;
 use crate::given_row::GivenRow;
+use crate::given_rows::GivenRows;
+use crate::given_segment::GivenSegment;
 use crate::given_term::{GivenBytes, GivenTerm};
 use crate::spelled::{keeps_positions, read_bytes, write_read};
 use cases::{Asker, Block, Fault, Memory, Player, Report, end_refusals, play_asked, word};
@@ -8,11 +11,14 @@ use qm_schema::{Field, Term};
 use qm_store::read_row;
 use std::alloc::Global;
 
-/// Plays blocks of rows, of terms and of bytes.
+/// Plays blocks of rows, of terms, of segments and of bytes.
 #[derive(Drop)]
-pub struct Store;
+pub struct Store<'r> {
+    /// where files can be made
+    pub rt: &'r HostRuntime,
+}
 
-impl Player for Store {
+impl<'r> Player for Store<'r> {
     fn play(&mut self, alloc: Global, block: Block<'_>, report: &mut Report) -> Result<(), Fault> {
         match word(block.words, 0) {
             "row" => {
@@ -31,6 +37,15 @@ impl Player for Store {
                 let mut bytes = GivenBytes::make(alloc, block.words)?;
                 play_asked(alloc, &mut bytes, block.rows, report)
             }
+            "stored" | "filed" => {
+                let mut segment = GivenSegment::make(alloc, self.rt, block.words)?;
+                play_asked(alloc, &mut segment, block.rows, report)
+            }
+            "written" => {
+                let mut rows = GivenRows::make(alloc, block.words)?;
+                play_asked(alloc, &mut rows, block.rows, report)
+            }
+            "errors" => play_asked(alloc, &mut ErrorTexts, block.rows, report),
             _ => Err(Fault::NotUnderstood),
         }
     }

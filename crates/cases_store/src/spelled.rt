@@ -14,6 +14,11 @@ pub fn keeps_positions(kept: &str) -> Result<bool, Fault> {
     }
 }
 
+/// The text of a word, and none for `-`.
+pub fn read_text(spelled: &str) -> &str {
+    if spelled == "-" { "" } else { spelled }
+}
+
 /// The numbers that a word spells, with `,` between two, and none for `-`.
 pub fn read_numbers(alloc: Global, spelled: &str) -> Result<Vec<u32>, Fault> {
     let mut parts = Vec::new(alloc);
@@ -56,7 +61,7 @@ pub fn write_bytes(bytes: &[u8], text: &mut String) -> Result<(), AllocError> {
     Ok(())
 }
 
-/// Writes what was read: the documents, the frequencies and the positions of a row, or `none`.
+/// Writes what was read: a row, or `none`.
 pub fn write_read(
     read: Result<Option<TermRow>, AllocError>,
     text: &mut String,
@@ -64,14 +69,17 @@ pub fn write_read(
     match read {
         Err(_) => Err(Fault::Refused(QueryError::Memory)),
         Ok(None) => Ok(text.push_str("none")?),
-        Ok(Some(row)) => {
-            write_numbers(&row.documents, text)?;
-            text.push(' ')?;
-            write_numbers(&row.frequencies, text)?;
-            text.push(' ')?;
-            Ok(write_numbers(&row.positions, text)?)
-        }
+        Ok(Some(row)) => write_row(&row, text),
     }
+}
+
+/// Writes the documents, the frequencies and the positions of a row.
+pub fn write_row(row: &TermRow, text: &mut String) -> Result<(), Fault> {
+    write_numbers(&row.documents, text)?;
+    text.push(' ')?;
+    write_numbers(&row.frequencies, text)?;
+    text.push(' ')?;
+    Ok(write_numbers(&row.positions, text)?)
 }
 
 fn write_numbers(numbers: &[u32], text: &mut String) -> Result<(), AllocError> {

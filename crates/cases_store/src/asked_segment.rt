@@ -1,0 +1,103 @@
+//! What is asked of a stored segment.
+
+use crate::spelled::{read_text, write_row};
+use cases::{Fault, Memory, end_refusals, number, word};
+use qm_schema::{Field, QueryError, Schema, Term};
+use qm_store::{Pieces, StoreError, StoredSegment};
+use std::alloc::Global;
+
+/// With what a segment is opened, and which requests for memory are refused in the call that is made.
+#[derive(Clone, Copy)]
+pub struct Call<'a> {
+    pub key: u64,
+    pub schema: &'a Schema,
+    pub memory: Memory,
+}
+
+/// Answers `open`, how many documents a segment has, and `row FIELD TEXT`, the row of a term, without positions, or with
+/// them where `placed` stands behind it.
+pub fn ask<P: Pieces + Drop>(
+    alloc: Global,
+    source: P,
+    call: &Call<'_>,
+    words: &[&str],
+    text: &mut String,
+) -> Result<(), Fault> {
+    match word(words, 0) {
+        "open" => ask_open(alloc, source, call, text),
+        "row" => {
+            let asked = Asked::read(alloc, words)?;
+            match StoredSegment::open(alloc, source, call.schema, call.key) {
+                Ok(segment) => ask_row(alloc, &segment, &asked, call.memory, text),
+                Err(error) => write_error(error, text),
+            }
+        }
+        _ => Err(Fault::NotUnderstood),
+    }
+}
+
+fn ask_open<P: Pieces + Drop>(
+    alloc: Global,
+    source: P,
+    call: &Call<'_>,
+    text: &mut String,
+) -> Result<(), Fault> {
+    call.memory.begin(alloc);
+    let opened = StoredSegment::open(alloc, source, call.schema, call.key);
+    end_refusals(alloc);
+    match opened {
+        Ok(segment) => Ok(write!(text, "{} documents", segment.max_doc())?),
+        Err(error) => write_error(error, text),
+    }
+}
+
+/// Which row is asked for.
+#[derive(Drop)]
+pub struct Asked {
+    term: Term,
+    with_positions: bool,
+}
+
+impl Asked {
+    /// That of the words `row FIELD TEXT`, or `row FIELD TEXT placed`.
+    pub fn read(alloc: Global, words: &[&str]) -> Result<Asked, Fault> {
+        let Some(field) = number(words, 1) else {
+            return Err(Fault::NotUnderstood);
+        };
+        let field = Field::from_field_id(field);
+        Ok(Asked {
+            term: Term::from_field_text(alloc, field, read_text(word(words, 2)))?,
+            with_positions: word(words, 3) == "placed",
+        })
+    }
+}
+
+/// Answers the row of a term.
+pub fn ask_row<P: Pieces + Drop>(
+    alloc: Global,
+    segment: &StoredSegment<P>,
+    asked: &Asked,
+    memory: Memory,
+    text: &mut String,
+) -> Result<(), Fault> {
+    memory.begin(alloc);
+    let found = segment.row(alloc, &asked.term, asked.with_positions);
+    end_refusals(alloc);
+    match found {
+        Ok(Some(row)) => write_row(&row, text),
+        Ok(None) => Ok(text.push_str("none")?),
+        Err(error) => write_error(error, text),
+    }
+}
+
+/// Writes why a stored segment can't be read or written.
+pub fn write_error(error: StoreError, text: &mut String) -> Result<(), Fault> {
+    let spelled = match error {
+        StoreError::Memory => return Err(Fault::Refused(QueryError::Memory)),
+        StoreError::Failed => "failed",
+        StoreError::NotSegment => "not a segment",
+        StoreError::OtherVersion => "another version",
+        StoreError::Damaged => "damaged",
+    };
+    Ok(text.push_str(spelled)?)
+}

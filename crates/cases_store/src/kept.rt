@@ -1,0 +1,71 @@
+//! What the fields of a case keep.
+
+ghost use Rattle.std.specs.Prelude.{◌≤◌, length};
+
+use cases::Fault;
+use qm_schema::{IndexRecordOption, Schema, SchemaBuilder};
+use std::alloc::Global;
+
+const MOST_FIELDS: u32 = 1000;
+
+/// The schema of fields that a word tells of, with `,` between two: of each what its postings keep (`none` where it has
+/// none), with `+lengths` behind it where it keeps lengths. `-` are no fields.
+pub fn read_schema(alloc: Global, spelled: &str) -> Result<Schema, Fault> {
+    let mut maker = SchemaMaker::new(alloc);
+    // fields are added as long as there are parts
+    if spelled != "-" {
+        for part in spelled.split(',') {
+            maker.add(alloc, part)?;
+        }
+    }
+    Ok(maker.builder.build())
+}
+
+/// Makes a schema, field by field.
+#[derive(Drop)]
+struct SchemaMaker {
+    builder: SchemaBuilder,
+    count: u32,
+    ghost counted: { length builder ≤ count },
+}
+
+impl SchemaMaker {
+    fn new(alloc: Global) -> SchemaMaker {
+        SchemaMaker {
+            builder: Schema::builder(alloc),
+            count: 0,
+        }
+    }
+
+    // Adds a field, which is named by its number.
+    fn add(&mut self, alloc: Global, spelled: &str) -> Result<(), Fault> {
+        let (kept, has_lengths) = match spelled.strip_suffix("+lengths") {
+            Some(kept) => (kept, true),
+            None => (spelled, false),
+        };
+        let kept = read_kept(kept)?;
+        let name = format!(in alloc; "{}", self.count)?;
+        if self.count >= MOST_FIELDS {
+            return Err(Fault::NotAllowed);
+        }
+        let added = self
+            .builder
+            .add_text_field(name.as_str(), kept, has_lengths);
+        self.count += 1;
+        match added {
+            Ok(_) => Ok(()),
+            Err(error) => Err(Fault::Refused(error)),
+        }
+    }
+}
+
+// What a field's postings keep; none where it has none.
+fn read_kept(word: &str) -> Result<Option<IndexRecordOption>, Fault> {
+    match word {
+        "none" => Ok(None),
+        "basic" => Ok(Some(IndexRecordOption::Basic)),
+        "freqs" => Ok(Some(IndexRecordOption::WithFreqs)),
+        "positions" => Ok(Some(IndexRecordOption::WithFreqsAndPositions)),
+        _ => Err(Fault::NotUnderstood),
+    }
+}
