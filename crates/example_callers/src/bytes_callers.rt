@@ -30,7 +30,7 @@ pub fn row_through_bytes(
 }
 
 // Whether a field keeps the positions of its terms.
-fn keeps_positions(schema: &Schema, field: Field) -> bool
+pub(crate) fn keeps_positions(schema: &Schema, field: Field) -> bool
     ensures { result ≡ keeps_positions schema.now field }
 {
     match schema.get_field_entry(field) {
