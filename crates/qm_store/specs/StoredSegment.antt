@@ -1,7 +1,8 @@
 -- What some bytes are as a stored segment, and what they say of a term.
-use Rattle.std.specs.Prelude.{ℕ, Bool, if◌then◌else◌, List, ◌++◌, Option, None, Some, Result, Ok, Err, length, map, ok_or, option_and_then, option_map}
-use Rattle.qm_postings.specs.Reading.{Reader}
-use Rattle.qm_postings.specs.Rows.{Row, columns_of}
+use Rattle.std.specs.Prelude.{ℕ, Bool, if◌then◌else◌, List, ◌++◌, Option, None, Some, Result, Ok, Err, length, map, ok_or, option_and_then, option_map, ◌≡◌, [], ◌∷◌, IfSome, option_to_list}
+use Rattle.qm_postings.specs.Reading.{Reader, reader_of_rows}
+use Rattle.qm_postings.specs.Rows.{MakeSegment, Row, columns_of}
+use Rattle.qm_postings.specs.Segment.{keeps_positions}
 use Rattle.qm_schema.specs.Schema.{FieldFacts}
 use Rattle.qm_schema.specs.Term.{TermKey}
 use Rattle.qm_store.specs.Columns.{columns_at}
@@ -14,7 +15,7 @@ use Rattle.qm_store.specs.Stored.{stored_blocks}
 use Rattle.qm_store.specs.declared.ending.Ending.{Ending}
 use Rattle.qm_store.specs.declared.piece.Piece.{Piece}
 use Rattle.qm_store.specs.declared.store_error.StoreError.{StoreError}
-use Rattle.qm_store.specs.declared.store_error.StoreError.TheVariants.{Damaged}
+use Rattle.qm_store.specs.declared.store_error.StoreError.TheVariants.{Damaged, Failed, Memory, NotSegment, OtherVersion}
 use Rattle.qm_store.specs.declared.stored_segment.StoredSegment.{StoredSegment}
 
 -- ---- what is known of a stored segment once it is open
@@ -88,6 +89,32 @@ looked_up_in key file placed term (Some p) = option_and_then (row_by key file pl
 -- or that it has none.
 abbrev pub looked_up : ℕ → List ℕ → Bool → TermKey → List Block → Option (Option Row)
 looked_up key file placed term blocks = looked_up_in key file placed term (option_map (λ b. b.piece) (block_for term blocks))
+
+-- ---- several terms
+
+-- the rows of some terms, one behind the other, of those that have one
+abbrev pub rows_of : ℕ → List ℕ → List FieldFacts → List Block → List TermKey → Option (List Row)
+rows_of key file schema blocks [] = Some []
+rows_of key file schema blocks (t ∷ ts) =
+    option_and_then (λ row. option_map (λ rows. option_to_list row ++ rows) (rows_of key file schema blocks ts))
+    (looked_up key file (keeps_positions schema t.field) t blocks)
+
+-- rows that make no segment of a schema beside what is known of it
+abbrev pub MakeNone : List FieldFacts → Opened → List Row → Type 0
+MakeNone schema o rows = ¬ MakeSegment schema o.block_len o.documents o.columns rows
+
+-- an error tells that there are no rows, or none that make a segment, or memory ran out
+abbrev pub TellsOfRows : List FieldFacts → Opened → StoreError → Option (List Row) → Type 0
+TellsOfRows schema o Memory found = Unit {0}
+TellsOfRows schema o Damaged found = IfSome found (MakeNone schema o)
+TellsOfRows schema o Failed found = ⊥
+TellsOfRows schema o NotSegment found = ⊥
+TellsOfRows schema o OtherVersion found = ⊥
+
+-- What was returned is the reader of the rows that were found, and damaged where these make no segment, unless memory ran out.
+abbrev pub GivesReader : List FieldFacts → Opened → Result Reader StoreError → Option (List Row) → Type 0
+GivesReader schema o (Ok it) found = option_map (λ rows. reader_of_rows schema o.block_len rows o.columns o.documents) found ≡ Some it
+GivesReader schema o (Err e) found = TellsOfRows schema o e found
 
 -- ---- a file
 
