@@ -3,12 +3,18 @@ use Rattle.std.proofs.Common.{◌≡◌, ℕ, ◌+◌, ◌-◌, ◌<◌, ◌≤�
 use Rattle.std.proofs.lemmas.Bool.{cases_Bool, cases_lt}
 use Rattle.std.proofs.lemmas.List.{append-nil, get_or_append_left, get_or_at, length-append, length_push}
 use Rattle.qm_docset.specs.Members.{members_between}
-use Rattle.qm_docset.proofs.MembersLemmas.{length-members_between, members_between-split}
+use Rattle.qm_docset.proofs.MembersLemmas.{length-members_between, members_between-none, members_between-split}
 use Rattle.qm_merge.proofs.DeletedOfBoth.{members-more}
 
 -- how many numbers below one pass
 abbrev pub rank : (ℕ → Bool) → ℕ → ℕ
 rank has d = length (members_between has 0 d)
+
+pub rank-start : (has : ℕ → Bool) → rank has 0 ≡ 0
+rank-start has = ap length (members_between-none has 0 0 (λ x above below. absurd (omega arith)))
+
+pub rank-within : (has : ℕ → Bool) (d : ℕ) → rank has d ≤ d
+rank-within has d = omega (arith, length-members_between has 0 d)
 
 pub rank-rises : (has : ℕ → Bool) (d e : ℕ) → d ≤ e → rank has d ≤ rank has e
 rank-rises has d e le =

@@ -6,4 +6,5 @@ pub mod DeletedOfBoth
 pub mod AlivePlaces
 pub mod RowsLeft
 pub mod SegmentLeft
-pub mod JoiningSteps
+pub mod JoinedRest
+pub mod LeftSteps

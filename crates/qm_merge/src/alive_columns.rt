@@ -3,6 +3,7 @@
 ghost use Rattle.std.specs.Prelude.{◌≡◌, ◌≤◌, IfOk, IsOkUnless, length, map};
 ghost use Rattle.qm_merge.specs.AliveRows.{alive_columns, ids_left, new_numbers};
 
+use crate::new_numbers::number_of;
 use qm_docset::DocId;
 use qm_postings::SegmentReader;
 use qm_schema::{Field, QueryError};
@@ -40,7 +41,7 @@ fn alive_column(
     let mut column = Vec::new(alloc);
     // those before it are there
     for doc in 0..ids.len() {
-        if numbers[doc].is_some() {
+        if number_of(numbers, doc).is_some() {
             column.push(ids[doc])?;
         }
     }

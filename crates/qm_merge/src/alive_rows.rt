@@ -6,6 +6,7 @@ ghost use Rattle.qm_postings.specs.Reading.{IsOfRows};
 ghost use Rattle.qm_postings.specs.Rows.{ArePlaces};
 ghost use Rattle.qm_merge.specs.AliveRows.{row_left, row_with_left, rows_left};
 
+use crate::new_numbers::number_of;
 use qm_docset::DocId;
 use qm_postings::{SegmentReader, TermRow, TermRowRef};
 use qm_schema::QueryError;
@@ -71,7 +72,7 @@ fn push_postings(
 {
     // those before it are there
     for place in 0..row.documents().len() {
-        if let Some(number) = numbers[row.documents()[place] as usize] {
+        if let Some(number) = number_of(numbers, row.documents()[place] as usize) {
             left.documents.push(number)?;
             left.frequencies.push(row.frequency(place))?;
         }
@@ -95,7 +96,7 @@ fn push_positions(
     // those of the postings before it are there
     for place in 0..row.documents().len() {
         let end = start + row.frequency(place) as usize;
-        if numbers[row.documents()[place] as usize].is_some() {
+        if number_of(numbers, row.documents()[place] as usize).is_some() {
             positions.extend_from_slice(&row.positions()[start..end])?;
         }
         start = end;

@@ -23,12 +23,13 @@ pub(crate) fn joined_rows(
     ensures whole { OnOk result (IsOfRows first.now × IsOfRows second.now) }
     ensures refused { IsOkUnless result QueryError.Memory }
 {
+    let (first_rows, second_rows) = (first.row_count(), second.row_count());
     let count = first.max_doc();
     let mut rows = Vec::new(alloc);
     let mut left = 0;
     let mut right = 0;
     // what is there and what the rows that are left of both make is all
-    while left < first.row_count() && right < second.row_count() {
+    while left < first_rows && right < second_rows {
         let one = first.row(left);
         let other = second.row(right);
         match one.term().cmp(other.term()) {

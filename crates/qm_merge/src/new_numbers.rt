@@ -1,7 +1,7 @@
 //! New numbers of the documents that were not deleted.
 
-ghost use Rattle.std.specs.Prelude.{◌≡◌, IfOk, IsOkUnless};
-ghost use Rattle.qm_merge.specs.AliveRows.{new_numbers};
+ghost use Rattle.std.specs.Prelude.{◌≡◌, ◌<◌, IfOk, IsOkUnless, length};
+ghost use Rattle.qm_merge.specs.AliveRows.{new_numbers, number_in};
 
 use crate::alive::is_alive;
 use qm_docset::DocId;
@@ -29,4 +29,12 @@ pub(crate) fn new_numbers(
         }
     }
     Ok(numbers)
+}
+
+// The new number of a document, by the table of all. Constant time.
+pub(crate) fn number_of(numbers: &[Option<DocId>], doc: usize) -> Option<DocId>
+    requires { doc < length numbers.now }
+    ensures { result ≡ number_in numbers.now doc }
+{
+    numbers[doc]
 }
