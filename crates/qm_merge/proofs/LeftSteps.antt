@@ -3,9 +3,11 @@ use Rattle.std.proofs.Common.{◌≡◌, Bool, true, false, ℕ, ◌+◌, ◌<�
 use Rattle.std.specs.Option.{option_to_list}
 use Rattle.std.specs.List.{range_with_len}
 use Rattle.std.specs.Prelude.{filter, slice_index}
-use Rattle.std.proofs.lemmas.List.{append-nil, drop_more, map-id, map_push}
+use Rattle.std.proofs.lemmas.List.{append-nil, drop_more, map-id, map_more, map_push}
+use Rattle.std.proofs.lemmas.List.Elements.{filter-append}
 use Rattle.std.proofs.lemmas.List.FromFn.{filter_of_map_range_with_len_more}
-use Rattle.qm_merge.specs.AliveRows.{documents_left, frequencies_left, number_in}
+use Rattle.qm_postings.specs.Rows.{Row, no_row}
+use Rattle.qm_merge.specs.AliveRows.{documents_left, frequencies_left, number_in, row_left, rows_left}
 
 module _ (numbers : List (Option ℕ)) (ds fs : List ℕ) (place : ℕ) (done all : List ℕ) where
   -- a document that has a number
@@ -69,3 +71,27 @@ module _ (numbers : List (Option ℕ)) (ids : List ℕ) (doc : ℕ) (done : List
   id-none has_none =
       so_far ∙ sym (ap (map (slice_index ids)) (numbers-more has_number doc
       ∙ ap (λ b. filter has_number (range_with_len 0 doc) ++ cond b (doc ∷ []) []) has_none ∙ append-nil (filter has_number (range_with_len 0 doc))))
+
+-- ---- the rows that are left
+
+module _ (numbers : List (Option ℕ)) (rows : List Row) (place : ℕ) (done : List Row) (r z : Row)
+    (within : place < length rows) (own : r ≡ get_or rows place no_row) (left : z ≡ row_left numbers r)
+    (so_far : done ≡ rows_left numbers (take place rows)) where
+  abbrev has_posting : Row → Bool
+  has_posting u = nat_lt 0 (length u.documents)
+
+  next-row : rows_left numbers (take (place + 1) rows) ≡ rows_left numbers (take place rows) ++ filter (λ u. nat_lt 0 (length u.documents)) (z ∷ [])
+  next-row =
+      ap (filter has_posting) (map_more (row_left numbers) rows place no_row within)
+      ∙ filter-append has_posting (map (row_left numbers) (take place rows)) (row_left numbers (get_or rows place no_row) ∷ [])
+      ∙ ap (λ u. rows_left numbers (take place rows) ++ filter has_posting (u ∷ [])) (sym (left ∙ ap (row_left numbers) own))
+
+  pub row-more : nat_lt 0 (length z.documents) ≡ true → done ++ z ∷ [] ≡ rows_left numbers (take (place + 1) rows)
+  row-more some =
+      ap (λ l. l ++ z ∷ []) so_far
+      ∙ sym (next-row ∙ ap (λ b. rows_left numbers (take place rows) ++ cond b (z ∷ []) []) some)
+
+  pub row-none : nat_lt 0 (length z.documents) ≡ false → done ≡ rows_left numbers (take (place + 1) rows)
+  row-none none =
+      so_far ∙ sym (next-row ∙ ap (λ b. rows_left numbers (take place rows) ++ cond b (z ∷ []) []) none
+      ∙ append-nil (rows_left numbers (take place rows)))

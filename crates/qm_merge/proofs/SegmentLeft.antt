@@ -1,10 +1,11 @@
 -- The rows and the columns of the documents that were not deleted make the segment of these.
 use Rattle.std.proofs.Common.{◌≡◌, ℕ, ◌+◌, ◌-◌, ◌<◌, ◌≤◌, Bool, true, false, cond, List, [], ◌∷◌, ◌++◌, length, get_or, map, Option, None, Some, is_some, refl, ap, subst, sym, ◌∙◌, arith, inl, inr}
 use Rattle.std.specs.List.{range_with_len}
+use Rattle.std.specs.Prelude.{All, filter, slice_index}
 use Rattle.std.proofs.lemmas.Bool.{cases_Bool, cases_lt}
 use Rattle.std.proofs.lemmas.List.{get_or-map, get_or_past, length-map}
 use Rattle.std.proofs.lemmas.List.FromFn.{fill_by_all, get_or-map-range_with_len, length-map-range_with_len}
-use Rattle.qm_docset.specs.ListFacts.{map-map}
+use Rattle.qm_docset.specs.ListFacts.{filter-range_same, map-map, map-same}
 use Rattle.qm_docset.specs.Members.{members_between}
 use Rattle.qm_docset.proofs.MembersLemmas.{length-members_between}
 use Rattle.qm_schema.specs.Term.{TermKey}
@@ -12,12 +13,12 @@ use Rattle.qm_postings.specs.Kept.{AreColumns, document_from}
 use Rattle.qm_postings.specs.Reading.{IsOfRows, Reader}
 use Rattle.qm_postings.specs.Rows.{MakeSegment, all_posted, column_of, columns_of, segment_of_rows}
 use Rattle.qm_postings.specs.Segment.{Document, Segment, alive_documents, is_alive, keeps_lengths, length_id, no_document}
-use Rattle.qm_merge.specs.AliveRows.{alive_column, alive_columns, new_number, new_numbers, number_in, rows_left}
+use Rattle.qm_merge.specs.AliveRows.{alive_column, alive_columns, ids_left, new_number, new_numbers, number_in, rows_left}
 use Rattle.qm_merge.specs.Merging.{alive_only}
 use Rattle.qm_merge.proofs.AlivePlaces.{StandsAt, rank, rank-next, rank-rises, stands-at}
 use Rattle.qm_merge.proofs.FoundInRows.{same-document}
 use Rattle.qm_merge.proofs.RowsLeft.{AreLeft, AreNumbers, rows-are_left}
-use Rattle.qm_merge.proofs.SegmentOfBoth.{length-kept, made-document}
+use Rattle.qm_merge.proofs.SegmentOfBoth.{length-column_of, length-kept, made-document}
 
 -- ---- the table of new numbers
 
@@ -107,6 +108,47 @@ module _ (s : Segment) where
       map-map (λ c. get_or c e 0) (alive_column s) (range_with_len 0 (length s.schema))
       ∙ (λ i. map (λ field. id-of_alive e field below i) (range_with_len 0 (length s.schema)))
       ∙ sym (map-map (λ c. get_or c (alive-at e) 0) (column_of s) (range_with_len 0 (length s.schema)))
+
+-- ---- columns by the table
+
+module _ (s : Segment) where
+  pub column-fits : (field : ℕ) → length (column_of s field) ≤ length (new_numbers s)
+  column-fits field =
+      let long = length-map-range_with_len (new_number s) 0 (length s.documents) in
+      elim (cases_Bool (keeps_lengths s.schema field)) [
+        | inl keeps ↦ omega (arith, long, length-column_of s field ∙ ap (λ b. cond b (length s.documents) 0) keeps)
+        | inr none ↦ omega (arith, long, length-column_of s field ∙ ap (λ b. cond b (length s.documents) 0) none)
+      ]
+
+  some-number : (d : ℕ) → d < length s.documents → is_some (number_in (new_numbers s) d) ≡ is_alive s d
+  some-number d below = ap is_some (number-here s d below) ∙ either (is_alive s d)
+    where
+      either : (b : Bool) → is_some (cond b (Some (rank (is_alive s) d)) None) ≡ b
+      either true = refl
+      either false = refl
+
+  numbered-alive : filter (λ d. is_some (number_in (new_numbers s) d)) (range_with_len 0 (length s.documents)) ≡ alive_documents s
+  unfolding members_between
+  numbered-alive =
+      let all : length s.documents ≡ length s.documents - 0 = omega arith in
+      filter-range_same (λ d. is_some (number_in (new_numbers s) d)) (is_alive s) 0 (length s.documents) (λ d above below. some-number d (omega (arith, below)))
+      ∙ ap (λ m. filter (is_alive s) (range_with_len 0 m)) all
+
+  alive-below : All (λ d. d < length s.documents) (alive_documents s)
+  alive-below = λ e default below. (stands-at (is_alive s) (length s.documents) e default below).below
+
+  pub ids-left : (field : ℕ) → ids_left (new_numbers s) (column_of s field) ≡ alive_column s field
+  ids-left field = go (keeps_lengths s.schema field)
+    where
+      go : (b : Bool) → ids_left (new_numbers s) (cond b (map (length_id s field) (range_with_len 0 (length s.documents))) [])
+          ≡ cond b (map (length_id s field) (alive_documents s)) []
+      go true =
+          ap (λ m. map (slice_index (map (length_id s field) (range_with_len 0 (length s.documents))))
+          (filter (λ d. is_some (number_in (new_numbers s) d)) (range_with_len 0 m))) (length-map-range_with_len (length_id s field) 0 (length s.documents))
+          ∙ ap (map (slice_index (map (length_id s field) (range_with_len 0 (length s.documents))))) numbered-alive
+          ∙ map-same (λ d. d < length s.documents) (slice_index (map (length_id s field) (range_with_len 0 (length s.documents)))) (length_id s field)
+          (alive_documents s) alive-below (λ d below. get_or-map-range_with_len (length_id s field) 0 (length s.documents) d d 0 below (omega arith))
+      go false = refl
 
 -- ---- the segment
 

@@ -1,6 +1,6 @@
 //! The rows of a segment without its deleted documents.
 
-ghost use Rattle.std.specs.Prelude.{◌≡◌, ◌≢◌, ◌++◌, ◌<◌, ◌≤◌, [], All, IfOk, IsOkUnless, OnOk, length};
+ghost use Rattle.std.specs.Prelude.{◌≡◌, ◌≢◌, ◌++◌, ◌<◌, ◌≤◌, [], All, IfOk, IsOkUnless, OnOk, length, nat_lt};
 ghost use Rattle.qm_postings.specs.LentRow.{lent_row};
 ghost use Rattle.qm_postings.specs.Reading.{IsOfRows};
 ghost use Rattle.qm_postings.specs.Rows.{ArePlaces};
@@ -27,11 +27,17 @@ pub(crate) fn alive_rows(
     // those before it are there, as far as they have a posting left
     for place in 0..segment.row_count() {
         let row = alive_row(alloc, &segment.row(place), numbers)?;
-        if !row.documents.is_empty() {
+        if has_posting(&row) {
             rows.push(row)?;
         }
     }
     Ok(rows)
+}
+
+fn has_posting(row: &TermRow) -> bool
+    ensures { result ≡ nat_lt 0 (length row.now.documents) }
+{
+    !row.documents.is_empty()
 }
 
 // The postings of a row whose documents have a new number.
@@ -50,12 +56,9 @@ fn alive_row(
         term: row.term().clone(alloc)?,
         documents: Vec::new(alloc),
         frequencies: Vec::new(alloc),
-        positions: Vec::new(alloc),
+        positions: alive_positions(alloc, row, numbers)?,
     };
     push_postings(&mut left, row, numbers)?;
-    if !row.positions().is_empty() {
-        push_positions(&mut left.positions, row, numbers)?;
-    }
     Ok(left)
 }
 
@@ -80,7 +83,26 @@ fn push_postings(
     Ok(())
 }
 
-// Adds their positions.
+// The positions of these postings; none where the row has none.
+fn alive_positions(
+    alloc: Global,
+    row: &TermRowRef<'_>,
+    numbers: &[Option<DocId>],
+) -> Result<Vec<u32>, QueryError>
+    requires within { All (λ d. d < length numbers.now) (lent_row row.now).documents }
+    requires paired { length (lent_row row.now).frequencies ≡ length (lent_row row.now).documents }
+    requires places { (lent_row row.now).positions ≢ [] → ArePlaces (lent_row row.now).frequencies (lent_row row.now).positions }
+    ensures positions { IfOk result (λ it. it.items ≡ (row_left numbers.now (lent_row row.now)).positions) }
+    ensures refused { IsOkUnless result QueryError.Memory }
+{
+    let mut positions = Vec::new(alloc);
+    if !row.positions().is_empty() {
+        push_positions(&mut positions, row, numbers)?;
+    }
+    Ok(positions)
+}
+
+// Adds the positions of these postings.
 fn push_positions(
     positions: &mut Vec<u32>,
     row: &TermRowRef<'_>,

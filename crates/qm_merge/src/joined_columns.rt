@@ -2,6 +2,7 @@
 
 ghost use Rattle.std.specs.Prelude.{◌≡◌, IfOk, IsOkUnless, map};
 ghost use Rattle.qm_merge.specs.JoinedRows.{columns_of_both};
+ghost use Rattle.qm_merge.specs.Merging.{AreAlike};
 
 use qm_postings::SegmentReader;
 use qm_schema::{Field, QueryError};
@@ -13,6 +14,7 @@ pub(crate) fn joined_columns(
     first: &SegmentReader,
     second: &SegmentReader,
 ) -> Result<Vec<Vec<u8>>, QueryError>
+    requires alike { AreAlike first.now.segment second.now.segment }
     ensures columns { IfOk result (λ it. map (λ c. c.items) it.items ≡ columns_of_both first.now.segment second.now.segment) }
     ensures refused { IsOkUnless result QueryError.Memory }
 {
