@@ -1,5 +1,5 @@
 -- What is deleted in two segments, and in the segment of both.
-use Rattle.std.proofs.Common.{◌≡◌, ◌==◌, ◌||◌, ℕ, ◌+◌, ◌-◌, ◌<◌, ◌≤◌, Bool, true, false, not, List, [], ◌∷◌, ◌++◌, cond, length, map, nat_lt, refl, ap, sym, ◌∙◌, arith, inl, inr}
+use Rattle.std.proofs.Common.{◌≡◌, ◌==◌, ◌||◌, ℕ, ◌+◌, ◌-◌, ◌<◌, ◌≤◌, Bool, true, false, [], ◌∷◌, ◌++◌, cond, length, map, nat_lt, refl, ap, sym, ◌∙◌, arith, inl, inr}
 use Rattle.std.specs.List.{list_any}
 use Rattle.std.proofs.lemmas.Bool.{cases_eq, eq-eqb, le-ltb, lt-ltb, ne_eqb}
 use Rattle.std.proofs.lemmas.List.{append-nil}
@@ -7,8 +7,8 @@ use Rattle.qm_docset.specs.ListFacts.{list_any-outside}
 use Rattle.qm_docset.specs.Members.{members_between}
 use Rattle.qm_docset.proofs.MembersLemmas.{members_between-first, members_between-none, members_between-same, members_between-shift, members_between-split}
 use Rattle.qm_postings.specs.Segment.{Segment, is_deleted, with_deleted, without}
-use Rattle.qm_postings.proofs.DeletedDocuments.{among_members, not-not}
-use Rattle.qm_merge.specs.Merging.{deleted_documents, joined, was_deleted}
+use Rattle.qm_postings.proofs.DeletedDocuments.{among_members}
+use Rattle.qm_merge.specs.Merging.{joined, was_deleted}
 
 -- ---- members one by one
 
@@ -33,10 +33,10 @@ deleted-of_both s t =
     let start : n + 0 ≡ n = omega arith in
     members_between-split (was_deleted s t) 0 n (n + m) (omega arith) (omega arith)
     ∙ (λ i. members_between-same (was_deleted s t) (is_deleted s) 0 n
-        (λ x above below. ap (λ b. cond b (is_deleted s x) (is_deleted t (x - n))) (lt-ltb x n below)) i
-        ++ (ap (λ k. members_between (was_deleted s t) k (n + m)) (sym start)
-        ∙ members_between-shift (was_deleted s t) n 0 m
-        ∙ ap (map (λ d. n + d)) (members_between-same (λ d. was_deleted s t (n + d)) (is_deleted t) 0 m (λ x above below. behind n x))) i)
+    (λ x above below. ap (λ b. cond b (is_deleted s x) (is_deleted t (x - n))) (lt-ltb x n below)) i
+    ++ (ap (λ k. members_between (was_deleted s t) k (n + m)) (sym start)
+    ∙ members_between-shift (was_deleted s t) n 0 m
+    ∙ ap (map (λ d. n + d)) (members_between-same (λ d. was_deleted s t (n + d)) (is_deleted t) 0 m (λ x above below. behind n x))) i)
   where
     behind : (n x : ℕ) → cond (nat_lt (n + x) n) (is_deleted s (n + x)) (is_deleted t (n + x - n)) ≡ is_deleted t x
     behind n x =
@@ -55,7 +55,7 @@ deleted-too has n d below passes =
     let too : ℕ → Bool = λ x. x == d || list_any (λ y. y == x) (members_between has 0 d) in
     members_between-split too 0 (d + 1) n (omega arith) (omega arith)
     ∙ (λ i. members_between-same too has 0 (d + 1) (λ x above under. own x under) i
-        ++ members_between-none too (d + 1) n (λ x above under. other x above) i)
+    ++ members_between-none too (d + 1) n (λ x above under. other x above) i)
     ∙ append-nil (members_between has 0 (d + 1))
   where
     own : (x : ℕ) → x < d + 1 → (x == d || list_any (λ y. y == x) (members_between has 0 d)) ≡ has x

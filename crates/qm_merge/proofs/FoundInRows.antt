@@ -1,5 +1,5 @@
 -- What rows say of a term in a document, and documents that say the same.
-use Rattle.std.proofs.Common.{◌≡◌, ◌==◌, ℕ, ◌+◌, ◌<◌, ◌≤◌, Bool, true, false, cond, List, [], ◌∷◌, ◌++◌, drop, take, length, get_or, map, Option, None, Some, refl, ap, sym, ◌∙◌, arith, inl, inr}
+use Rattle.std.proofs.Common.{◌≡◌, ◌==◌, ℕ, true, false, cond, List, [], ◌∷◌, drop, take, get_or, map, Option, None, Some, refl, ap, sym, ◌∙◌, inl, inr}
 use Rattle.std.specs.FinMap.{find, from_entries, get-from_entries, same_map}
 use Rattle.std.specs.Option.{option_or}
 use Rattle.std.specs.Ordering.{eq_by_cmp}
@@ -10,7 +10,7 @@ use Rattle.std.proofs.lemmas.List.Elements.{All-head, All-tail}
 use Rattle.qm_schema.specs.Term.{TermKey, term_cmp, term_cmp_antisymmetric, term_cmp_total}
 use Rattle.qm_postings.specs.Kept.{Posted, document_from, held, posted_together}
 use Rattle.qm_postings.specs.Rows.{Row, all_posted, posted}
-use Rattle.qm_postings.specs.Segment.{Document, Occurrences}
+use Rattle.qm_postings.specs.Segment.{Occurrences}
 use Rattle.qm_postings.proofs.FoundTerms.{found_in, found_in-both}
 
 -- what rows say of a term in document d

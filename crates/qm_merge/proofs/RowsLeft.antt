@@ -1,19 +1,17 @@
 -- Rows of which the postings are left that have a new number.
-use Rattle.std.proofs.Common.{◌≡◌, ◌==◌, ℕ, ◌+◌, ◌<◌, ◌≤◌, Bool, true, false, cond, List, [], ◌∷◌, ◌++◌, ◌⊎◌, drop, take, length, get_or, map, nat_lt, Option, Some, None, is_some, refl, ap, subst, sym, ◌∙◌, arith, inl, inr}
-use Rattle.std.specs.List.Sorted.{IsStrictlySortedBy}
+use Rattle.std.proofs.Common.{◌≡◌, ◌==◌, ℕ, ◌+◌, ◌<◌, ◌≤◌, Bool, true, false, cond, List, [], ◌∷◌, ◌++◌, ◌⊎◌, drop, take, length, Option, Some, None, is_some, refl, ap, subst, sym, ◌∙◌, arith, inl, inr}
 use Rattle.std.specs.Option.{option_or, option_to_list}
-use Rattle.std.specs.Prelude.{All, filter}
+use Rattle.std.specs.Prelude.{All}
 use Rattle.std.proofs.lemmas.Bool.{cases_Bool, cases_eq, cases_lt, eq-eqb, le-ltb, lt-ltb, ne_eqb}
-use Rattle.std.proofs.lemmas.List.{drop_at, length-take, nil_from_length, take_at}
+use Rattle.std.proofs.lemmas.List.{drop_at, nil_from_length, take_at}
 use Rattle.std.proofs.lemmas.List.Elements.{All-cons, All-head, All-nil, All-tail}
 use Rattle.qm_schema.specs.Schema.{FieldFacts}
-use Rattle.qm_schema.specs.Term.{TermKey, term_cmp}
-use Rattle.qm_postings.specs.Kept.{Posted, posted_together}
+use Rattle.qm_schema.specs.Term.{TermKey}
+use Rattle.qm_postings.specs.Kept.{posted_together}
 use Rattle.qm_postings.specs.Rows.{ArePlaces, IsRow, Row, posted}
 use Rattle.qm_postings.specs.Segment.{AscendFrom, keeps_positions}
 use Rattle.qm_postings.specs.StoredFacts.{drop-nil, take-nil}
 use Rattle.qm_postings.proofs.FoundTerms.{found_in}
-use Rattle.qm_postings.proofs.RowTerms.{terms_of_rows}
 use Rattle.qm_merge.specs.AliveRows.{documents_left, frequencies_left, number_in, positions_left, row_left, rows_left}
 use Rattle.qm_merge.proofs.AlivePlaces.{rank, rank-next, rank-rises}
 use Rattle.qm_merge.proofs.FoundInRows.{found-alike, found-past, found-row, found_among}

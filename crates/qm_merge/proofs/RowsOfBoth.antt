@@ -1,18 +1,18 @@
 -- A row of two of one term, and a row of documents that come behind others.
-use Rattle.std.proofs.Common.{◌≡◌, ◌==◌, ℕ, ◌+◌, ◌<◌, ◌≤◌, true, false, cond, List, [], ◌∷◌, ◌++◌, ◌⊎◌, drop, take, length, get_or, map, Option, None, refl, ap, subst, sym, ◌∙◌, arith, inl, inr}
+use Rattle.std.proofs.Common.{◌≡◌, ◌==◌, ℕ, ◌+◌, ◌<◌, ◌≤◌, List, [], ◌∷◌, ◌++◌, ◌⊎◌, drop, take, length, map, refl, ap, subst, sym, ◌∙◌, arith, inl, inr}
 use Rattle.std.specs.FinMap.{find}
 use Rattle.std.specs.Prelude.{All, filter}
 use Rattle.std.proofs.lemmas.Bool.{cases_Bool, cases_eq, eq-eqb, ne_eqb}
 use Rattle.std.proofs.lemmas.List.{length-append, length-map, length-take, map-append, take-append-le, drop-append-le}
 use Rattle.std.proofs.lemmas.List.Concat.{flat_map-cons}
 use Rattle.std.proofs.lemmas.List.Elements.{All-append, All-head, All-map, All-tail, All-weaker}
-use Rattle.qm_docset.specs.ListFacts.{filter-map, filter-none, filter-same, map-map}
+use Rattle.qm_docset.specs.ListFacts.{filter-map, filter-same, map-map}
 use Rattle.qm_schema.specs.Schema.{FieldFacts}
 use Rattle.qm_schema.specs.Term.{TermKey, term_cmp}
 use Rattle.qm_postings.specs.Kept.{Posted, held, posted_together}
 use Rattle.qm_postings.specs.Rows.{ArePlaces, IsRow, Row, all_posted, posted}
 use Rattle.qm_postings.specs.Segment.{AscendFrom, keeps_positions}
-use Rattle.qm_postings.specs.StoredFacts.{drop-nil, take-nil}
+use Rattle.qm_postings.specs.StoredFacts.{drop-nil}
 use Rattle.qm_postings.proofs.FoundTerms.{found_in}
 use Rattle.qm_merge.proofs.FoundInRows.{found_among}
 use Rattle.qm_merge.specs.JoinedRows.{row_behind, row_of_both}

@@ -1,5 +1,5 @@
 -- The rows and the columns of the documents that were not deleted make the segment of these.
-use Rattle.std.proofs.Common.{◌≡◌, ℕ, ◌+◌, ◌-◌, ◌<◌, ◌≤◌, Bool, true, false, cond, List, [], ◌∷◌, ◌++◌, length, get_or, map, Option, None, Some, is_some, refl, ap, subst, sym, ◌∙◌, arith, inl, inr}
+use Rattle.std.proofs.Common.{◌≡◌, ℕ, ◌+◌, ◌-◌, ◌<◌, ◌≤◌, Bool, true, false, cond, [], length, get_or, map, Option, None, Some, is_some, refl, ap, sym, ◌∙◌, arith, inl, inr}
 use Rattle.std.specs.List.{range_with_len}
 use Rattle.std.specs.Prelude.{All, filter, slice_index}
 use Rattle.std.proofs.lemmas.Bool.{cases_Bool, cases_lt}
@@ -8,7 +8,6 @@ use Rattle.std.proofs.lemmas.List.FromFn.{fill_by_all, get_or-map-range_with_len
 use Rattle.qm_docset.specs.ListFacts.{filter-range_same, map-map, map-same}
 use Rattle.qm_docset.specs.Members.{members_between}
 use Rattle.qm_docset.proofs.MembersLemmas.{length-members_between}
-use Rattle.qm_schema.specs.Term.{TermKey}
 use Rattle.qm_postings.specs.Kept.{AreColumns, document_from}
 use Rattle.qm_postings.specs.Reading.{IsOfRows, Reader}
 use Rattle.qm_postings.specs.Rows.{MakeSegment, all_posted, column_of, columns_of, segment_of_rows}

@@ -1,16 +1,15 @@
 -- The rows and the columns of two segments, joined, make the segment of the documents of both.
-use Rattle.std.proofs.Common.{◌≡◌, ℕ, ◌+◌, ◌-◌, ◌<◌, ◌≤◌, Bool, true, false, cond, List, [], ◌∷◌, ◌++◌, length, get_or, map, refl, ap, subst, sym, ◌∙◌, arith, inl, inr}
+use Rattle.std.proofs.Common.{◌≡◌, ℕ, ◌+◌, ◌-◌, ◌<◌, ◌≤◌, Bool, true, false, cond, List, [], ◌++◌, length, get_or, map, refl, ap, subst, sym, ◌∙◌, arith, inl, inr}
 use Rattle.std.specs.List.{range_with_len}
 use Rattle.std.specs.Prelude.{All}
 use Rattle.std.proofs.lemmas.Bool.{cases_Bool, cases_lt}
-use Rattle.std.proofs.lemmas.List.{get_or-append_right, get_or_append_left, length-append, length-map}
+use Rattle.std.proofs.lemmas.List.{get_or-append_right, get_or_append_left, length-append}
 use Rattle.std.proofs.lemmas.List.Elements.{All-map, All-weaker}
 use Rattle.std.proofs.lemmas.List.FromFn.{fill_by_all, get_or-map-range_with_len, length-map-range_with_len}
 use Rattle.qm_docset.specs.ListFacts.{map-map}
-use Rattle.qm_schema.specs.Schema.{FieldFacts}
 use Rattle.qm_schema.specs.Term.{TermKey, term_cmp}
 use Rattle.std.specs.List.Sorted.{IsStrictlySortedBy}
-use Rattle.qm_postings.specs.Kept.{AreColumns, Posted, document_from}
+use Rattle.qm_postings.specs.Kept.{AreColumns, document_from}
 use Rattle.qm_postings.specs.Reading.{IsOfRows, Reader}
 use Rattle.qm_postings.specs.Rows.{IsRow, MakeSegment, Row, all_posted, column_of, columns_of, segment_of_rows}
 use Rattle.qm_postings.specs.Segment.{Document, Segment, keeps_lengths, length_id, no_document, without}

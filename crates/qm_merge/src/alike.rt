@@ -24,8 +24,7 @@ fn are_same_fields(first: &Schema, second: &Schema) -> bool
     // those before it are the same
     for id in 0..count {
         let field = Field::from_field_id(id);
-        let (Some(one), Some(other)) =
-            (first.get_field_entry(field), second.get_field_entry(field))
+        let (Some(one), Some(other)) = (first.get_field_entry(field), second.get_field_entry(field))
         else {
             return false;
         };

@@ -29,11 +29,7 @@ pub(crate) fn alive_columns(
 }
 
 // The length ids in the documents that have a new number; none where there are none.
-fn alive_column(
-    alloc: Global,
-    ids: &[u8],
-    numbers: &[Option<DocId>],
-) -> Result<Vec<u8>, QueryError>
+fn alive_column(alloc: Global, ids: &[u8], numbers: &[Option<DocId>]) -> Result<Vec<u8>, QueryError>
     requires { length ids.now ≤ length numbers.now }
     ensures ids { IfOk result (λ it. it.items ≡ ids_left numbers.now ids.now) }
     ensures refused { IsOkUnless result QueryError.Memory }

@@ -126,11 +126,7 @@ fn both(
 }
 
 // Adds the postings of a row, of documents that come behind so many.
-fn push_postings(
-    row: &mut TermRow,
-    other: &TermRowRef<'_>,
-    count: DocId,
-) -> Result<(), QueryError>
+fn push_postings(row: &mut TermRow, other: &TermRowRef<'_>, count: DocId) -> Result<(), QueryError>
     requires paired { length (lent_row other.now).frequencies ≡ length (lent_row other.now).documents }
     requires few { All (λ d. count + d < TERMINATED) (lent_row other.now).documents }
     ensures added { OnOk result (row.new ≡ row_of_both row.old (row_behind count (lent_row other.now))) }

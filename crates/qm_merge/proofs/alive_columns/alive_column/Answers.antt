@@ -1,4 +1,4 @@
-use Rattle.std.proofs.Common.{◌≡◌, ap, is_some, refl, sym, ◌∙◌}
+use Rattle.std.proofs.Common.{ap, is_some, refl, sym, ◌∙◌}
 use Rattle.qm_merge.proofs.LeftSteps.{id-more, id-none}
 use Rattle.qm_merge.proofs.alive_columns.alive_column.Goals as goal
 use Rattle.qm_merge.proofs.alive_columns.alive_column.Goals.{else-is_some, then-is_some+in_ok-push}

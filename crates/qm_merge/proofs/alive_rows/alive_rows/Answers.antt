@@ -1,4 +1,4 @@
-use Rattle.std.proofs.Common.{◌≡◌, ◌<◌, arith, length, sym, ◌∙◌}
+use Rattle.std.proofs.Common.{◌<◌, arith, length, sym, ◌∙◌}
 use Rattle.qm_postings.specs.LentRow.{lent_row}
 use Rattle.qm_merge.proofs.LeftSteps.{row-more, row-none}
 use Rattle.qm_merge.proofs.alive_rows.alive_rows.Goals as goal

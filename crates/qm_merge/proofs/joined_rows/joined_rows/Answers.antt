@@ -1,4 +1,4 @@
-use Rattle.std.proofs.Common.{◌≡◌, ◌++◌, ◌⊎◌, [], ap, append_assoc, arith, drop, inl, inr, length, map, sym, ◌∙◌}
+use Rattle.std.proofs.Common.{◌≡◌, ◌++◌, ◌⊎◌, [], ap, append_assoc, arith, drop, inl, inr, map, ◌∙◌}
 use Rattle.std.proofs.lemmas.List.{drop_all}
 use Rattle.qm_merge.specs.JoinedRows.{row_behind}
 use Rattle.qm_merge.proofs.JoinedRest.{joined-rest}

@@ -1,4 +1,4 @@
-use Rattle.std.proofs.Common.{◌≡◌, ℕ, List, Option, ap, arith, length, map, sym, subst, ◌∙◌}
+use Rattle.std.proofs.Common.{◌≡◌, ℕ, List, ap, length, map, sym, subst, ◌∙◌}
 use Rattle.std.proofs.lemmas.List.FromFn.{length-map-range_with_len}
 use Rattle.std.proofs.lemmas.Result.{IfOk-weaker}
 use Rattle.qm_schema.specs.Schema.{FieldFacts}
