@@ -8,7 +8,7 @@ use Rattle.qm_docset.specs.Members.{members_between}
 use Rattle.qm_docset.proofs.MembersLemmas.{members_between-first, members_between-none, members_between-same, members_between-shift, members_between-split}
 use Rattle.qm_postings.specs.Segment.{Segment, is_deleted, with_deleted, without}
 use Rattle.qm_postings.proofs.DeletedDocuments.{among_members}
-use Rattle.qm_merge.specs.Merging.{joined, was_deleted}
+use Rattle.qm_merge.specs.Merging.{deleted_documents, joined, was_deleted}
 
 -- ---- members one by one
 
@@ -42,6 +42,12 @@ deleted-of_both s t =
     behind n x =
         let back : n + x - n ≡ x = omega arith in
         ap (λ b. cond b (is_deleted s (n + x)) (is_deleted t (n + x - n))) (le-ltb (n + x) n (omega arith)) ∙ ap (is_deleted t) back
+
+-- where the deleted ones stand in order, each once, they are these
+pub deleted_documents-own : (has : ℕ → Bool) (s : Segment) → s.deleted ≡ members_between has 0 (length s.documents) → deleted_documents s ≡ s.deleted
+deleted_documents-own has s own =
+    members_between-same (is_deleted s) has 0 (length s.documents)
+    (λ x above below. ap (list_any (λ y. y == x)) own ∙ among_members has (length s.documents) x below) ∙ sym own
 
 -- ---- one document more is deleted
 

@@ -16,6 +16,7 @@ new_numbers s = map (new_number s) (range_with_len 0 (length s.documents))
 
 -- ---- by a table of new numbers
 
+-- the new number of a document there, and none where it has none
 abbrev pub number_in : List (Option ℕ) → ℕ → Option ℕ
 number_in numbers d = slice_index_or numbers d None
 

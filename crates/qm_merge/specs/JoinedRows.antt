@@ -20,7 +20,8 @@ row_of_both r u = record {
   positions = r.positions ++ u.positions;
 }
 
--- A row and those that `with_rest` makes of others and of what is given it, among further rows.
+-- A row with the rest of its list, joined with the rows of another list, where `with_rest` joins the rest with some of
+-- those.
 abbrev pub with_row : Row → List Row → (List Row → List Row) → List Row → List Row
 with_row r rest with_rest [] = r ∷ rest
 with_row r rest with_rest (u ∷ us) =
