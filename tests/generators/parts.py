@@ -2,7 +2,7 @@
 
 import itertools
 
-from generators import cursors, indexes, postings, queries, runs, scripts, sets, stored, tables, trees, weights
+from generators import cursors, indexes, merging, postings, queries, runs, scripts, sets, stored, tables, trees, weights
 
 GENERATORS = {
     "runs of Booleans": tables.runs_of_booleans,
@@ -29,6 +29,7 @@ GENERATORS = {
     "runs": runs.by_chance,
     "indexes": indexes.by_chance,
     "stored rows": stored.by_chance,
+    "merged segments": merging.by_chance,
     "scripts": scripts.by_chance,
 }
 
@@ -66,6 +67,6 @@ BY_CHANCE = {
     "cases_queries": ["queries"],
     "cases_cursors": ["cursors", "windows", "cursors", "cursors", "sets"],
     "cases_postings": ["postings", "runs", "indexes"],
-    "cases_store": ["stored rows"],
+    "cases_store": ["stored rows", "merged segments"],
     "cases_scripts": ["scripts"],
 }

@@ -1,8 +1,10 @@
-//! Plays cases of rows as bytes: reads them from standard input, and writes which rows are wrong.
+//! Plays cases of rows as bytes and of merged segments: reads them from standard input, and writes which rows are wrong.
 #![tactic(auto)]
 
+mod given_part;
 mod given_row;
 mod given_term;
+mod merged;
 mod player;
 mod spelled;
 

@@ -2,13 +2,14 @@
 
 use crate::given_row::GivenRow;
 use crate::given_term::{GivenBytes, GivenTerm};
+use crate::merged::Merged;
 use crate::spelled::{keeps_positions, read_bytes, write_read};
 use cases::{Asker, Block, Fault, Memory, Player, Report, end_refusals, play_asked, word};
 use qm_schema::{Field, Term};
 use qm_store::read_row;
 use std::alloc::Global;
 
-/// Plays blocks of rows, of terms and of bytes.
+/// Plays blocks of rows, of terms, of bytes and of segments to be merged.
 #[derive(Drop)]
 pub struct Store;
 
@@ -31,6 +32,7 @@ impl Player for Store {
                 let mut bytes = GivenBytes::make(alloc, block.words)?;
                 play_asked(alloc, &mut bytes, block.rows, report)
             }
+            "merge" => play_asked(alloc, &mut Merged::new(alloc), block.rows, report),
             _ => Err(Fault::NotUnderstood),
         }
     }

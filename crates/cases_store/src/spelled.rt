@@ -74,7 +74,8 @@ pub fn write_read(
     }
 }
 
-fn write_numbers(numbers: &[u32], text: &mut String) -> Result<(), AllocError> {
+/// Writes numbers as they are read.
+pub fn write_numbers(numbers: &[u32], text: &mut String) -> Result<(), AllocError> {
     if numbers.is_empty() {
         return text.push('-');
     }
