@@ -112,9 +112,8 @@ impl GivenPart {
         segment: SegmentReader,
     ) -> Result<SegmentReader, Fault> {
         let mut segment = segment;
-        let count = segment.max_doc();
         for doc in &self.deleted {
-            if *doc >= count {
+            if *doc >= segment.max_doc() {
                 return Err(Fault::NotAllowed);
             }
             segment.delete(alloc, *doc)?;
