@@ -26,7 +26,7 @@ PROGRAMS = {
     "cases_postings": ["qm_schema", "qm_postings", "qm_index", "qm_term", "qm_phrase"],
     "cases_weights": ["qm_scorer", "qm_weight"],
     "cases_queries": ["qm_query"],
-    "cases_store": ["qm_store"],
+    "cases_store": ["qm_store", "qm_merge"],
     "cases_scripts": ["qm_script"],
 }
 # how many rows by chance each program plays

@@ -2,7 +2,21 @@
 
 import itertools
 
-from generators import cursors, indexes, postings, queries, runs, scripts, sets, stored, stored_segments, tables, trees, weights
+from generators import (
+    cursors,
+    indexes,
+    merging,
+    postings,
+    queries,
+    runs,
+    scripts,
+    sets,
+    stored,
+    stored_segments,
+    tables,
+    trees,
+    weights,
+)
 
 GENERATORS = {
     "runs of Booleans": tables.runs_of_booleans,
@@ -32,6 +46,7 @@ GENERATORS = {
     "turned bits": stored_segments.turned_bits,
     "cut segments": stored_segments.cuts,
     "stored segments": stored_segments.by_chance,
+    "merged segments": merging.by_chance,
     "scripts": scripts.by_chance,
 }
 
@@ -69,6 +84,6 @@ BY_CHANCE = {
     "cases_queries": ["queries"],
     "cases_cursors": ["cursors", "windows", "cursors", "cursors", "sets"],
     "cases_postings": ["postings", "runs", "indexes"],
-    "cases_store": ["stored rows", "stored segments"],
+    "cases_store": ["stored rows", "stored segments", "merged segments"],
     "cases_scripts": ["scripts"],
 }

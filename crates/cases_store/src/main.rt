@@ -1,14 +1,17 @@
-//! Plays cases of rows and of segments as bytes: reads them from standard input, and writes which rows are wrong.
+//! Plays cases of rows and of segments as bytes, and of merged segments: reads them from standard input, and writes which
+//! rows are wrong.
 #![tactic(auto)]
 
 mod asked_segment;
 mod error_texts;
+mod given_part;
 mod given_row;
 mod given_rows;
 mod given_segment;
 mod given_term;
 mod heard_pieces;
 mod kept;
+mod merged;
 mod player;
 mod sink;
 mod spelled;

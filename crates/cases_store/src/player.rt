@@ -5,13 +5,14 @@ use crate::given_row::GivenRow;
 use crate::given_rows::GivenRows;
 use crate::given_segment::GivenSegment;
 use crate::given_term::{GivenBytes, GivenTerm};
+use crate::merged::Merged;
 use crate::spelled::{keeps_positions, read_bytes, write_read};
 use cases::{Asker, Block, Fault, Memory, Player, Report, end_refusals, play_asked, word};
 use qm_schema::{Field, Term};
 use qm_store::read_row;
 use std::alloc::Global;
 
-/// Plays blocks of rows, of terms, of segments and of bytes.
+/// Plays blocks of rows, of terms, of bytes, and of segments that are stored or merged.
 #[derive(Drop)]
 pub struct Store<'r> {
     /// where files can be made
@@ -46,6 +47,7 @@ impl<'r> Player for Store<'r> {
                 play_asked(alloc, &mut rows, block.rows, report)
             }
             "errors" => play_asked(alloc, &mut ErrorTexts, block.rows, report),
+            "merge" => play_asked(alloc, &mut Merged::new(alloc), block.rows, report),
             _ => Err(Fault::NotUnderstood),
         }
     }

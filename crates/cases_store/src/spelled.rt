@@ -82,7 +82,8 @@ pub fn write_row(row: &TermRow, text: &mut String) -> Result<(), Fault> {
     Ok(write_numbers(&row.positions, text)?)
 }
 
-fn write_numbers(numbers: &[u32], text: &mut String) -> Result<(), AllocError> {
+/// Writes numbers as they are read.
+pub fn write_numbers(numbers: &[u32], text: &mut String) -> Result<(), AllocError> {
     if numbers.is_empty() {
         return text.push('-');
     }

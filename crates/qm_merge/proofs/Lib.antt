@@ -1,0 +1,10 @@
+pub mod FoundInRows
+pub mod RowsOfBoth
+pub mod TermsOfBoth
+pub mod SegmentOfBoth
+pub mod DeletedOfBoth
+pub mod AlivePlaces
+pub mod RowsLeft
+pub mod SegmentLeft
+pub mod JoinedRest
+pub mod LeftSteps

@@ -1,0 +1,3 @@
+pub mod Merging
+pub mod JoinedRows
+pub mod AliveRows
