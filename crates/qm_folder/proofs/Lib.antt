@@ -1,0 +1,7 @@
+mod Causes
+mod Commits
+mod Files
+mod Moments
+mod NameLists
+mod Runs
+mod Updates

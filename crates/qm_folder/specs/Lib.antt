@@ -1,0 +1,5 @@
+pub mod Names
+pub mod Disk
+pub mod Calls
+pub mod Steps
+pub mod Update

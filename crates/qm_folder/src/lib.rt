@@ -1,0 +1,13 @@
+//! A folder of named files, and the order of steps by which an index in it is updated: a crash at any moment leaves the
+//! index of before or that of after.
+#![tactic(auto)]
+
+mod folder;
+mod folder_error;
+mod new_file;
+mod updating;
+
+pub use folder::Folder;
+pub use folder_error::FolderError;
+pub use new_file::NewFile;
+pub use updating::{MANIFEST, STAGED, update};
