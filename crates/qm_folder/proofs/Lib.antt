@@ -1,6 +1,8 @@
 mod Causes
 mod Commits
 mod Files
+mod GivenNames
+mod Index
 mod Moments
 mod NameLists
 mod Runs

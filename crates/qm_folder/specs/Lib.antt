@@ -3,3 +3,7 @@ pub mod Disk
 pub mod Calls
 pub mod Steps
 pub mod Update
+pub mod Memory
+pub mod MemoryFolder
+pub mod System
+pub mod Index

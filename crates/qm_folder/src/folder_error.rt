@@ -3,6 +3,8 @@
 ghost use Rattle.std.specs.Prelude.{◌≡◌};
 
 use std::alloc::{AllocError, AllocFailed};
+use std::io;
+use std::io::ErrorKind;
 use thiserror::Error;
 
 /// Why a call on a folder was refused.
@@ -33,5 +35,14 @@ impl<T: Drop> From<AllocFailed<T>> for FolderError {
 
     fn from(_error: AllocFailed<T>) -> FolderError {
         FolderError::from(AllocError)
+    }
+}
+
+impl From<io::Error> for FolderError {
+    fn from(error: io::Error) -> FolderError {
+        if error.kind() == ErrorKind::OutOfMemory {
+            return FolderError::Memory;
+        }
+        FolderError::Failed
     }
 }

@@ -4,10 +4,17 @@
 
 mod folder;
 mod folder_error;
+mod memory_call;
+mod memory_folder;
 mod new_file;
+mod replay;
+mod system_folder;
 mod updating;
 
 pub use folder::Folder;
 pub use folder_error::FolderError;
+pub use memory_call::MemoryCall;
+pub use memory_folder::MemoryFolder;
 pub use new_file::NewFile;
+pub use system_folder::SystemFolder;
 pub use updating::{MANIFEST, STAGED, update};
