@@ -5,7 +5,8 @@ use Rattle.std.specs.Str.{bytes_eq}
 use Rattle.qm_folder.specs.Names.{Name, file_name, file_names, is_among}
 use Rattle.qm_folder.specs.Disk.{Content, Contents, Disk}
 use Rattle.qm_folder.specs.Index.{NamesOwn, index, named_by}
-use Rattle.qm_folder.specs.Update.{Change, IsAfter, IsBefore, IsBeforeOrAfter, IsClean}
+use Rattle.qm_folder.specs.Clean.{IsClean}
+use Rattle.qm_folder.specs.Update.{Change, IsAfter, IsBefore, IsBeforeOrAfter}
 use Rattle.qm_folder.specs.declared.updating.TheConstants.{MANIFEST, STAGED}
 use Rattle.qm_folder.proofs.NameLists.{among_each, neither, none_of_both, same_name}
 
@@ -25,7 +26,7 @@ among_either [] ys n first second = second
 among_either (x ∷ xs) ys n first second =
     let parts = neither (bytes_eq n x) (is_among xs n) first in none_of_both (bytes_eq n x) (is_among (xs ++ ys) n) parts.0 (among_either xs ys n parts.1 second)
 
-module _ (named : List ℕ → List Name) (it : Change) (old : Disk) (clean : IsClean it) (own : NamesOwn named it old) where
+module _ (named : List ℕ → List Name) (it : Change) (old : Disk) (clean : IsClean (file_names it.files) it.gone) (own : NamesOwn named it old) where
   before_index : (c : Contents) → IsBefore it old c → index named c ≡ index named old.seen
   before_index c before =
       same_index named c old.seen (before MANIFEST.now (none_of_both false (is_among (file_names it.files) MANIFEST.now) refl clean.no_manifest))

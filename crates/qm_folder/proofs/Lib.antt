@@ -1,4 +1,5 @@
 mod Causes
+mod CleanNames
 mod Commits
 mod Files
 mod GivenNames

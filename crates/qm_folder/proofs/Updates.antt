@@ -6,7 +6,8 @@ use Rattle.qm_folder.specs.Names.{Name, file_name, file_names, is_among}
 use Rattle.qm_folder.specs.Disk.{Disk, Contents, IsSettled, LeavesOnly}
 use Rattle.qm_folder.specs.Calls.{IsRemoved, KeepsBut, LeavesWritten, MayRename}
 use Rattle.qm_folder.specs.Steps.{AreRemoved, AreWhole, AreWritten, IsCleared, IsCommitted, IsLeftBut, IsLeftByCommit, IsPrepared, IsWritten}
-use Rattle.qm_folder.specs.Update.{Change, IsAfter, IsBefore, IsBeforeOrAfter, IsClean, IsSameBut, IsUpdated}
+use Rattle.qm_folder.specs.Clean.{IsClean}
+use Rattle.qm_folder.specs.Update.{Change, IsAfter, IsBefore, IsBeforeOrAfter, IsSameBut, IsUpdated}
 use Rattle.qm_folder.specs.declared.new_file.NewFile.{NewFile}
 use Rattle.qm_folder.specs.declared.updating.TheConstants.{MANIFEST, STAGED}
 use Rattle.qm_folder.proofs.Moments.{joined, weakened}
@@ -78,7 +79,7 @@ cleared gone old mid new settled kept removed quiet durable = record {
 
 -- ---- what stands there, then, is the index of before or that of after
 
-module _ (it : Change) (old : Disk) (clean : IsClean it) where
+module _ (it : Change) (old : Disk) (clean : IsClean (file_names it.files) it.gone) where
   abbrev new_names : List Name
   new_names = file_names it.files
 

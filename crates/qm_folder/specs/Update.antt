@@ -1,7 +1,7 @@
 -- What an update of an index makes of a folder, at each moment.
 use Rattle.std.specs.Prelude.{◌≡◌, ◌⊎◌, ℕ, true, false, List, ◌∷◌, ◌++◌, None, Some, String}
 use Rattle.std.specs.declared.alloc.Global.{Global}
-use Rattle.qm_folder.specs.Names.{Name, AreDistinct, is_among, file_names, names_of}
+use Rattle.qm_folder.specs.Names.{Name, is_among, file_names, names_of}
 use Rattle.qm_folder.specs.Disk.{Disk, Contents, IsSettled}
 use Rattle.qm_folder.specs.Steps.{AreWhole}
 use Rattle.qm_folder.specs.declared.updating.TheConstants.{MANIFEST, STAGED}
@@ -15,16 +15,6 @@ pub record Change : Type 0 where
 
 abbrev pub change : List NewFile → List ℕ → List (String Global) → Change
 change files manifest gone = record { files = files; manifest = manifest; gone = names_of gone }
-
--- The names of a change get in no one's way: the new ones are distinct, and neither they nor those that are gone are the
--- manifest's; what is new is not gone.
-pub record IsClean (it : Change) : Type 0 where
-  pub distinct : AreDistinct (file_names it.files)
-  pub no_manifest : is_among (file_names it.files) MANIFEST.now ≡ false
-  pub no_staged : is_among (file_names it.files) STAGED.now ≡ false
-  pub manifest_stays : is_among it.gone MANIFEST.now ≡ false
-  pub staged_stays : is_among it.gone STAGED.now ≡ false
-  pub new_stay : (n : Name) → is_among (file_names it.files) n ≡ true → is_among it.gone n ≡ false
 
 -- but under these names the same stands there
 abbrev pub IsSameBut : List Name → Contents → Contents → Type 0

@@ -6,6 +6,7 @@ ghost use Rattle.qm_folder.specs.Memory;
 ghost use Rattle.qm_folder.specs.Memory.{IsAdded, could_leave, is_written, name_given, same_content};
 
 use crate::MemoryCall;
+use crate::names::is_there;
 use std::alloc::{AllocError, Global};
 
 // The bytes of a file; none where no file of that name stands.
@@ -143,17 +144,4 @@ fn add_name(
     }
     names.push(String::from_str(alloc, name)?)?;
     Ok(())
-}
-
-// Whether a name is one of these.
-fn is_there(names: &[String], name: &str) -> bool
-    ensures { result ≡ is_among (names_of names.now) name.now }
-{
-    // it is none of those before
-    for other in names {
-        if name == other.as_str() {
-            return true;
-        }
-    }
-    false
 }

@@ -5,7 +5,8 @@ ghost use Rattle.qm_folder.specs.Names.{AreDistinct, file_names, is_among, names
 ghost use Rattle.qm_folder.specs.Disk.{IsSettled, LeavesOnly};
 ghost use Rattle.qm_folder.specs.Calls.{HasCause, KeepsBut, MayRename};
 ghost use Rattle.qm_folder.specs.Steps.{AreRemoved, AreWritten, IsCleared, IsCommitted, IsLeftBut, IsLeftByCommit, IsPrepared, IsWritten};
-ghost use Rattle.qm_folder.specs.Update.{IsBeforeOrAfter, IsClean, IsUpdated, change};
+ghost use Rattle.qm_folder.specs.Clean.{IsClean};
+ghost use Rattle.qm_folder.specs.Update.{IsBeforeOrAfter, IsUpdated, change};
 
 use crate::{Folder, FolderError, NewFile};
 
@@ -19,7 +20,7 @@ pub const STAGED: &str = "manifest.new";
 /// any moment leaves the manifest of before with the files of before, or the new one with the new files.
 ///
 /// Asked is that nothing of the folder waits for the disk, and that no name gets in another's way: the new names are
-/// distinct, no new name and none that is gone is the manifest's, and no new name is gone. Costs a write and a sync for each
+/// distinct, no new name and none that is gone is the manifest's, and no new name is gone (`is_clean`). Costs a write and a sync for each
 /// new file and for the manifest, a rename, three syncs of the names, and a step for each file that is gone.
 ///
 /// Refused for want of memory, or where the folder fails; then the index is that of before or that of after.
@@ -30,7 +31,7 @@ pub fn update<F: Folder>(
     gone: &[String],
 ) -> Result<(), FolderError>
     requires settled { F.is_told → IsSettled (F.disk folder.old) }
-    requires clean { IsClean (change files.now manifest.now gone.now) }
+    requires clean { IsClean (file_names files.now) (names_of gone.now) }
 
     ensures acknowledged { F.is_told → OnOk result
         (IsUpdated (change files.now manifest.now gone.now) (F.disk folder.old) (F.disk folder.new)) }
