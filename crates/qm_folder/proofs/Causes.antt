@@ -1,5 +1,5 @@
 -- A call is refused where the folder has failed since, and so is a run that it ends.
-use Rattle.std.proofs.Common.{ℕ, ◌≤◌, Result, Ok, Err, IsErrOf, arith}
+use Rattle.std.proofs.Common.{◌≤◌, Result, Ok, arith}
 use Rattle.qm_folder.specs.Disk.{Disk}
 use Rattle.qm_folder.specs.Calls.{HasCause}
 use Rattle.qm_folder.specs.declared.folder_error.FolderError.{FolderError}

@@ -1,5 +1,5 @@
 -- The test of an update's names.
-use Rattle.std.proofs.Common.{◌≡◌, inl, inr, ⊎_elim, ◌&&◌, ◌||◌, Bool, not, true, false, List, [], ◌∷◌, refl, sym, ◌∙◌, ap, subst}
+use Rattle.std.proofs.Common.{◌≡◌, ⊎_elim, ◌&&◌, ◌||◌, Bool, not, true, false, List, [], ◌∷◌, refl, sym, ◌∙◌, ap, subst}
 use Rattle.std.proofs.lemmas.Bool.{and_from, and_parts, both_ways, not-true, or_cases}
 use Rattle.std.specs.Str.{bytes_eq}
 use Rattle.qm_folder.specs.Clean.{IsClean, is_clean, is_free}

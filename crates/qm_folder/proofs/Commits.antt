@@ -36,7 +36,7 @@ committed old mid new settled written renamed moves quiet durable = record {
     both n there = elim (or_cases (bytes_eq n STAGED.now) (is_among (MANIFEST.now ∷ []) n) there) [
       | inl staged ↦ subst mid.written (sym (same_name n STAGED.now staged)) renamed.gone
       | inr other ↦ elim (or_cases (bytes_eq n MANIFEST.now) false other) [
-          | inl manifest ↦ subst mid.written (sym (same_name n MANIFEST.now manifest)) (renamed.moved written)
-          | inr none ↦ absurd (cc none)
-        ]
+        | inl manifest ↦ subst mid.written (sym (same_name n MANIFEST.now manifest)) (renamed.moved written)
+        | inr none ↦ absurd (cc none)
+      ]
     ]

@@ -1,13 +1,12 @@
 -- One file after another is written, or removed.
-use Rattle.std.proofs.Common.{◌≡◌, inl, inr, ℕ, ◌+◌, ◌<◌, ◌≤◌, true, false, List, [], ◌∷◌, length, get_or, map, String, refl, sym, ◌∙◌, ap, subst, arith}
+use Rattle.std.proofs.Common.{◌≡◌, inl, inr, ℕ, ◌+◌, ◌<◌, ◌≤◌, false, List, [], ◌∷◌, length, get_or, map, String, sym, ◌∙◌, subst}
 use Rattle.std.proofs.lemmas.Bool.{cases_Bool}
-use Rattle.std.proofs.lemmas.List.{get_or_default}
 use Rattle.std.specs.Str.{bytes_eq}
 use Rattle.std.specs.String.{string_bytes}
 use Rattle.std.specs.declared.alloc.Global.{Global}
 use Rattle.qm_folder.specs.Names.{AreDistinct, Name, file_name, file_names}
 use Rattle.qm_folder.specs.Disk.{Disk, LeavesOnly}
-use Rattle.qm_folder.specs.Calls.{Elapses, HasCause, IsRemoved, KeepsBut, MayRemove}
+use Rattle.qm_folder.specs.Calls.{Elapses, IsRemoved, KeepsBut, MayRemove}
 use Rattle.qm_folder.specs.Steps.{IsLeftBut, IsWritten}
 use Rattle.qm_folder.specs.declared.new_file.NewFile.{NewFile}
 use Rattle.qm_folder.proofs.NameLists.{distinct_at, not_alone, same_name}
@@ -31,13 +30,13 @@ removed_stays : (name other : Name) (old new : Disk) → KeepsBut (name ∷ []) 
 removed_stays name other old new kept here was = elim (cases_Bool (bytes_eq other name)) [
   | inl same ↦ subst (λ (n : Name). IsRemoved n new) (sym (same_name other name same)) here
   | inr differs ↦ record {
-      away = kept.seen other (not_alone other name differs) ∙ was.away;
-      gone = kept.written other (not_alone other name differs) was.gone;
-    }
+    away = kept.seen other (not_alone other name differs) ∙ was.away;
+    gone = kept.written other (not_alone other name differs) was.gone;
+  }
 ]
 
 module _ (files : List NewFile) (i : ℕ) (f : NewFile) (name bytes : List ℕ) (old mid new : Disk) (so_far : HasDone file_name IsThere files i old mid) (in_range : i < length files) (is : f ≡ get_or files i f) (name_is : name ≡ file_name f)
-  (kept : KeepsBut (name ∷ []) mid new) (left : LeavesOnly mid new (IsLeftBut (name ∷ []) mid)) where
+    (kept : KeepsBut (name ∷ []) mid new) (left : LeavesOnly mid new (IsLeftBut (name ∷ []) mid)) where
   this_file : Run (file_name f ∷ []) mid new
   this_file = under name (file_name f) mid new name_is kept left
 
@@ -49,13 +48,15 @@ module _ (files : List NewFile) (i : ℕ) (f : NewFile) (name bytes : List ℕ) 
     where
       here : IsThere f new
       here = subst (λ (b : List ℕ). IsWritten (file_name f) b new) bytes_are (subst (λ (n : Name). IsWritten n bytes new) name_is written)
+
       apart : (k : ℕ) (d : NewFile) → k < i → bytes_eq (file_name (get_or files k d)) (file_name f) ≡ false
       apart k d lt = subst (λ (g : NewFile). bytes_eq (file_name (get_or files k d)) (file_name g) ≡ false) (sym is) (distinct_at file_name files k i d f distinct lt in_range)
+
       stays : (k : ℕ) (d : NewFile) → k < i → IsThere (get_or files k d) mid → IsThere (get_or files k d) new
       stays k d lt was = written_stays (file_name f) (file_name (get_or files k d)) (get_or files k d).bytes.items mid new this_file.kept (apart k d lt) was
 
 module _ (gone : List (String Global)) (i : ℕ) (n : String Global) (name : List ℕ) (old mid new : Disk) (so_far : HasDone string_bytes IsAway gone i old mid) (in_range : i < length gone) (is : n ≡ get_or gone i n) (name_is : name ≡ string_bytes n)
-  (now : IsNow mid) (removes : MayRemove name mid new) (time : Elapses mid new) where
+    (now : IsNow mid) (removes : MayRemove name mid new) (time : Elapses mid new) where
   this_name : Run (string_bytes n ∷ []) mid new
   this_name = subst (λ (m : Name). Run (m ∷ []) mid new) name_is (call (name ∷ []) mid new now removes.others time)
 
@@ -67,5 +68,6 @@ module _ (gone : List (String Global)) (i : ℕ) (n : String Global) (name : Lis
     where
       here : IsAway n new
       here = subst (λ (m : Name). IsRemoved m new) name_is removed
+
       stays : (k : ℕ) (d : String Global) → k < i → IsAway (get_or gone k d) mid → IsAway (get_or gone k d) new
       stays k d lt was = removed_stays (string_bytes n) (string_bytes (get_or gone k d)) mid new this_name.kept here was

@@ -1,5 +1,5 @@
 -- What a crash leaves of an update is the index of before or that of after, whatever names its manifests name.
-use Rattle.std.proofs.Common.{◌≡◌, ◌⊎◌, inl, inr, ◌||◌, ℕ, zero, suc, ◌<◌, true, false, List, [], ◌∷◌, ◌++◌, length, get_or, map, All, None, Some, refl, sym, ◌∙◌, ap, subst, arith}
+use Rattle.std.proofs.Common.{◌≡◌, ◌⊎◌, inl, inr, ℕ, suc, false, List, [], ◌∷◌, ◌++◌, get_or, map, All, refl, sym, ◌∙◌, ap, subst, arith}
 use Rattle.std.proofs.lemmas.Bool.{cases_Bool}
 use Rattle.std.specs.Str.{bytes_eq}
 use Rattle.qm_folder.specs.Names.{Name, file_name, file_names, is_among}
@@ -41,14 +41,14 @@ module _ (named : List ℕ → List Name) (it : Change) (old : Disk) (clean : Is
     same_at n stays = elim (cases_Bool (is_among (file_names it.files) n)) [
       | inl is_new ↦ among_each file_name (λ m. c m ≡ after m) it.files (λ k d lt. too.files k d lt ∙ sym (is_after.files k d lt)) n is_new
       | inr other ↦ elim (cases_Bool (bytes_eq n MANIFEST.now)) [
-          | inl same ↦ subst (λ (m : Name). c m ≡ after m) (sym (same_name n MANIFEST.now same)) manifests
-          | inr differs ↦
-              let parts = neither (bytes_eq n STAGED.now) (is_among it.gone n) stays in
-              let apart =
-              none_of_both (bytes_eq n STAGED.now) (is_among (MANIFEST.now ∷ file_names it.files ++ it.gone) n) parts.0
-              (none_of_both (bytes_eq n MANIFEST.now) (is_among (file_names it.files ++ it.gone) n) differs (among_either (file_names it.files) it.gone n other parts.1)) in
-              too.others n apart ∙ sym (is_after.others n apart)
-        ]
+        | inl same ↦ subst (λ (m : Name). c m ≡ after m) (sym (same_name n MANIFEST.now same)) manifests
+        | inr differs ↦
+            let parts = neither (bytes_eq n STAGED.now) (is_among it.gone n) stays in
+            let apart =
+            none_of_both (bytes_eq n STAGED.now) (is_among (MANIFEST.now ∷ file_names it.files ++ it.gone) n) parts.0
+            (none_of_both (bytes_eq n MANIFEST.now) (is_among (file_names it.files ++ it.gone) n) differs (among_either (file_names it.files) it.gone n other parts.1)) in
+            too.others n apart ∙ sym (is_after.others n apart)
+      ]
     ]
 
     after_index : index named c ≡ index named after

@@ -1,5 +1,5 @@
 -- How a run of calls goes on.
-use Rattle.std.proofs.Common.{◌⊎◌, inl, inr, ⊎_elim, ℕ, ◌≤◌, arith}
+use Rattle.std.proofs.Common.{inl, inr, ⊎_elim, arith}
 use Rattle.qm_folder.specs.Disk.{Disk, Contents, CouldLeave, LeavesOnly}
 use Rattle.qm_folder.specs.Calls.{Elapses}
 

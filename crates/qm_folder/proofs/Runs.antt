@@ -1,10 +1,9 @@
 -- Runs of calls that change what stands under some names alone.
-use Rattle.std.proofs.Common.{◌≡◌, ◌⊎◌, inl, inr, ℕ, ◌+◌, ◌<◌, ◌≤◌, true, false, List, [], ◌∷◌, length, get_or, map, refl, sym, ◌∙◌, ap, subst, arith}
+use Rattle.std.proofs.Common.{◌≡◌, inl, inr, ℕ, ◌+◌, ◌<◌, ◌≤◌, true, false, List, [], ◌∷◌, length, get_or, map, refl, sym, ◌∙◌, ap, subst, arith}
 use Rattle.std.proofs.lemmas.Bool.{cases_Bool, cases_lt}
 use Rattle.std.proofs.lemmas.List.{get_or_default}
-use Rattle.std.specs.Str.{bytes_eq}
 use Rattle.qm_folder.specs.Names.{Name, is_among}
-use Rattle.qm_folder.specs.Disk.{Disk, Content, Contents, CouldLeave, IsSettled, LeavesOnly}
+use Rattle.qm_folder.specs.Disk.{Disk, Contents, CouldLeave, IsSettled, LeavesOnly}
 use Rattle.qm_folder.specs.Calls.{Elapses, KeepsBut, LeavesWritten}
 use Rattle.qm_folder.specs.Steps.{IsLeftBut}
 use Rattle.qm_folder.proofs.Moments.{joined, one_call, weakened}
@@ -51,10 +50,10 @@ pub then_run : (xs ys zs : List Name) (old mid new : Disk) → Run xs old mid �
 then_run xs ys zs old mid new first second covers_first covers_second = record {
   kept = keeps_joined xs ys zs old mid new first.kept second.kept covers_first covers_second;
   left =
-    joined old mid new (IsLeftBut zs old) (IsLeftBut ys mid)
-    (weakened old mid (IsLeftBut xs old) (IsLeftBut zs old) first.left (λ c left n other. left n (covers_first n other)))
-    second.left
-    (λ c left n other. first.kept.leaves n (c n) (covers_first n other) (left n (covers_second n other)));
+      joined old mid new (IsLeftBut zs old) (IsLeftBut ys mid)
+      (weakened old mid (IsLeftBut xs old) (IsLeftBut zs old) first.left (λ c left n other. left n (covers_first n other)))
+      second.left
+      (λ c left n other. first.kept.leaves n (c n) (covers_first n other) (left n (covers_second n other)));
 }
 
 -- A folder in which nothing waited for the disk, and then what has changed was written: once the names are synced, nothing

@@ -1,5 +1,5 @@
 -- What an update leaves, part after part.
-use Rattle.std.proofs.Common.{◌≡◌, ◌⊎◌, inl, inr, ⊎_elim, ℕ, ◌<◌, ◌≤◌, ◌||◌, true, false, List, [], ◌∷◌, ◌++◌, length, get_or, None, Some, Result, Err, IsErrOf, IsSome, refl, sym, ◌∙◌, ap, subst, arith}
+use Rattle.std.proofs.Common.{◌≡◌, ◌⊎◌, inl, inr, ⊎_elim, ℕ, ◌<◌, true, false, List, [], ◌∷◌, ◌++◌, length, get_or, None, Some, refl, sym, ◌∙◌, subst}
 use Rattle.std.proofs.lemmas.Bool.{cases_Bool, or_cases}
 use Rattle.std.specs.Str.{bytes_eq}
 use Rattle.qm_folder.specs.Names.{Name, file_name, file_names, is_among}
@@ -11,7 +11,7 @@ use Rattle.qm_folder.specs.Update.{Change, IsAfter, IsBefore, IsBeforeOrAfter, I
 use Rattle.qm_folder.specs.declared.new_file.NewFile.{NewFile}
 use Rattle.qm_folder.specs.declared.updating.TheConstants.{MANIFEST, STAGED}
 use Rattle.qm_folder.proofs.Moments.{joined, weakened}
-use Rattle.qm_folder.proofs.NameLists.{neither, none_of_both, not_alone, differs_from, among_all, among_both, among_each, name_at, same_name}
+use Rattle.qm_folder.proofs.NameLists.{neither, none_of_both, not_alone, among_all, among_both, among_each, name_at, same_name}
 use Rattle.qm_folder.proofs.Runs.{Run, keeps_joined, settles, then_run}
 
 -- ---- the new files and the new manifest are brought to the disk
@@ -39,8 +39,8 @@ files_staged_synced names old mid later new first second third =
     then_run (STAGED.now ∷ names) [] (STAGED.now ∷ names) old later new (files_and_staged names old mid later first second) third (λ n other. other) (λ n other. refl)
 
 pub prepared : (files : List NewFile) (manifest : List ℕ) (old files_there staged new : Disk) → IsSettled old → is_among (file_names files) STAGED.now ≡ false
-  → KeepsBut (file_names files) old files_there → AreWritten files files_there → KeepsBut (STAGED.now ∷ []) files_there staged → IsWritten STAGED.now manifest staged
-  → KeepsBut [] staged new → LeavesWritten staged new → IsPrepared files manifest new
+    → KeepsBut (file_names files) old files_there → AreWritten files files_there → KeepsBut (STAGED.now ∷ []) files_there staged → IsWritten STAGED.now manifest staged
+    → KeepsBut [] staged new → LeavesWritten staged new → IsPrepared files manifest new
 prepared files manifest old there staged new settled apart kept written kept_staged manifest_written quiet durable = record {
   settled = settles (STAGED.now ∷ file_names files) old staged new settled kept_both all_written quiet durable;
   staged = record { stands = quiet.seen STAGED.now refl ∙ manifest_written.stands; written = quiet.written STAGED.now refl manifest_written.written };
@@ -51,13 +51,16 @@ prepared files manifest old there staged new settled apart kept written kept_sta
     kept_both =
         keeps_joined (file_names files) (STAGED.now ∷ []) (STAGED.now ∷ file_names files) old there staged kept kept_staged
         (λ n other. (staged_first (file_names files) n other).1) (λ n other. not_alone n STAGED.now (staged_first (file_names files) n other).0)
+
     apart_from : (n : Name) → is_among (file_names files) n ≡ true → is_among (STAGED.now ∷ []) n ≡ false
     apart_from n among = elim (cases_Bool (bytes_eq n STAGED.now)) [
       | inl same ↦ absurd (cc (subst (λ (m : Name). is_among (file_names files) m ≡ true) (same_name n STAGED.now same) among, apart))
       | inr other ↦ not_alone n STAGED.now other
     ]
+
     apart_at : (k : ℕ) (d : NewFile) → k < length files → is_among (STAGED.now ∷ []) (file_name (get_or files k d)) ≡ false
     apart_at k d lt = apart_from (file_name (get_or files k d)) (name_at file_name files k d lt)
+
     all_written : (n : Name) → is_among (STAGED.now ∷ file_names files) n ≡ true → staged.written n
     all_written n among = elim (or_cases (bytes_eq n STAGED.now) (is_among (file_names files) n) among) [
       | inl same ↦ subst staged.written (sym (same_name n STAGED.now same)) manifest_written.written
@@ -74,6 +77,7 @@ cleared gone old mid new settled kept removed quiet durable = record {
   where
     removed_is_written : (n : Name) → IsRemoved n mid → mid.written n
     removed_is_written n it = it.gone
+
     is_itself : (n : Name) → is_among gone n ≡ true → IsRemoved n mid
     is_itself n among = among_all (λ m. IsRemoved m mid) gone removed n among
 
@@ -109,11 +113,11 @@ module _ (it : Change) (old : Disk) (clean : IsClean (file_names it.files) it.go
       manifest = is ∙ staged;
       files = λ k d lt. let n = file_name (get_or it.files k d) in others n (not_the_manifests n (is_new k d lt)) ∙ whole k d lt;
       others = λ n other.
-        let first = neither (bytes_eq n STAGED.now) (is_among (MANIFEST.now ∷ new_names ++ it.gone) n) other in
-        let second = neither (bytes_eq n MANIFEST.now) (is_among (new_names ++ it.gone) n) first.1 in
-        let third = among_both new_names it.gone n second.1 in
-        others n (none_of_both (bytes_eq n STAGED.now) (is_among (MANIFEST.now ∷ []) n) first.0 (not_alone n MANIFEST.now second.0))
-        ∙ before n (none_of_both (bytes_eq n STAGED.now) (is_among new_names n) first.0 third.0);
+          let first = neither (bytes_eq n STAGED.now) (is_among (MANIFEST.now ∷ new_names ++ it.gone) n) other in
+          let second = neither (bytes_eq n MANIFEST.now) (is_among (new_names ++ it.gone) n) first.1 in
+          let third = among_both new_names it.gone n second.1 in
+          others n (none_of_both (bytes_eq n STAGED.now) (is_among (MANIFEST.now ∷ []) n) first.0 (not_alone n MANIFEST.now second.0))
+          ∙ before n (none_of_both (bytes_eq n STAGED.now) (is_among new_names n) first.0 third.0);
     }
 
     pub not_taken : (c : Contents) → IsSameBut (STAGED.now ∷ MANIFEST.now ∷ []) mid c → c MANIFEST.now ≡ mid MANIFEST.now → IsBefore it old c
@@ -133,9 +137,9 @@ module _ (it : Change) (old : Disk) (clean : IsClean (file_names it.files) it.go
     manifest = same MANIFEST.now clean.manifest_stays ∙ after.manifest;
     files = λ k d lt. let n = file_name (get_or it.files k d) in same n (clean.new_stay n (is_new k d lt)) ∙ after.files k d lt;
     others = λ n other.
-      let first = neither (bytes_eq n STAGED.now) (is_among (MANIFEST.now ∷ new_names ++ it.gone) n) other in
-      let second = neither (bytes_eq n MANIFEST.now) (is_among (new_names ++ it.gone) n) first.1 in
-      same n (among_both new_names it.gone n second.1).1 ∙ after.others n other;
+        let first = neither (bytes_eq n STAGED.now) (is_among (MANIFEST.now ∷ new_names ++ it.gone) n) other in
+        let second = neither (bytes_eq n MANIFEST.now) (is_among (new_names ++ it.gone) n) first.1 in
+        same n (among_both new_names it.gone n second.1).1 ∙ after.others n other;
   }
 
   abbrev Between : Contents → Type 0
@@ -149,7 +153,7 @@ module _ (it : Change) (old : Disk) (clean : IsClean (file_names it.files) it.go
     second_part first second =
         joined old mid later Between (IsLeftByCommit mid) first second
         (λ c left. either mid.seen kept.seen ready.whole ready.staged.stands c (λ n other. ready.settled n (c n) (left.others n other))
-          (⊎_elim (λ was. inl (ready.settled MANIFEST.now (c MANIFEST.now) was)) (λ is. inr (ready.settled STAGED.now (c MANIFEST.now) is)) left.manifest))
+        (⊎_elim (λ was. inl (ready.settled MANIFEST.now (c MANIFEST.now) was)) (λ is. inr (ready.settled STAGED.now (c MANIFEST.now) is)) left.manifest))
 
     pub seen_then : MayRename STAGED.now MANIFEST.now mid later → Between later.seen
     seen_then moves = either mid.seen kept.seen ready.whole ready.staged.stands later.seen moves.others.seen moves.target_seen

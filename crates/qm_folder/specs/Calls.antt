@@ -1,5 +1,5 @@
 -- What the calls of a folder do to it, and to what a crash may leave.
-use Rattle.std.specs.Prelude.{◌<◌, ◌≡◌, ◌⊎◌, ℕ, ◌≤◌, false, List, [], ◌∷◌, Option, None, Some, Result, IsErrOf}
+use Rattle.std.specs.Prelude.{◌<◌, ◌≡◌, ◌⊎◌, ℕ, ◌≤◌, false, List, [], ◌∷◌, None, Some, Result, IsErrOf}
 use Rattle.qm_folder.specs.Names.{Name, is_among}
 use Rattle.qm_folder.specs.Disk.{Disk, Content, Contents, CouldLeave}
 use Rattle.qm_folder.specs.declared.folder_error.FolderError.{FolderError}

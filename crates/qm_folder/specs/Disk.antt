@@ -1,5 +1,5 @@
 -- A folder of named files at a moment, and what a crash may leave of it.
-use Rattle.std.specs.Prelude.{◌<◌, ◌≡◌, ◌⊎◌, ℕ, ◌≤◌, List, Option}
+use Rattle.std.specs.Prelude.{◌≡◌, ◌⊎◌, ℕ, ◌≤◌, List, Option}
 use Rattle.qm_folder.specs.Names.{Name}
 
 -- what stands under a name: the bytes of a file, or nothing

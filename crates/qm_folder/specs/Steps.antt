@@ -1,7 +1,7 @@
 -- What the parts of an update leave behind.
 use Rattle.std.specs.Prelude.{◌≡◌, ◌⊎◌, ℕ, false, List, [], ◌∷◌, All, None, Some}
 use Rattle.qm_folder.specs.Names.{Name, file_name, is_among}
-use Rattle.qm_folder.specs.Disk.{Disk, Content, Contents, IsSettled}
+use Rattle.qm_folder.specs.Disk.{Disk, Contents, IsSettled}
 use Rattle.qm_folder.specs.Calls.{IsRemoved, Stands}
 use Rattle.qm_folder.specs.declared.updating.TheConstants.{MANIFEST, STAGED}
 use Rattle.qm_folder.specs.declared.new_file.NewFile.{NewFile}

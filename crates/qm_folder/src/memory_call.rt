@@ -40,7 +40,11 @@ impl MemoryCall {
         Ok(MemoryCall::Synced(String::from_str(alloc, name)?))
     }
 
-    pub(crate) fn rename(alloc: Global, source: &str, target: &str) -> Result<MemoryCall, AllocError>
+    pub(crate) fn rename(
+        alloc: Global,
+        source: &str,
+        target: &str,
+    ) -> Result<MemoryCall, AllocError>
         ensures { IfOk result (IsRename source.now target.now) }
     {
         let source = String::from_str(alloc, source)?;

@@ -5,8 +5,8 @@ ghost use Rattle.qm_folder.specs.Clean;
 ghost use Rattle.qm_folder.specs.Clean.{IsClean};
 ghost use Rattle.qm_folder.specs.Names.{file_names, is_among, names_of};
 
-use crate::updating::{MANIFEST, STAGED};
 use crate::NewFile;
+use crate::updating::{MANIFEST, STAGED};
 
 // Whether a name is one of these.
 pub fn is_there(names: &[String], name: &str) -> bool

@@ -15,7 +15,10 @@ pub fn seen_after<'a>(calls: &'a [MemoryCall], name: &str) -> Option<&'a [u8]>
 {
     match calls {
         [] => None,
-        [MemoryCall::Wrote(other, bytes) | MemoryCall::Tore(other, bytes), past @ ..] => {
+        [
+            MemoryCall::Wrote(other, bytes) | MemoryCall::Tore(other, bytes),
+            past @ ..,
+        ] => {
             if name == other.as_str() {
                 Some(bytes.as_slice())
             } else {
@@ -48,12 +51,14 @@ fn is_written_after(calls: &[MemoryCall], name: &str) -> bool
 {
     match calls {
         [] => true,
-        [MemoryCall::Wrote(other, _) | MemoryCall::Tore(other, _), past @ ..] => {
-            name != other.as_str() && is_written_after(past, name)
-        }
-        [MemoryCall::Synced(other) | MemoryCall::Removed(other), past @ ..] => {
-            name == other.as_str() || is_written_after(past, name)
-        }
+        [
+            MemoryCall::Wrote(other, _) | MemoryCall::Tore(other, _),
+            past @ ..,
+        ] => { name != other.as_str() && is_written_after(past, name) }
+        [
+            MemoryCall::Synced(other) | MemoryCall::Removed(other),
+            past @ ..,
+        ] => { name == other.as_str() || is_written_after(past, name) }
         [MemoryCall::Renamed(source, target), past @ ..] => {
             if name == target.as_str() {
                 is_written_after(past, source.as_str())
@@ -81,9 +86,10 @@ pub fn could_leave_after(calls: &[MemoryCall], name: &str, content: Option<&[u8]
 {
     match calls {
         [] => content.is_none(),
-        [MemoryCall::Wrote(other, _) | MemoryCall::Tore(other, _), past @ ..] => {
-            name == other.as_str() || could_leave_after(past, name, content)
-        }
+        [
+            MemoryCall::Wrote(other, _) | MemoryCall::Tore(other, _),
+            past @ ..,
+        ] => { name == other.as_str() || could_leave_after(past, name, content) }
         [MemoryCall::SyncedNames, past @ ..] => {
             (!is_written_after(past, name) || is_same(content, seen_after(past, name)))
                 && could_leave_after(past, name, content)

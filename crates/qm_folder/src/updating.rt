@@ -51,11 +51,7 @@ pub fn update<F: Folder>(
 }
 
 // Brings the new files and the new manifest to the disk, where they don't count yet.
-fn prepare<F: Folder>(
-    folder: &mut F,
-    files: &[NewFile],
-    manifest: &[u8],
-) -> Result<(), FolderError>
+fn prepare<F: Folder>(folder: &mut F, files: &[NewFile], manifest: &[u8]) -> Result<(), FolderError>
     requires settled { F.is_told → IsSettled (F.disk folder.old) }
     requires distinct { AreDistinct (file_names files.now) }
     requires no_staged { is_among (file_names files.now) STAGED.now ≡ false }

@@ -1,7 +1,7 @@
 use Rattle.std.proofs.Common.{◌≡◌, ◌+◌, List, ◌∷◌, drop, String, Vec, sym, ◌∙◌, ap, subst}
 use Rattle.std.proofs.lemmas.List.{drop_all, drop_more}
 use Rattle.std.specs.declared.alloc.Global.{Global}
-use Rattle.qm_folder.specs.Names.{Name, names_of}
+use Rattle.qm_folder.specs.Names.{names_of}
 use Rattle.qm_folder.specs.declared.memory_call.MemoryCall.{MemoryCall}
 use Rattle.qm_folder.proofs.GivenNames.{AreLeft, all_left, given_none, given_one, none_left}
 use Rattle.qm_folder.proofs.replay.names_after.Goals as goal

@@ -27,7 +27,7 @@ pub returns-clause-prepared : goal.returns-clause-prepared
 returns-clause-prepared g c = λ told.
     on_ok_weaker c.sync_names.result
     (λ durable. prepared c.args.files.now c.args.manifest.now _ (g.F.Folder.disk c.write_files.new.folder) (g.F.Folder.disk c.write_synced.new.folder) _ (c.requires.settled told) c.requires.no_staged
-      (c.write_files.ensures.others told) (c.in_ok-write_files.ensures.written told) (c.write_synced.ensures.others told) (c.in_ok-write_synced.ensures.written told) (c.sync_names.ensures.kept told) durable)
+    (c.write_files.ensures.others told) (c.in_ok-write_files.ensures.written told) (c.write_synced.ensures.others told) (c.in_ok-write_synced.ensures.written told) (c.sync_names.ensures.kept told) durable)
     (c.sync_names.ensures.durable told)
 
 pub returns-clause-others : goal.returns-clause-others

@@ -1,6 +1,5 @@
-use Rattle.std.proofs.Common.{◌≡◌, ◌<◌, length, get_or, map, rules, arith, subst, sym}
+use Rattle.std.proofs.Common.{◌<◌, length, rules, arith}
 use Rattle.std.specs.String.{string_bytes}
-use Rattle.qm_folder.specs.Names.{Name, is_among}
 use Rattle.qm_folder.specs.Calls.{HasCause, IsRemoved}
 use Rattle.qm_folder.proofs.Causes.{cause_after, no_cause}
 use Rattle.qm_folder.proofs.Files.{IsAway, name_done, name_run}

@@ -1,4 +1,4 @@
-use Rattle.std.proofs.Common.{inl, inr, subst, sym, rules}
+use Rattle.std.proofs.Common.{inl, inr, rules}
 use Rattle.std.proofs.lemmas.Result.{on_ok_weaker}
 use Rattle.qm_folder.specs.Calls.{HasCause}
 use Rattle.qm_folder.specs.Update.{change}

@@ -1,4 +1,4 @@
-use Rattle.std.proofs.Common.{◌≡◌, ◌<◌, length, rules, arith}
+use Rattle.std.proofs.Common.{◌<◌, length, rules, arith}
 use Rattle.qm_folder.specs.Names.{file_name}
 use Rattle.qm_folder.specs.Calls.{HasCause}
 use Rattle.qm_folder.proofs.Causes.{cause_after, no_cause}
