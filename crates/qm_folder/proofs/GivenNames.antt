@@ -1,13 +1,16 @@
 -- The names under which files stand are names that calls have given.
-use Rattle.std.proofs.Common.{◌≡◌, ◌&&◌, ◌||◌, cond, Bool, true, false, List, [], ◌∷◌, ◌++◌, Option, None, Some, is_some, refl, sym, ◌∙◌, ap}
+use Rattle.std.proofs.Common.{◌≡◌, ◌&&◌, ◌||◌, cond, Bool, true, false, List, [], ◌∷◌, ◌++◌, Option, None, Some, is_some, refl, sym, ◌∙◌, ap, String}
+use Rattle.std.proofs.lemmas.Bool.{both_ways}
+use Rattle.std.proofs.lemmas.List.{map-append}
 use Rattle.std.specs.Str.{bytes_eq}
 use Rattle.std.specs.String.{string_bytes}
-use Rattle.qm_folder.specs.Names.{Name, is_among}
+use Rattle.std.specs.declared.alloc.Global.{Global}
+use Rattle.qm_folder.specs.Names.{AreDistinct, Name, is_among, names_of}
 use Rattle.qm_folder.specs.Disk.{Content}
 use Rattle.qm_folder.specs.Memory.{IsAdded, name_given, seen_after}
 use Rattle.qm_folder.specs.declared.memory_call.MemoryCall.{MemoryCall}
 use Rattle.qm_folder.specs.declared.memory_call.MemoryCall.TheVariants.{Wrote, Tore, Synced, SyncedNames, Renamed, Removed, Looked, Failed}
-use Rattle.qm_folder.proofs.NameLists.{same_name}
+use Rattle.qm_folder.proofs.NameLists.{neither, none_of_both, other_name, same_itself, same_name}
 
 abbrev pub is_name : Option Name → Name → Bool
 is_name None n = false
@@ -130,3 +133,16 @@ or_implied false false s so = refl
 pub there_before : (name : Name) (calls : List MemoryCall) (names : List Name) → is_among names name ≡ true → IsAdded name calls names names
 there_before name calls names there n =
     or_implied (is_among names n) (bytes_eq n name) (is_some (seen_after calls n)) (λ same. ap (λ (m : Name). is_among names m) (same_name n name same) ∙ there)
+
+not_same : (n m : Name) → bytes_eq n m ≡ false → bytes_eq m n ≡ false
+not_same n m other = other_name m n (λ same. both_ways (bytes_eq n m) other (ap (λ (x : Name). bytes_eq n x) same ∙ same_itself n))
+
+pub distinct_more : (names : List Name) (name : Name) → AreDistinct names → is_among names name ≡ false → AreDistinct (names ++ name ∷ [])
+distinct_more [] name distinct other = (refl, tt)
+distinct_more (m ∷ names) name distinct other =
+    let parts = neither (bytes_eq name m) (is_among names name) other in
+    (among_last names name m ∙ none_of_both (is_among names m) (bytes_eq m name) distinct.0 (not_same name m parts.0), distinct_more names name distinct.1 parts.1)
+
+-- the names of texts with one behind them
+pub names_with : (old : List (String Global)) (name : Name) (new : List (String Global)) (text : String Global) → new ≡ old ++ text ∷ [] → string_bytes text ≡ name → names_of new ≡ names_of old ++ name ∷ []
+names_with old name new text more is = ap names_of more ∙ map-append string_bytes old (text ∷ []) ∙ ap (λ (m : Name). names_of old ++ m ∷ []) is

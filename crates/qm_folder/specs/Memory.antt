@@ -9,7 +9,7 @@ use Rattle.std.specs.declared.alloc.AllocError.{AllocError}
 use Rattle.qm_folder.specs.Names.{Name, is_among}
 use Rattle.qm_folder.specs.Disk.{Content, Contents, Disk}
 use Rattle.qm_folder.specs.declared.folder_error.FolderError.{FolderError}
-use Rattle.qm_folder.specs.declared.folder_error.FolderError.TheVariants.{Memory}
+use Rattle.qm_folder.specs.declared.folder_error.FolderError.TheVariants.{Memory, Failed as FolderFailed}
 use Rattle.qm_folder.specs.declared.memory_call.MemoryCall.{MemoryCall}
 use Rattle.qm_folder.specs.declared.memory_call.MemoryCall.TheVariants.{Wrote, Tore, Synced, SyncedNames, Renamed, Removed, Looked, Failed}
 
@@ -122,7 +122,7 @@ Fails _ failed = failed ≡ Failed
 
 -- a call that was refused for want of memory is not kept, and one that has failed is kept as such
 abbrev pub Refuses : MemoryCall → List MemoryCall → List MemoryCall → FolderError → Type 0
-Refuses call old new error = ((error ≡ Memory) × (new ≡ old)) ⊎ ((failed : MemoryCall) × Fails call failed × (new ≡ failed ∷ old))
+Refuses call old new error = ((error ≡ Memory) × (new ≡ old)) ⊎ ((error ≡ FolderFailed) × ((failed : MemoryCall) × Fails call failed × (new ≡ failed ∷ old)))
 
 -- a call that there was memory for is kept, or refused
 abbrev pub Takes : Result MemoryCall AllocError → List MemoryCall → List MemoryCall → Result (Unit {0}) FolderError → Type 0

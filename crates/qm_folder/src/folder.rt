@@ -1,7 +1,7 @@
 //! A folder of named files.
 
 ghost use Rattle.std.specs.Prelude.{◌≡◌, ◌≢◌, ◌≤◌, [], ◌∷◌, Bool, List, ℕ, IfOk, IsSome, OnOk, is_some, option_map};
-ghost use Rattle.qm_folder.specs.Names.{Name, is_among, names_of};
+ghost use Rattle.qm_folder.specs.Names.{AreDistinct, Name, is_among, names_of};
 ghost use Rattle.qm_folder.specs.Disk.{Content, Contents, CouldLeave, Disk};
 ghost use Rattle.qm_folder.specs.Calls.{Elapses, HasCause, IsRemoved, IsRenamed, KeepsBut, LeavesWritten, MayRemove, MayRename, Stands};
 
@@ -83,6 +83,7 @@ pub trait Folder {
     ///
     /// Refused for want of memory, or where the folder fails.
     fn list(&mut self, alloc: Global) -> Result<Vec<String>, FolderError>
+        ensures once { is_told → IfOk result (λ v. AreDistinct (names_of v.items)) }
         ensures names { is_told → IfOk result (λ v. (n : Name) → is_among (names_of v.items) n ≡ is_some ((disk self.old).seen n)) }
         ensures kept { is_told → KeepsBut [] (disk self.old) (disk self.new) }
         ensures time { is_told → Elapses (disk self.old) (disk self.new) }

@@ -17,11 +17,13 @@ pub struct MemoryFolder {
 
 impl MemoryFolder {
     ghost use Rattle.qm_folder.specs.MemoryFolder.{calls_of};
-    ghost use Rattle.qm_folder.specs.Memory.{Takes, could_leave};
+    ghost use Rattle.qm_folder.specs.Memory.{Takes, could_leave, disk_after};
+    ghost use Rattle.qm_folder.specs.Disk.{IsSettled};
 
     /// A folder without files.
     pub fn new(alloc: Global) -> MemoryFolder
-        ensures { calls_of result ≡ [] }
+        ensures empty { calls_of result ≡ [] }
+        ensures settled { IsSettled (disk_after (calls_of result)) }
     {
         MemoryFolder {
             alloc,

@@ -1,7 +1,7 @@
 //! What calls, the last first, have made of a folder.
 
 ghost use Rattle.std.specs.Prelude.{◌≡◌, Bool, ℕ, List, IfOk, OnOk, is_some, option_map};
-ghost use Rattle.qm_folder.specs.Names.{Name, is_among, names_of};
+ghost use Rattle.qm_folder.specs.Names.{AreDistinct, Name, is_among, names_of};
 ghost use Rattle.qm_folder.specs.Memory;
 ghost use Rattle.qm_folder.specs.Memory.{IsAdded, could_leave, is_written, name_given, same_content};
 
@@ -111,7 +111,8 @@ pub fn could_leave_after(calls: &[MemoryCall], name: &str, content: Option<&[u8]
 
 // The names under which files stand, each once.
 pub fn names_after(alloc: Global, calls: &[MemoryCall]) -> Result<Vec<String>, AllocError>
-    ensures { IfOk result (λ v. (n : Name) → is_among (names_of v.items) n ≡ is_some (Memory.seen_after calls.now n)) }
+    ensures once { IfOk result (λ v. AreDistinct (names_of v.items)) }
+    ensures names { IfOk result (λ v. (n : Name) → is_among (names_of v.items) n ≡ is_some (Memory.seen_after calls.now n)) }
 {
     let mut names = Vec::new(alloc);
     // what is there, and what stands of the names that calls from this one on give, is all
@@ -143,7 +144,8 @@ fn add_name(
     name: &str,
     calls: &[MemoryCall],
 ) -> Result<(), AllocError>
-    ensures { OnOk result (IsAdded name.now calls.now (names_of names.old.items) (names_of names.new.items)) }
+    ensures once { OnOk result (AreDistinct (names_of names.old.items) → AreDistinct (names_of names.new.items)) }
+    ensures added { OnOk result (IsAdded name.now calls.now (names_of names.old.items) (names_of names.new.items)) }
 {
     if seen_after(calls, name).is_none() || is_there(names, name) {
         return Ok(());
