@@ -2,7 +2,7 @@
 
 import itertools
 
-from generators import cursors, indexes, postings, queries, runs, scripts, sets, stored, tables, trees, weights
+from generators import cursors, folders, indexes, postings, queries, runs, scripts, sets, stored, tables, trees, weights
 
 GENERATORS = {
     "runs of Booleans": tables.runs_of_booleans,
@@ -29,6 +29,7 @@ GENERATORS = {
     "runs": runs.by_chance,
     "indexes": indexes.by_chance,
     "stored rows": stored.by_chance,
+    "folders": folders.by_chance,
     "scripts": scripts.by_chance,
 }
 
@@ -57,6 +58,7 @@ TABLES = {
         ("blocks of small lists", list(itertools.product((1, 2, 3, 128), postings.SMALL_LISTS))),
     ],
     "cases_store": [],
+    "cases_folder": [],
     "cases_scripts": [],
 }
 
@@ -67,5 +69,6 @@ BY_CHANCE = {
     "cases_cursors": ["cursors", "windows", "cursors", "cursors", "sets"],
     "cases_postings": ["postings", "runs", "indexes"],
     "cases_store": ["stored rows"],
+    "cases_folder": ["folders"],
     "cases_scripts": ["scripts"],
 }

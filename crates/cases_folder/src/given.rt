@@ -96,11 +96,7 @@ impl GivenChange {
 }
 
 // Adds bytes, and the front half of them.
-fn add_content(
-    alloc: Global,
-    contents: &mut Vec<Vec<u8>>,
-    bytes: &[u8],
-) -> Result<(), AllocError> {
+fn add_content(alloc: Global, contents: &mut Vec<Vec<u8>>, bytes: &[u8]) -> Result<(), AllocError> {
     contents.push(bytes.to_vec(alloc)?)?;
     contents.push(bytes[..bytes.len() / 2].to_vec(alloc)?)?;
     Ok(())
@@ -151,7 +147,10 @@ impl GivenChange {
     }
 
     /// The names in a manifest.
-    pub fn names<'a>(alloc: Global, manifest: Option<&'a [u8]>) -> Result<Vec<&'a str>, AllocError> {
+    pub fn names<'a>(
+        alloc: Global,
+        manifest: Option<&'a [u8]>,
+    ) -> Result<Vec<&'a str>, AllocError> {
         match manifest {
             Some(bytes) => named(alloc, bytes),
             None => Ok(Vec::new(alloc)),

@@ -39,6 +39,14 @@ impl Left {
     }
 }
 
+/// What a row is answered where a call of a folder is refused.
+pub fn fault_of(error: FolderError) -> Fault {
+    match error {
+        FolderError::Memory => Fault::Refused(QueryError::Memory),
+        FolderError::Failed => Fault::NotAllowed,
+    }
+}
+
 /// All that a crash may leave of a folder, each name for itself.
 pub fn left_of(
     alloc: Global,
@@ -53,7 +61,14 @@ pub fn left_of(
     };
     add_left(alloc, folder, change, &contents, None, &mut left)?;
     for manifest in &contents {
-        add_left(alloc, folder, change, &contents, Some(manifest.as_slice()), &mut left)?;
+        add_left(
+            alloc,
+            folder,
+            change,
+            &contents,
+            Some(manifest.as_slice()),
+            &mut left,
+        )?;
     }
     Ok(left)
 }
@@ -143,10 +158,11 @@ pub fn write_names<F: Folder>(
     folder: &mut F,
     text: &mut String,
 ) -> Result<(), Fault> {
-    let Ok(mut names) = folder.list(alloc) else {
-        return Err(Fault::Refused(QueryError::Memory));
+    let mut names = match folder.list(alloc) {
+        Ok(names) => names,
+        Err(error) => return Err(fault_of(error)),
     };
-    names.sort()?;
+    names.sort_unstable();
     for name in &names {
         write_space(text)?;
         text.push_str(name.as_str())?;
@@ -162,7 +178,7 @@ pub fn write_file<F: Folder>(
     text: &mut String,
 ) -> Result<(), Fault> {
     match folder.read(alloc, name) {
-        Err(_) => Err(Fault::Refused(QueryError::Memory)),
+        Err(error) => Err(fault_of(error)),
         Ok(None) => Ok(text.push_str("none")?),
         Ok(Some(bytes)) => match str::from_utf8(&bytes) {
             Ok(read) => Ok(text.push_str(read)?),

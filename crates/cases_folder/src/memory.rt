@@ -6,7 +6,7 @@ ghost use Rattle.qm_folder.specs.Memory.{disk_after};
 ghost use Rattle.qm_folder.specs.MemoryFolder.{calls_of};
 
 use crate::given::GivenChange;
-use crate::left::{left_of, seen_in, write_file, write_names, write_which};
+use crate::left::{fault_of, left_of, seen_in, write_file, write_names, write_which};
 use cases::{Asker, Fault, Memory, end_refusals};
 use qm_folder::{FolderError, MemoryFolder, is_clean, update};
 use qm_schema::QueryError;
@@ -88,7 +88,7 @@ impl InMemory {
         let _ = make(&mut folder, &self.change, alloc, Memory::Ample)?;
         match seen_in(alloc, &mut folder, &self.change) {
             Ok(which) => Ok(write_which(which, text)?),
-            Err(_) => Err(Fault::Refused(QueryError::Memory)),
+            Err(error) => Err(fault_of(error)),
         }
     }
 
@@ -102,13 +102,22 @@ impl InMemory {
     }
 
     // `names` and `file NAME`, behind the change.
-    fn read(&self, alloc: Global, call: &str, text: &mut String) -> Result<(), Fault> {
+    fn read(
+        &self,
+        alloc: Global,
+        call: &str,
+        memory: Memory,
+        text: &mut String,
+    ) -> Result<(), Fault> {
         let mut folder = begun(alloc, &self.change)?;
         let _ = make(&mut folder, &self.change, alloc, Memory::Ample)?;
-        match call.strip_prefix("file ") {
+        memory.begin(alloc);
+        let told = match call.strip_prefix("file ") {
             Some(name) => write_file(alloc, &mut folder, name, text),
             None => write_names(alloc, &mut folder, text),
-        }
+        };
+        end_refusals(alloc);
+        told
     }
 }
 
@@ -131,7 +140,9 @@ impl Asker for InMemory {
         match call {
             "update" => self.update(alloc, memory, text),
             "calls" => self.count(alloc, text),
-            _ if call == "names" || call.starts_with("file ") => self.read(alloc, call, text),
+            _ if call == "names" || call.starts_with("file ") => self.read(
+                alloc, call, memory, text,
+            ),
             _ => Err(Fault::NotUnderstood),
         }
     }

@@ -1,17 +1,13 @@
 //! Changes of an index in a folder of the system.
 
 use crate::given::GivenChange;
-use crate::left::{seen_in, write_file, write_names, write_which};
+use crate::left::{fault_of, seen_in, write_file, write_names, write_which};
 use cases::{Asker, Fault, Memory, end_refusals};
-use qm_folder::{FolderError, NewFile, SystemFolder, is_clean, update};
-use qm_schema::QueryError;
+use qm_folder::{NewFile, SystemFolder, is_clean, update};
 use std::alloc::Global;
-use std::env;
-use std::fs;
-use std::io;
 use std::os::unix::fs::PermissionsExt;
-use std::process;
 use std::rt::Files;
+use std::{env, fs, io, process};
 
 /// A path in which nothing stands yet.
 pub fn scratch(rt: &HostRuntime) -> io::Result<String> {
@@ -31,14 +27,20 @@ pub struct OnDisk<'a, R: Files + AllocGlobal + Clone + Drop> {
 impl<'a, R: Files + AllocGlobal + Clone + Drop> OnDisk<'a, R> {
     // Makes the index of before and then the change, and tells what a row asks.
     fn run(&self, alloc: Global, call: &str, text: &mut String) -> Result<(), Fault> {
-        let Ok(mut folder) = SystemFolder::open(self.files, self.scratch) else {
-            return Err(Fault::NotAllowed);
+        let mut folder = match SystemFolder::open(self.files, self.scratch) {
+            Ok(folder) => folder,
+            Err(error) => return Err(fault_of(error)),
         };
         let gone: Vec<String> = Vec::new(alloc);
         if let Some(manifest) = &self.change.manifest_before {
             make(&mut folder, &self.change.before, manifest, &gone)?;
         }
-        make(&mut folder, &self.change.files, &self.change.manifest, &self.change.gone)?;
+        make(
+            &mut folder,
+            &self.change.files,
+            &self.change.manifest,
+            &self.change.gone,
+        )?;
         self.tell(alloc, &mut folder, call, text)
     }
 
@@ -59,7 +61,7 @@ impl<'a, R: Files + AllocGlobal + Clone + Drop> OnDisk<'a, R> {
             "names" => write_names(alloc, folder, text),
             "update" => match seen_in(alloc, folder, &self.change) {
                 Ok(which) => Ok(write_which(which, text)?),
-                Err(_) => Err(Fault::NotAllowed),
+                Err(error) => Err(fault_of(error)),
             },
             _ => Err(Fault::NotUnderstood),
         }
@@ -87,8 +89,7 @@ fn make<R: Files + AllocGlobal + Clone + Drop>(
     }
     match update(folder, files, manifest, gone) {
         Ok(()) => Ok(()),
-        Err(FolderError::Memory) => Err(Fault::Refused(QueryError::Memory)),
-        Err(FolderError::Failed) => Err(Fault::NotAllowed),
+        Err(error) => Err(fault_of(error)),
     }
 }
 

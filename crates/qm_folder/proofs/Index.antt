@@ -1,13 +1,14 @@
 -- What a crash leaves of an update is the index of before or that of after, whatever names its manifests name.
-use Rattle.std.proofs.Common.{◌≡◌, ◌⊎◌, inl, inr, ℕ, suc, false, List, [], ◌∷◌, ◌++◌, get_or, map, All, refl, sym, ◌∙◌, ap, subst, arith}
+use Rattle.std.proofs.Common.{◌≡◌, inl, inr, ℕ, suc, false, List, [], ◌∷◌, ◌++◌, get_or, map, All, refl, sym, ◌∙◌, ap, subst, arith}
 use Rattle.std.proofs.lemmas.Bool.{cases_Bool}
 use Rattle.std.specs.Str.{bytes_eq}
 use Rattle.qm_folder.specs.Names.{Name, file_name, file_names, is_among}
-use Rattle.qm_folder.specs.Disk.{Content, Contents, Disk}
-use Rattle.qm_folder.specs.Index.{NamesOwn, index, named_by}
+use Rattle.qm_folder.specs.Disk.{Content, Contents, Disk, LeavesOnly}
+use Rattle.qm_folder.specs.Index.{IsEitherIndex, LeavesIndex, NamesOwn, index, named_by}
 use Rattle.qm_folder.specs.Clean.{IsClean}
 use Rattle.qm_folder.specs.Update.{Change, IsAfter, IsBefore, IsBeforeOrAfter}
 use Rattle.qm_folder.specs.declared.updating.TheConstants.{MANIFEST, STAGED}
+use Rattle.qm_folder.proofs.Moments.{weakened}
 use Rattle.qm_folder.proofs.NameLists.{among_each, neither, none_of_both, same_name}
 
 same_map : (ns : List Name) (c d : Contents) → All (λ n. c n ≡ d n) ns → map c ns ≡ map d ns
@@ -56,8 +57,9 @@ module _ (named : List ℕ → List Name) (it : Change) (old : Disk) (clean : Is
         same_index named c after manifests
         (subst (λ (m : Content). All (λ n. c n ≡ after n) (named_by named m)) (sym is_after.manifest) (λ k d lt. same_at (get_or (named it.manifest) k d) (own.after k d lt)))
 
-  -- Of what a crash leaves of an update, and of what is seen after one that was refused, the index is that of before or that
-  -- of a folder that was updated.
-  pub before_or_after : (after c : Contents) → IsAfter it old after → IsBeforeOrAfter it old c → (index named c ≡ index named old.seen) ⊎ (index named c ≡ index named after)
-  before_or_after after c is_after (inl before) = inl (before_index c before)
-  before_or_after after c is_after (inr too) = inr (after_index after c is_after too)
+  either_index : (c : Contents) → IsBeforeOrAfter it old c → IsEitherIndex named it old c
+  either_index c (inl before) = inl (before_index c before)
+  either_index c (inr too) = inr (λ after is_after. after_index after c is_after too)
+
+pub leaves_index : (it : Change) (old new : Disk) → IsClean (file_names it.files) it.gone → LeavesOnly old new (IsBeforeOrAfter it old) → LeavesIndex it old new
+leaves_index it old new clean leaves named own = weakened old new (IsBeforeOrAfter it old) (IsEitherIndex named it old) leaves (either_index named it old clean own)

@@ -17,7 +17,7 @@ pub record IsClean (new gone : List Name) : Type 0 where
 abbrev pub is_free : List Name → Name → Bool
 is_free gone n = not (bytes_eq n MANIFEST.now) && not (bytes_eq n STAGED.now) && not (is_among gone n)
 
--- whether the names do, one after another
+-- whether no name gets in another's way, by one new name after another
 abbrev pub is_clean : List Name → List Name → Bool
 is_clean [] gone = not (is_among gone MANIFEST.now) && not (is_among gone STAGED.now)
 is_clean (n ∷ ns) gone = is_free gone n && not (is_among ns n) && is_clean ns gone

@@ -74,7 +74,7 @@ has_failed (Tore name bytes) = true
 has_failed Failed = true
 has_failed _ = false
 
--- how many of the calls have
+-- how many of some calls have failed
 abbrev pub failures : List MemoryCall → ℕ
 failures [] = 0
 failures (call ∷ past) = if has_failed call then failures past + 1 else failures past
@@ -103,15 +103,19 @@ only_now (call ∷ past) c (inr earlier) = absurd (lt_irrefl (length past) earli
 
 -- ---- how a call is kept
 
+-- the call is a write of these bytes under this name
 abbrev pub IsWrite : Name → List ℕ → MemoryCall → Type 0
 IsWrite name bytes call = (n : String Global) × (b : Vec ℕ Global) × (call ≡ Wrote n b) × (string_bytes n ≡ name) × (b.items ≡ bytes)
 
+-- the call syncs the file of this name
 abbrev pub IsSync : Name → MemoryCall → Type 0
 IsSync name call = (n : String Global) × (call ≡ Synced n) × (string_bytes n ≡ name)
 
+-- the call gives the file of one name another
 abbrev pub IsRename : Name → Name → MemoryCall → Type 0
 IsRename source target call = (s : String Global) × (t : String Global) × (call ≡ Renamed s t) × (string_bytes s ≡ source) × (string_bytes t ≡ target)
 
+-- the call removes the file of this name
 abbrev pub IsRemoval : Name → MemoryCall → Type 0
 IsRemoval name call = (n : String Global) × (call ≡ Removed n) × (string_bytes n ≡ name)
 

@@ -27,5 +27,6 @@ names_of texts = map string_bytes texts
 abbrev pub file_name : NewFile → Name
 file_name f = string_bytes f.name
 
+-- the names of some files
 abbrev pub file_names : List NewFile → List Name
 file_names files = map file_name files

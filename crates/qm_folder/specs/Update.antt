@@ -13,6 +13,7 @@ pub record Change : Type 0 where
   pub manifest : List ℕ
   pub gone : List Name
 
+-- the change that an update is asked for
 abbrev pub change : List NewFile → List ℕ → List (String Global) → Change
 change files manifest gone = record { files = files; manifest = manifest; gone = names_of gone }
 

@@ -6,6 +6,7 @@ ghost use Rattle.qm_folder.specs.Disk.{IsSettled, LeavesOnly};
 ghost use Rattle.qm_folder.specs.Calls.{HasCause, KeepsBut, MayRename};
 ghost use Rattle.qm_folder.specs.Steps.{AreRemoved, AreWritten, IsCleared, IsCommitted, IsLeftBut, IsLeftByCommit, IsPrepared, IsWritten};
 ghost use Rattle.qm_folder.specs.Clean.{IsClean};
+ghost use Rattle.qm_folder.specs.Index.{LeavesIndex};
 ghost use Rattle.qm_folder.specs.Update.{IsBeforeOrAfter, IsUpdated, change};
 
 use crate::{Folder, FolderError, NewFile};
@@ -39,6 +40,9 @@ pub fn update<F: Folder>(
     // A crash at any moment of the call leaves the index of before or that of after.
     ensures any_moment { F.is_told → LeavesOnly (F.disk folder.old) (F.disk folder.new)
         (IsBeforeOrAfter (change files.now manifest.now gone.now) (F.disk folder.old)) }
+
+    // An index is its manifest and the files that this names, whatever they are.
+    ensures index { F.is_told → LeavesIndex (change files.now manifest.now gone.now) (F.disk folder.old) (F.disk folder.new) }
 
     ensures seen { F.is_told → IsBeforeOrAfter (change files.now manifest.now gone.now) (F.disk folder.old) (F.disk folder.new).seen }
 

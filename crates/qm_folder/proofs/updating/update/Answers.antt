@@ -3,6 +3,7 @@ use Rattle.std.proofs.lemmas.Result.{on_ok_weaker}
 use Rattle.qm_folder.specs.Calls.{HasCause}
 use Rattle.qm_folder.specs.Update.{change}
 use Rattle.qm_folder.proofs.Causes.{cause_after}
+use Rattle.qm_folder.proofs.Index.{leaves_index}
 use Rattle.qm_folder.proofs.Updates.{after_all, after_commit, first_part, second_part, seen_then, third_part, updated}
 use Rattle.qm_folder.proofs.updating.update.Goals as goal
 
@@ -24,6 +25,9 @@ returns-in_err-prepare-clause-any_moment g c = λ told.
     let it = change c.args.files.now c.args.manifest.now c.args.gone.now in
     first_part it _ c.requires.clean _ (c.requires.settled told) (c.prepare.ensures.any_moment told)
 
+pub returns-in_err-prepare-clause-index : goal.returns-in_err-prepare-clause-index
+returns-in_err-prepare-clause-index g c = λ told. leaves_index (change c.args.files.now c.args.manifest.now c.args.gone.now) _ _ c.requires.clean (returns-in_err-prepare-clause-any_moment g c told)
+
 pub returns-in_err-prepare-clause-seen : goal.returns-in_err-prepare-clause-seen
 returns-in_err-prepare-clause-seen g c = λ told. inl (c.prepare.ensures.others told).seen
 
@@ -32,6 +36,9 @@ returns-in_err-commit-clause-any_moment g c = λ told.
     let it = change c.args.files.now c.args.manifest.now c.args.gone.now in
     second_part it _ c.requires.clean _ _ (c.in_ok-prepare.ensures.prepared told) (c.prepare.ensures.others told)
     (first_part it _ c.requires.clean _ (c.requires.settled told) (c.prepare.ensures.any_moment told)) (c.commit.ensures.any_moment told)
+
+pub returns-in_err-commit-clause-index : goal.returns-in_err-commit-clause-index
+returns-in_err-commit-clause-index g c = λ told. leaves_index (change c.args.files.now c.args.manifest.now c.args.gone.now) _ _ c.requires.clean (returns-in_err-commit-clause-any_moment g c told)
 
 pub returns-in_err-commit-clause-seen : goal.returns-in_err-commit-clause-seen
 returns-in_err-commit-clause-seen g c = λ told.
@@ -58,6 +65,9 @@ returns-clause-any_moment g c = λ told.
     let first = first_part it _ c.requires.clean _ (c.requires.settled told) (c.prepare.ensures.any_moment told) in
     let second = second_part it _ c.requires.clean _ _ (c.in_ok-prepare.ensures.prepared told) (c.prepare.ensures.others told) first (c.commit.ensures.any_moment told) in
     third_part it _ c.requires.clean _ _ after committed.settled second (c.clear.ensures.any_moment told)
+
+pub returns-clause-index : goal.returns-clause-index
+returns-clause-index g c = λ told. leaves_index (change c.args.files.now c.args.manifest.now c.args.gone.now) _ _ c.requires.clean (returns-clause-any_moment g c told)
 
 pub returns-clause-seen : goal.returns-clause-seen
 returns-clause-seen g c = λ told.
