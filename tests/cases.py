@@ -27,6 +27,7 @@ PROGRAMS = {
     "cases_weights": ["qm_scorer", "qm_weight"],
     "cases_queries": ["qm_query"],
     "cases_store": ["qm_store", "qm_merge"],
+    "cases_folder": ["qm_folder"],
     "cases_scripts": ["qm_script"],
 }
 # how many rows by chance each program plays
@@ -36,6 +37,7 @@ ROWS = {
     "cases_weights": 200_000,
     "cases_queries": 100_000,
     "cases_store": 24_000,
+    "cases_folder": 30_000,
     "cases_scripts": 6_000,
 }
 # A program that takes longer than this many seconds is taken never to end.

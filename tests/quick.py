@@ -26,6 +26,7 @@ BUILT = {
     "cases_postings": ["--optimised"],
     "cases_cursors": ["--optimised"],
     "cases_store": ["--optimised"],
+    "cases_folder": ["--optimised"],
 }
 
 

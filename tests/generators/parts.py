@@ -4,6 +4,7 @@ import itertools
 
 from generators import (
     cursors,
+    folders,
     indexes,
     merging,
     postings,
@@ -47,6 +48,7 @@ GENERATORS = {
     "cut segments": stored_segments.cuts,
     "stored segments": stored_segments.by_chance,
     "merged segments": merging.by_chance,
+    "folders": folders.by_chance,
     "scripts": scripts.by_chance,
 }
 
@@ -75,6 +77,7 @@ TABLES = {
         ("blocks of small lists", list(itertools.product((1, 2, 3, 128), postings.SMALL_LISTS))),
     ],
     "cases_store": [("turned bits", range(stored_segments.PARTS_OF_BITS)), ("cut segments", (0,))],
+    "cases_folder": [],
     "cases_scripts": [],
 }
 
@@ -85,5 +88,6 @@ BY_CHANCE = {
     "cases_cursors": ["cursors", "windows", "cursors", "cursors", "sets"],
     "cases_postings": ["postings", "runs", "indexes"],
     "cases_store": ["stored rows", "stored segments", "merged segments"],
+    "cases_folder": ["folders"],
     "cases_scripts": ["scripts"],
 }

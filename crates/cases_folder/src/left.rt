@@ -1,0 +1,188 @@
+//! Which index a crash may leave, or has left.
+
+use crate::given::{GivenChange, Which};
+use cases::{Fault, write_space};
+use qm_folder::{Folder, FolderError, MANIFEST, MemoryFolder};
+use qm_schema::QueryError;
+use std::alloc::{AllocError, Global};
+
+/// Which indexes there are among those that a crash may leave.
+#[derive(Clone, Copy)]
+pub struct Left {
+    before: bool,
+    after: bool,
+    neither: bool,
+}
+
+impl Left {
+    fn add(&mut self, which: Which) {
+        match which {
+            Which::Before => self.before = true,
+            Which::After => self.after = true,
+            Which::Neither => self.neither = true,
+        }
+    }
+
+    /// Writes them.
+    pub fn write(self, text: &mut String) -> Result<(), AllocError> {
+        for (is_there, word) in [
+            (self.before, "before"),
+            (self.after, "after"),
+            (self.neither, "neither"),
+        ] {
+            if is_there {
+                write_space(text)?;
+                text.push_str(word)?;
+            }
+        }
+        Ok(())
+    }
+}
+
+/// What a row is answered where a call of a folder is refused.
+pub fn fault_of(error: FolderError) -> Fault {
+    match error {
+        FolderError::Memory => Fault::Refused(QueryError::Memory),
+        FolderError::Failed => Fault::NotAllowed,
+    }
+}
+
+/// All that a crash may leave of a folder, each name for itself.
+pub fn left_of(
+    alloc: Global,
+    folder: &MemoryFolder,
+    change: &GivenChange,
+) -> Result<Left, AllocError> {
+    let contents = change.contents(alloc)?;
+    let mut left = Left {
+        before: false,
+        after: false,
+        neither: false,
+    };
+    add_left(alloc, folder, change, &contents, None, &mut left)?;
+    for manifest in &contents {
+        add_left(
+            alloc,
+            folder,
+            change,
+            &contents,
+            Some(manifest.as_slice()),
+            &mut left,
+        )?;
+    }
+    Ok(left)
+}
+
+// Adds the indexes of a manifest, where a crash may leave it.
+fn add_left(
+    alloc: Global,
+    folder: &MemoryFolder,
+    change: &GivenChange,
+    contents: &[Vec<u8>],
+    manifest: Option<&[u8]>,
+    left: &mut Left,
+) -> Result<(), AllocError> {
+    if !folder.may_leave(MANIFEST, manifest) {
+        return Ok(());
+    }
+    let which = change.manifest_of(manifest);
+    let mut may_be = true;
+    for name in &GivenChange::names(alloc, manifest)? {
+        let wanted = change.content(which, name);
+        may_be = may_be && folder.may_leave(name, wanted);
+        if may_leave_other(folder, name, wanted, contents) {
+            left.add(Which::Neither);
+        }
+    }
+    left.add(if may_be { which } else { Which::Neither });
+    Ok(())
+}
+
+// Whether a crash may leave something else under a name.
+fn may_leave_other(
+    folder: &MemoryFolder,
+    name: &str,
+    wanted: Option<&[u8]>,
+    contents: &[Vec<u8>],
+) -> bool {
+    if wanted.is_some() && folder.may_leave(name, None) {
+        return true;
+    }
+    for content in contents {
+        let content = Some(content.as_slice());
+        if content != wanted && folder.may_leave(name, content) {
+            return true;
+        }
+    }
+    false
+}
+
+/// Which index is seen in a folder.
+pub fn seen_in<F: Folder>(
+    alloc: Global,
+    folder: &mut F,
+    change: &GivenChange,
+) -> Result<Which, FolderError> {
+    let manifest = folder.read(alloc, MANIFEST)?;
+    let manifest = bytes_of(&manifest);
+    let which = change.manifest_of(manifest);
+    for name in &GivenChange::names(alloc, manifest)? {
+        let content = folder.read(alloc, name)?;
+        if bytes_of(&content) != change.content(which, name) {
+            return Ok(Which::Neither);
+        }
+    }
+    Ok(which)
+}
+
+fn bytes_of(content: &Option<Vec<u8>>) -> Option<&[u8]> {
+    match content {
+        Some(bytes) => Some(bytes.as_slice()),
+        None => None,
+    }
+}
+
+/// Writes which index it is.
+pub fn write_which(which: Which, text: &mut String) -> Result<(), AllocError> {
+    write_space(text)?;
+    text.push_str(match which {
+        Which::Before => "before",
+        Which::After => "after",
+        Which::Neither => "neither",
+    })
+}
+
+/// Writes the names of a folder's files, in order.
+pub fn write_names<F: Folder>(
+    alloc: Global,
+    folder: &mut F,
+    text: &mut String,
+) -> Result<(), Fault> {
+    let mut names = match folder.list(alloc) {
+        Ok(names) => names,
+        Err(error) => return Err(fault_of(error)),
+    };
+    names.sort_unstable();
+    for name in &names {
+        write_space(text)?;
+        text.push_str(name.as_str())?;
+    }
+    Ok(())
+}
+
+/// Writes the bytes of a file, which are a text, or `none`.
+pub fn write_file<F: Folder>(
+    alloc: Global,
+    folder: &mut F,
+    name: &str,
+    text: &mut String,
+) -> Result<(), Fault> {
+    match folder.read(alloc, name) {
+        Err(error) => Err(fault_of(error)),
+        Ok(None) => Ok(text.push_str("none")?),
+        Ok(Some(bytes)) => match str::from_utf8(&bytes) {
+            Ok(read) => Ok(text.push_str(read)?),
+            Err(_) => Err(Fault::NotAllowed),
+        },
+    }
+}

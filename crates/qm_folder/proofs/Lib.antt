@@ -1,0 +1,10 @@
+mod Causes
+mod CleanNames
+mod Commits
+mod Files
+mod GivenNames
+mod Index
+mod Moments
+mod NameLists
+mod Runs
+mod Updates

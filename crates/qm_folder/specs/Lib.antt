@@ -1,0 +1,10 @@
+pub mod Names
+pub mod Disk
+pub mod Calls
+pub mod Steps
+pub mod Clean
+pub mod Update
+pub mod Memory
+pub mod MemoryFolder
+pub mod System
+pub mod Index
