@@ -1,7 +1,8 @@
 //! What is asked of a stored segment.
 
+use crate::asked_terms::{ask_terms, read_terms};
 use crate::spelled::{read_text, write_row};
-use cases::{Fault, Memory, end_refusals, number, word};
+use cases::{Fault, Memory, behind, end_refusals, number, word};
 use qm_schema::{Field, QueryError, Schema, Term};
 use qm_store::{Pieces, StoreError, StoredSegment};
 use std::alloc::Global;
@@ -14,8 +15,8 @@ pub struct Call<'a> {
     pub memory: Memory,
 }
 
-/// Answers `open`, how many documents a segment has, and `row FIELD TEXT`, the row of a term, without positions, or with
-/// them where `placed` stands behind it.
+/// Answers `open`, how many documents a segment has; `row FIELD TEXT`, the row of a term, without positions, or with them
+/// where `placed` stands behind it; and `terms FIELD:TEXT ..`, the segment that has these terms alone.
 pub fn ask<P: Pieces + Drop>(
     alloc: Global,
     source: P,
@@ -29,6 +30,13 @@ pub fn ask<P: Pieces + Drop>(
             let asked = Asked::read(alloc, words)?;
             match StoredSegment::open(alloc, source, call.schema, call.key) {
                 Ok(segment) => ask_row(alloc, &segment, &asked, call.memory, text),
+                Err(error) => write_error(error, text),
+            }
+        }
+        "terms" => {
+            let terms = read_terms(alloc, behind(words, 1))?;
+            match StoredSegment::open(alloc, source, call.schema, call.key) {
+                Ok(segment) => ask_terms(alloc, &segment, call, &terms, text),
                 Err(error) => write_error(error, text),
             }
         }

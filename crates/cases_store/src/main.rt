@@ -3,6 +3,7 @@
 #![tactic(auto)]
 
 mod asked_segment;
+mod asked_terms;
 mod error_texts;
 mod given_part;
 mod given_row;

@@ -132,8 +132,8 @@ fn ask_made(
     }
 }
 
-// All rows: the field's number, the term's text, the documents, the frequencies and the positions of each.
-fn write_rows(alloc: Global, made: &SegmentReader, text: &mut String) -> Result<(), Fault> {
+/// Writes all rows: the field's number, the term's text, the documents, the frequencies and the positions of each.
+pub fn write_rows(alloc: Global, made: &SegmentReader, text: &mut String) -> Result<(), Fault> {
     for place in 0..made.row_count() {
         write_space(text)?;
         write_row(alloc, made.row(place), text)?;
