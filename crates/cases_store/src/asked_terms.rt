@@ -23,11 +23,7 @@ pub fn read_terms(alloc: Global, words: &[&str]) -> Result<Vec<Term>, Fault> {
         let Ok(field) = field.parse::<u32>() else {
             return Err(Fault::NotUnderstood);
         };
-        terms.push(Term::from_field_text(
-            alloc,
-            Field::from_field_id(field),
-            read_text(text),
-        )?)?;
+        terms.push(Term::from_field_text(alloc, Field::from_field_id(field), read_text(text))?)?;
     }
     Ok(terms)
 }

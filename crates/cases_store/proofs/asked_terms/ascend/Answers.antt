@@ -7,4 +7,4 @@ use Rattle.cases_store.proofs.asked_terms.ascend.Goals as goal
 pub returns : goal.returns
 returns c =
     λ _. sorted_from_all_adjacent term_cmp_total c.args.terms.now no_term
-      (λ k inside. c.loop-place.invariant k no_term (omega (arith, inside, c.loop-place-test.false)))
+    (λ k inside. c.loop-place.invariant k no_term (omega (arith, inside, c.loop-place-test.false)))
