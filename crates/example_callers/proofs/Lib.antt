@@ -4,3 +4,4 @@ mod Searched
 mod PhraseFields
 mod HeldTerms
 mod WantedRows
+pub mod FileTerms

@@ -21,7 +21,7 @@ pub use best::{BestPairs, best_pairs};
 pub use bytes_callers::row_through_bytes;
 pub use callers::{Joined, collect_calls, collect_matches, count_calls, join_slices};
 pub use cursor_callers::{documents_in_enough, documents_with_term};
-pub use file_callers::row_through_file;
+pub use file_callers::{row_through_file, terms_through_file};
 pub use index_callers::{replace_document, searched_segments, unsearched_documents};
 pub use laws::{
     Both, collect_boosted, collect_reordered, join_and_collect, join_scored_and_unscored,

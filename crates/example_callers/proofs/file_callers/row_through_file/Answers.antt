@@ -9,17 +9,8 @@ use Rattle.qm_store.specs.Stored.{kept_row, stored, stored_blocks}
 use Rattle.qm_store.specs.StoredSegment.{Opened, looked_up, opened, opened_of, opened_segment}
 use Rattle.qm_store.specs.declared.store_error.StoreError.{StoreError}
 use Rattle.qm_store.proofs.FileRead.{segment-opens, term-kept}
+use Rattle.example_callers.proofs.FileTerms.{same_opened}
 use Rattle.example_callers.proofs.file_callers.row_through_file.Goals as goal
-
-abbrev shown : Opened → Result Opened StoreError → Opened
-shown x (Ok y) = y
-shown x (Err e) = x
-
-abbrev ok : Opened → Result Opened StoreError
-ok x = Ok x
-
-same_Ok : (x y : Opened) → ok x ≡ ok y → x ≡ y
-same_Ok x y e = ap (shown x) e
 
 -- what was returned is what is known to be there
 given : (result : Result (Option Row) StoreError) (found : Option (Option Row)) (x : Option Row) → GivesSome (λ row. row) result found → found ≡ Some x →
@@ -34,7 +25,7 @@ returns c =
     let t = c.args.term.now in
     let file = c.in_ok-bytes.ensures.stored in
     let placed = c.keeps_positions-has_positions.ensures ∙ (λ i. keeps_positions (c.schema-2.ensures i) (c.field.ensures i)) in
-    let shows = same_Ok (opened_of c.in_ok-stored.stored) (opened_segment key r)
+    let shows = same_opened (opened_of c.in_ok-stored.stored) (opened_segment key r)
     (sym (c.in_ok-stored.ensures.opened c.in_ok-bytes.bytes.items refl) ∙ (λ i. opened (c.schema.ensures i) key (file i))
     ∙ segment-opens key r c.in_ok-bytes.ensures.storable (omega (arith, c.ranges.key.fits)))
     in
