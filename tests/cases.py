@@ -28,6 +28,7 @@ PROGRAMS = {
     "cases_queries": ["qm_query"],
     "cases_store": ["qm_store", "qm_merge"],
     "cases_folder": ["qm_folder"],
+    "cases_parser": ["qm_parser"],
     "cases_scripts": ["qm_script"],
 }
 # how many rows by chance each program plays
@@ -37,7 +38,8 @@ ROWS = {
     "cases_weights": 200_000,
     "cases_queries": 100_000,
     "cases_store": 24_000,
-    "cases_folder": 30_000,
+    "cases_folder": 60_000,
+    "cases_parser": 60_000,
     "cases_scripts": 6_000,
 }
 # A program that takes longer than this many seconds is taken never to end.

@@ -35,12 +35,16 @@ NOT_RUN = {
     "python3 tests/cases.py": "quick.py and the gate run it; with other seeds it takes as long as one likes",
     "python3 tests/wrong_bodies.py": "the gate runs it; it takes proofs",
     "python3 examples/measure_": "a measurement: it takes minutes, some of them a proof or valgrind",
+    "python3 tests/store_costs.py": "a measurement: it takes minutes",
     "python3 examples/many_documents.py": "a measurement, by the proved program",
     "(cd crates/": "it proves, or compiles, for minutes; the gate proves and runs all programs",
+    "./birch --proved": "it proves, for an hour; tests/installed_runs.py runs it over a stand-in",
+    "make install": "tests/installed_runs.py runs it, into a folder of its own",
+    "make uninstall": "tests/installed_runs.py runs it",
     "cd crates/": "it proves, or compiles, for minutes; the gate proves and runs all programs",
 }
-NAMED = re.compile(r"`((?:crates|tests|docs|examples|cases)/[\w./+-]+|[A-Z]+\.md|crates\.txt|\.ci/run)`")
-COMMAND = re.compile(r"`((?:python3|cd|out/)[ \w][^`]*)`")
+NAMED = re.compile(r"`((?:crates|tests|docs|examples|cases|packaging)/[\w./+-]+|[A-Z]+\.md|crates\.txt|\.ci/run)`")
+COMMAND = re.compile(r"`((?:(?:python3|cd|out/|\./birch)[ \w]|make \w)[^`]*)`")
 STOOD_FOR = re.compile(r"(?<![A-Z])(CRATE|FILE|FOLDER|NAME|PATH|PROGRAM|TOPIC)(?![A-Z])")
 PROGRAM = "out/qm_search"
 # the runs so far, by their commands

@@ -1,4 +1,5 @@
-"""What a crash may leave of an update of an index in a folder, by a plain simulation that knows nothing of the program.
+"""What a crash may leave of an update of an index in a folder, by a plain simulation that knows nothing of the program; and
+what has changed between the files that an index has kept and those that are found, by sets.
 
 Of each name a folder has what is seen of it, all that a crash may leave of it, and whether what is seen is on the disk.
 A write leaves anything or nothing, a sync of a file brings its bytes to the disk, a sync of the names leaves of each file
@@ -122,3 +123,24 @@ class Change:
             if name and folder.seen.get(name) != self.content(which, name):
                 return "neither"
         return which
+
+
+def is_clean(new, gone):
+    """Whether the names of an update get in no one's way."""
+    return len({*new}) == len(new) and not {*new} & {*gone} and not {*new, *gone} & {MANIFEST, STAGED}
+
+
+SETTLING = 2_000_000_000
+
+
+def changed(kept, found):
+    """The places of the kept files that are gone, and of the found ones that are to be read. A kept file is its path, its
+    stamp and whether it is settled, a found one its path and its stamp."""
+    now = dict(found)
+    staying = {path for path, stamp, settled in kept if settled and path in now and now[path] == stamp}
+    gone = [place for place, (path, _, _) in enumerate(kept) if path not in staying]
+    return gone, [place for place, (path, _) in enumerate(found) if path not in staying]
+
+
+def is_settled(bytes_changed, changed_at, read_at):
+    return all(read_at - it >= SETTLING for it in (bytes_changed, changed_at))

@@ -11,7 +11,7 @@ has rows of what counts as refused. Then tests/refused_calls.py looks whether ea
 refused memory, tests/cases.py plays the cases, tests/format_runs.py holds two plain readings of docs/FORMAT.md against
 each other, and tests/program_runs.py and tests/birch_runs.py run the programs
 `qm_search` and `birch`; at last what docs/ has of specs/ and of crates.txt is compared with these, and the commands
-that the documents show are run. Then two tables say how many minutes each crate and each stage took, for
+that the documents show are run, and tests/installed_runs.py installs `birch`. Then two tables say how many minutes each crate and each stage took, for
 docs/GATE.md. The last line counts what passed; the exit status is 1 where anything did not. Called by .ci/run.
 """
 
@@ -46,6 +46,7 @@ COUNTED = {
     "words": r"definitions: (\d+) as specs/ says",
     "crates drawn": r"layers: (\d+) crates as crates.txt says",
     "documented commands": r"documented commands: (\d+) as wanted",
+    "installed runs": r"installed runs: (\d+) as wanted",
 }
 # what is run behind the proofs
 PLAYED = {
@@ -59,6 +60,7 @@ PLAYED = {
     "words": ["definitions.py", "--check"],
     "crates drawn": ["layers.py", "--check"],
     "documented commands": ["documented_commands.py"],
+    "installed runs": ["installed_runs.py"],
 }
 PRINTING = threading.Lock()
 

@@ -22,6 +22,7 @@ KINDS = [
     ("birch", "the search command", "#d9f0d3"),
     ("example", "examples", "#fdf3c8"),
     ("cases", "what plays the cases", "#eeeeee"),
+    ("bench", "what costs are measured by", "#f4e1ec"),
 ]
 WIDTH, HEIGHT, BETWEEN, ABOVE, MARGIN = 176, 62, 18, 40, 16
 SWEEPS = 24

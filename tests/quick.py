@@ -15,8 +15,9 @@ sys.dont_write_bytecode = True
 
 from cases import PROGRAMS, ROOT
 
-# The programs, those first that take the longest to build. The documents' commands have the search command built as
-# it stands here, not optimised; what the others play is much, or hangs on how deep a stack they need.
+# The programs, those first that take the longest to build. The search command is not optimised here, so that it checks
+# what it does (`./birch`, which the documents show, does not); what the others play is much, or hangs on how deep a
+# stack they need.
 BUILT = {
     "birch": [],
     "cases_weights": ["--optimised"],
@@ -27,6 +28,7 @@ BUILT = {
     "cases_cursors": ["--optimised"],
     "cases_store": ["--optimised"],
     "cases_folder": ["--optimised"],
+    "cases_parser": ["--optimised"],
 }
 
 
@@ -39,6 +41,7 @@ def main(words):
     assert {*PROGRAMS} < {*BUILT}
     with tempfile.TemporaryDirectory() as room:
         with ThreadPoolExecutor(os.cpu_count()) as pool:
+            pool.submit(subprocess.run, [f"{ROOT}/birch", "--version"], check=False)
             if not all(pool.map(lambda name: build(room, name), BUILT)):
                 return 1
         runs = [
@@ -51,6 +54,7 @@ def main(words):
             [f"{ROOT}/tests/definitions.py", "--check"],
             [f"{ROOT}/tests/layers.py", "--check"],
             [f"{ROOT}/tests/documented_commands.py"],
+            [f"{ROOT}/tests/installed_runs.py", f"{room}/birch"],
         ]
         failed = [subprocess.run([sys.executable, *it], check=False).returncode for it in runs]
     print("nothing of this was proved")

@@ -5,8 +5,8 @@
 
 Public calls are read from the sources: functions of a crate, of its types, and of its traits for each type
 that has them, whose answer is a `Result` of `QueryError`, `AllocError`, `RowsError`, `MergeError`, `RunError`,
-`StoreError` or `FolderError`. tests/refused_calls.txt says by which words rows name each. So with the types that have
-the traits of ROWS, whose calls can't be refused. A call or a type that is not there, a name there that no call or type
+`StoreError`, `FolderError` or `ParseError`. tests/refused_calls.txt says by which words rows name each. So with the types
+that have the traits of ROWS, whose calls can't be refused. A call or a type that is not there, a name there that no call or type
 has, and a call without such a row are printed; the exit status is 1 where there is one.
 """
 
@@ -18,7 +18,7 @@ ROOT = os.path.realpath(os.path.join(os.path.dirname(os.path.abspath(__file__)),
 TABLE = "tests/refused_calls.txt"
 CRATES = (
     "qm_docset qm_schema qm_postings qm_index qm_store qm_merge qm_folder qm_combine qm_term qm_phrase qm_scorer "
-    "qm_weight qm_query qm_script"
+    "qm_weight qm_query qm_script qm_parser"
 ).split()
 # by trait the rows that name its calls, none of which takes memory
 ROWS = {
@@ -29,7 +29,7 @@ ROWS = {
     "ExclusionSet": "contains",
     "HasLen": "len is_empty",
 }
-FAILS = re.compile(r"-> Result<.*\b(QueryError|AllocError|RowsError|MergeError|RunError|StoreError|FolderError)>")
+FAILS = re.compile(r"-> Result<.*\b(QueryError|AllocError|RowsError|MergeError|RunError|StoreError|FolderError|ParseError)>")
 ALLOCATOR = re.compile(r"\w: Global\b")
 GENERICS = r"(?:<(?:[^<>]|<[^<>]*>)*>)?"
 BLOCK = re.compile(rf"(?:pub )?(impl|trait)\b{GENERICS} (?:(\w+){GENERICS} for )?(\w+)({GENERICS})")

@@ -10,8 +10,11 @@ from typing import NamedTuple
 
 from store_model import MOST, NotThere, Reading, begun_term, number_bytes, read_row, row_parts, term_bytes
 
-HEAD = [*b"birchseg", 1, *bytes(7)]
+KIND = b"birchseg"
+VERSION = [1, *bytes(7)]
+HEAD = [*KIND, *VERSION]
 GROUP, SHORT = 128, 64
+MOST_DOCUMENTS = 2147483647
 BITS = 2**64 - 1
 
 
@@ -174,7 +177,7 @@ class Opened:
 
     def __init__(self, file, key, keeps_lengths):
         self.file, self.key, self.entries = file, key, {}
-        check_head(file)
+        check_head(KIND, file)
         try:
             index, lengths = self.ending()
             self.blocks = self.read_index(Names(self.at(index)))
@@ -229,6 +232,41 @@ class Opened:
         except NotThere:
             raise Damaged from None
 
+    def rows(self, blocks, is_chosen, keeps_positions):
+        """The rows of the chosen terms of some blocks: each a term, its documents, frequencies and positions."""
+        try:
+            found = [(term, parts) for _, piece in blocks for term, parts in self.block(piece) if is_chosen(term)]
+            places = [keeps_positions(field) for (field, _), _ in found]
+            return [(term, *self.row_of(parts[: 1 + it], it)) for (term, parts), it in zip(found, places)]
+        except NotThere:
+            raise Damaged from None
+
+    def wanted(self, wanted, kinds):
+        """The rows of what is wanted, each a field, a text, and whether all terms are that begin so."""
+        found = []
+        for one in apart(wanted):
+            first = (one[0], [*one[1]])
+            before = [block for block in self.blocks if block[0] <= first]
+            behind = [block for block in self.blocks if block[0] > first and is_meant(one, block[0])]
+            found += self.rows(before[-1:] + behind, lambda term: is_meant(one, term), keeps_positions(kinds))
+        return self.segment_of(found, kinds)
+
+    def whole(self, kinds):
+        return self.segment_of(self.rows(self.blocks, lambda term: True, keeps_positions(kinds)), kinds)
+
+    def segment_of(self, rows, kinds):
+        """How many documents there are, and these rows, where they make a segment."""
+        terms = [term for term, *_ in rows]
+        ascend = all(it < other for it, other in zip(terms, terms[1:]))
+        are_rows = ascend and all(self.is_row(kinds, *it) for it in rows)
+        if not are_rows or not 1 <= self.block_len <= 128 or self.count > MOST_DOCUMENTS:
+            raise Damaged
+        return self.count, rows
+
+    def is_row(self, kinds, term, documents, frequencies, _):
+        is_indexed = term[0] < len(kinds) and not kinds[term[0]].startswith("none")
+        return is_indexed and documents and documents[-1] < self.count and all(frequencies)
+
     def block(self, piece):
         """The terms of a block, each with where its postings and its positions stand."""
         if piece not in self.entries:
@@ -246,10 +284,32 @@ class Opened:
         return row
 
 
-def check_head(file):
-    if len(file) < 16 or bytes(file[:8]) != b"birchseg":
-        raise NoSegment("not a segment")
-    if file[:16] != HEAD:
+# ---- what is wanted
+
+
+def is_meant(one, term):
+    """Whether a term is meant by what is wanted: a field, a text, and whether all terms are that begin so."""
+    field, text, is_beginning = one
+    return term[0] == field and (bytes(term[1]).startswith(text) if is_beginning else bytes(term[1]) == text)
+
+
+def apart(wanted):
+    """What is wanted in order, without what is meant by something else of it."""
+    kept = []
+    for one in sorted(wanted, key=lambda it: (it[0], it[1], not it[2])):
+        if not any(is_meant(it, one) for it in kept):
+            kept.append(one)
+    return kept
+
+
+def keeps_positions(kinds):
+    return lambda field: field < len(kinds) and kinds[field].startswith("positions")
+
+
+def check_head(kind, file):
+    if len(file) < 16 or bytes(file[:8]) != kind:
+        raise NoSegment("another file")
+    if file[8:16] != VERSION:
         raise NoSegment("another version")
 
 

@@ -1,5 +1,5 @@
 """Cases of an index by chance: documents of texts of many fields, deletions, ends of segments, refreshes, merges,
-norms, addresses and searches, in any order."""
+norms, addresses and searches, in any order, and an index that is saved and opened in between."""
 
 from generators import spelled
 from generators.spelled import row
@@ -39,6 +39,8 @@ class Index:
         self.documents, self.deleted = [], set()
         self.ended, self.parts, self.waiting = [], [], 0
         self.is_refreshed = False
+        # what was saved, and the folder
+        self.folder = Folder()
 
     def rows(self, count):
         yield "given"
@@ -47,9 +49,10 @@ class Index:
         self.norms = NORMS[norms]
         yield f"index {self.default} {norms} {length}"
         changes = [self.add] * 16 + [self.delete] * 6 + [self.refresh] * 6
-        changes += [self.merge, self.end, self.set_weight] * 2 + [self.set_norms]
+        changes += [self.merge, self.end, self.set_weight, self.save] * 2 + [self.set_norms, self.open]
+        changes += [self.join, self.join_small, self.leave_out]
         asks = [self.segments, self.alive, self.postings, self.postings, self.weight]
-        asks += [self.address, self.number, self.norm]
+        asks += [self.address, self.number, self.norm, self.sizes, self.files]
         for _ in range(count):
             yield self.random.choice(changes)()
             if self.is_refreshed:
@@ -57,6 +60,7 @@ class Index:
         yield self.refresh()
         yield from (it() for it in (self.segments, self.alive, self.counted, self.ends, *[self.postings] * 4))
         yield from (it() for it in (self.norm, *[self.address, self.number] * 3))
+        yield from (it() for it in (self.save, self.files, self.open, self.ends, self.sizes, self.refresh, self.alive))
 
     # ---- what changes it
 
@@ -104,6 +108,30 @@ class Index:
         self.parts, self.waiting, self.is_refreshed = [], 0, False
         return row("end")
 
+    def join(self):
+        if len(self.ended) < 2:
+            return row("join", "false")
+        self.ended[-2:] = [sum(self.ended[-2:])]
+        self.folder.forget(len(self.ended) - 1)
+        return row("join", "true")
+
+    def join_small(self):
+        while len(self.ended) > 1 and self.ended[-2] < 2 * self.ended[-1]:
+            self.join()
+        return row("join_small")
+
+    def leave_out(self):
+        end = sum(self.ended)
+        gone = {it for it in self.deleted if end - sum(self.ended[-1:]) <= it < end}
+        if not gone:
+            return row("leave_out", "false")
+        left = [it for it in range(len(self.documents)) if it not in gone]
+        self.documents = [self.documents[it] for it in left]
+        self.deleted = {number for number, it in enumerate(left) if it in self.deleted}
+        self.ended[-1] -= len(gone)
+        self.folder.forget(len(self.ended) - 1)
+        return row("leave_out", "true")
+
     def refresh(self):
         self.parts, self.waiting, self.is_refreshed = parts_built(self.parts, self.waiting), 0, True
         return row("refresh")
@@ -112,6 +140,23 @@ class Index:
         count = sum(self.parts) + self.waiting
         self.parts, self.waiting, self.is_refreshed = [count] if count else [], 0, True
         return row("merge")
+
+    def save(self):
+        """Now and then by a moment before those of the last saves, where files had these."""
+        next_number = self.folder.next
+        moment = self.random.choice([next_number, next_number + 7, self.random.randint(0, 5)])
+        self.folder.save(self, moment)
+        return row(f"save {moment}")
+
+    def open(self):
+        saved = self.folder.saved
+        if saved is None:
+            return row("open", "none")
+        self.default, self.weights, self.norms = saved.default, {**saved.weights}, saved.norms
+        self.documents, self.deleted, self.ended = [*saved.documents], {*saved.deleted}, [*saved.ended]
+        self.parts, self.waiting, self.is_refreshed = [], 0, False
+        self.folder.opened()
+        return row("open")
 
     # ---- what is asked of it
 
@@ -145,6 +190,12 @@ class Index:
     def ends(self):
         return row("ended", len(self.ended))
 
+    def sizes(self):
+        return row("ended_segments", " ".join(map(str, self.ended)))
+
+    def files(self):
+        return row("files", " ".join(sorted(self.folder.names)) or "-")
+
     def postings(self):
         """Those of a term over all segments: deleted documents keep theirs."""
         name, word = self.random.choice(list(self.fields)), self.random.choice(WORDS)
@@ -156,6 +207,53 @@ class Index:
         words = self.random.choices([*WORDS, "other"], k=self.random.choice([1, 2, 4]))
         points = sum(self.weights.get(it, self.default) for it in words)
         return row(f"weight {' '.join(words)}", points if points <= GREATEST else "refused ScoreBound")
+
+
+class Saved:
+    """What a save keeps of an index: what was ended, and what terms weigh."""
+
+    def __init__(self, index):
+        count = sum(index.ended)
+        self.default, self.weights, self.norms = index.default, {**index.weights}, index.norms
+        self.documents, self.ended = index.documents[:count], [*index.ended]
+        self.deleted = {it for it in index.deleted if it < count}
+
+
+class Folder:
+    """A folder as it should be, in which an index is saved: the names of its files, and what its manifest tells."""
+
+    def __init__(self):
+        self.names, self.saved = set(), None
+        # the numbers of the two files of each segment that was saved, and how many of it were deleted: of the index, and
+        # as the manifest has them; and the next number that a file is given
+        self.kept, self.written, self.next = [], [], 1
+
+    def save(self, index, moment):
+        first = 0
+        for place, size in enumerate(index.ended):
+            deleted = sum(1 for it in index.deleted if first <= it < first + size)
+            first += size
+            if place == len(self.kept):
+                self.kept.append([self.give("seg", moment), 0, 0])
+            if self.kept[place][2] != deleted:
+                self.kept[place][1:] = [self.give("del", moment), deleted]
+        self.saved, self.written = Saved(index), [[*it] for it in self.kept]
+        self.names.add("manifest")
+
+    def give(self, kind, moment):
+        """A file of the next number, or of the moment's where that is later."""
+        number = max(self.next, moment)
+        self.names.add(f"{number}.{kind}")
+        self.next = number + 1
+        return number
+
+    def forget(self, count):
+        """What was saved of the segments behind so many."""
+        del self.kept[count:]
+
+    def opened(self):
+        self.kept = [[*it] for it in self.written]
+        self.next = 1 + max([0, *(number for it in self.kept for number in it[:2])])
 
 
 def one(doc, document, term, option):

@@ -5,6 +5,7 @@ import itertools
 from generators import (
     cursors,
     folders,
+    index_files,
     indexes,
     merging,
     postings,
@@ -16,6 +17,7 @@ from generators import (
     stored_segments,
     tables,
     trees,
+    typed,
     weights,
 )
 
@@ -47,8 +49,16 @@ GENERATORS = {
     "turned bits": stored_segments.turned_bits,
     "cut segments": stored_segments.cuts,
     "stored segments": stored_segments.by_chance,
+    "changed deletions": index_files.changed_deletions,
+    "changed places": index_files.changed_places,
+    "exchanged places": index_files.exchanged_places,
+    "changed manifest": index_files.changed_manifest,
+    "index files": index_files.by_chance,
     "merged segments": merging.by_chance,
     "folders": folders.by_chance,
+    "changed files": folders.changed_files,
+    "names of updates": folders.names_of_updates,
+    "typed queries": typed.by_chance,
     "scripts": scripts.by_chance,
 }
 
@@ -76,8 +86,16 @@ TABLES = {
         ("small phrases", [*((slop, (0, 1)) for slop in (0, 1, 2, 7)), (1, (2, 0, 3))]),
         ("blocks of small lists", list(itertools.product((1, 2, 3, 128), postings.SMALL_LISTS))),
     ],
-    "cases_store": [("turned bits", range(stored_segments.PARTS_OF_BITS)), ("cut segments", (0,))],
+    "cases_store": [
+        ("turned bits", range(stored_segments.PARTS_OF_BITS)),
+        ("cut segments", (0,)),
+        ("changed deletions", (0,)),
+        ("changed places", (0,)),
+        ("exchanged places", (0,)),
+        ("changed manifest", range(index_files.PARTS_OF_MANIFEST)),
+    ],
     "cases_folder": [],
+    "cases_parser": [],
     "cases_scripts": [],
 }
 
@@ -87,7 +105,8 @@ BY_CHANCE = {
     "cases_queries": ["queries"],
     "cases_cursors": ["cursors", "windows", "cursors", "cursors", "sets"],
     "cases_postings": ["postings", "runs", "indexes"],
-    "cases_store": ["stored rows", "stored segments", "merged segments"],
-    "cases_folder": ["folders"],
+    "cases_store": ["stored rows", "stored segments", "merged segments", "index files"],
+    "cases_folder": ["folders", "changed files", "folders", "changed files", "names of updates"],
+    "cases_parser": ["typed queries"],
     "cases_scripts": ["scripts"],
 }

@@ -48,6 +48,34 @@ def asked(opened, terms, before=""):
         yield row(call, told(answered(opened, lambda it: it.row(field, text.encode(), is_placed))))
 
 
+def shown(made):
+    """How a segment is answered: how many documents it has, and its rows."""
+    count, rows = made
+    spelled_rows = [[str(field), bytes(text).decode("latin-1"), *map(joined, it)] for (field, text), *it in rows]
+    return " ".join([str(count), *map(":".join, spelled_rows)])
+
+
+def asked_of_several(segment, opened, lists, before=""):
+    """Rows of what is read of several terms: of each list of what is wanted, and of all of them."""
+    for wanted in lists:
+        words = [f"{field}:{text.decode() or '-'}{'*' * is_beginning}" for field, text, is_beginning in wanted]
+        call = " ".join([f"{before}wanted", *words])
+        yield row(call, answered(opened, lambda it: shown(it.wanted(wanted, segment.fields))))
+    yield row(f"{before}whole", answered(opened, lambda it: shown(it.whole(segment.fields))))
+
+
+def wanted_by_chance(random, segment):
+    """Terms of a segment and others, and beginnings of them, in any order and some of them twice."""
+    terms = segment.terms()
+    found = random.sample(terms, min(random.choice([0, 1, 3, 9]), len(terms)))
+    found += random.sample([*beside(random, terms)], 3)
+    wanted = []
+    for field, text in found:
+        cut = random.choice([0, 0, 1, 1, 2, len(text)])
+        wanted.append((field, text.encode(), False) if random.random() < 0.5 else (field, text[:cut].encode(), True))
+    return [wanted, [(0, b"", True)], random.sample(wanted, min(2, len(wanted))) * 2]
+
+
 class Segment:
     """A segment: its key, what its fields keep, how many documents it has, its length ids, and its rows."""
 
@@ -137,12 +165,14 @@ def whole(random):
     file = segment_bytes(segment.key, *segment.told)
     yield segment.block(file)
     yield from asked(segment.opener(file), looked_up(random, segment))
+    yield from asked_of_several(segment, segment.opener(file), wanted_by_chance(random, segment))
     key = segment.key ^ (1 << random.randrange(64))
     yield segment.block(file, key)
     yield from asked(segment.opener(file, key), looked_up(random, segment, 1))
     others = Segment(segment.key, segment_by_chance(random).fields, *segment.told)
     yield others.block(file)
     yield from asked(others.opener(file), looked_up(random, others, 1))
+    yield from asked_of_several(others, others.opener(file), wanted_by_chance(random, others))
     more = [*file, *random.choice([[0], [255], file[-24:], file])]
     yield segment.block(more)
     yield from asked(segment.opener(more), looked_up(random, segment, 1))
@@ -170,6 +200,7 @@ def written(random):
         yield row(random.choice(["written", "interrupted", "by 1", "by 2", "by 7"]), spelled(file))
         yield row("each write fails", "failed")
     yield from asked(segment.opener(file), looked_up(random, segment, 20))
+    yield from asked_of_several(segment, segment.opener(file), wanted_by_chance(random, segment))
 
 
 def changed(random):
@@ -178,6 +209,7 @@ def changed(random):
     file = write(Changed(segment.key, random.randint(1, 7), random), *segment.told)
     yield segment.block(file)
     yield from asked(segment.opener(file), looked_up(random, segment, 12))
+    yield from asked_of_several(segment, segment.opener(file), wanted_by_chance(random, segment))
 
 
 def swapped(random):
@@ -190,6 +222,7 @@ def swapped(random):
     file = [*file[:16], *second, *first, *file[16 + 2 * count :]]
     yield segment.block(file)
     yield from asked(segment.opener(file), looked_up(random, segment))
+    yield from asked_of_several(segment, segment.opener(file), wanted_by_chance(random, segment))
 
 
 def by_chance(random):
@@ -208,7 +241,8 @@ def small():
 
 def asked_of_small(segment, file, before):
     terms = [(0, "a", False), (0, "a", True), (0, "b", True), (1, "x", False)]
-    return asked(segment.opener(file), terms, before)
+    yield from asked(segment.opener(file), terms, before)
+    yield from asked_of_several(segment, segment.opener(file), [[(0, b"", True)]], before)
 
 
 def turned_bits(part):

@@ -5,6 +5,9 @@ use birch_text::Form;
 use clap::{Arg, ArgAction, ArgMatches, Command, value_parser};
 use std::alloc::{AllocError, Global};
 
+/// The version of the program, the first one of CHANGELOG.md.
+const VERSION: &str = "0.1.0";
+
 /// How many results are listed unless it is said.
 const DEFAULT_LIMIT: &str = "10";
 
@@ -63,6 +66,7 @@ pub enum Color {
 /// The command with its arguments.
 pub fn command<'a>(alloc: Global) -> Result<Command<'a>, AllocError> {
     let command = Command::new(alloc, "birch")
+        .version(VERSION)
         .about("Searches text files, and lists the best paragraphs, lines or rows")
         .override_usage(
             "birch [OPTIONS] QUERY [PATH..]\n       birch [OPTIONS] --queries FILE [PATH..]",

@@ -1,8 +1,12 @@
 //! Which index a crash may leave, or has left.
 
+ghost use Rattle.std.specs.Prelude.{OnOk};
+ghost use Rattle.qm_folder.specs.Clean.{IsClean};
+ghost use Rattle.qm_folder.specs.Names.{file_names, names_of};
+
 use crate::given::{GivenChange, Which};
 use cases::{Fault, write_space};
-use qm_folder::{Folder, FolderError, MANIFEST, MemoryFolder};
+use qm_folder::{Folder, FolderError, MANIFEST, MemoryFolder, NewFile, is_clean};
 use qm_schema::QueryError;
 use std::alloc::{AllocError, Global};
 
@@ -44,6 +48,17 @@ pub fn fault_of(error: FolderError) -> Fault {
     match error {
         FolderError::Memory => Fault::Refused(QueryError::Memory),
         FolderError::Failed => Fault::NotAllowed,
+    }
+}
+
+/// Refused where the names of a change get in each other's way.
+pub fn ask_clean(alloc: Global, files: &[NewFile], gone: &[String]) -> Result<(), Fault>
+    ensures { OnOk result (IsClean (file_names files.now) (names_of gone.now)) }
+{
+    match is_clean(alloc, files, gone) {
+        Ok(true) => Ok(()),
+        Ok(false) => Err(Fault::NotAllowed),
+        Err(error) => Err(fault_of(error)),
     }
 }
 

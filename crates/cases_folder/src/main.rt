@@ -1,9 +1,12 @@
-//! Plays cases of updates of a folder: reads them from standard input, and writes which rows are wrong.
+//! Plays cases of updates of a folder, and of what has changed between files: reads them from standard input, and writes which rows are wrong.
 #![tactic(auto)]
 
+mod compared;
 mod given;
+mod given_files;
 mod left;
 mod memory;
+mod names;
 mod player;
 mod spelled;
 mod system;

@@ -6,9 +6,9 @@ ghost use Rattle.qm_folder.specs.Memory.{disk_after};
 ghost use Rattle.qm_folder.specs.MemoryFolder.{calls_of};
 
 use crate::given::GivenChange;
-use crate::left::{fault_of, left_of, seen_in, write_file, write_names, write_which};
+use crate::left::{ask_clean, fault_of, left_of, seen_in, write_file, write_names, write_which};
 use cases::{Asker, Fault, Memory, end_refusals};
-use qm_folder::{FolderError, MemoryFolder, is_clean, update};
+use qm_folder::{FolderError, MemoryFolder, update};
 use qm_schema::QueryError;
 use std::alloc::Global;
 
@@ -27,9 +27,7 @@ fn begun(alloc: Global, change: &GivenChange) -> Result<MemoryFolder, Fault>
         return Ok(folder);
     };
     let gone: Vec<String> = Vec::new(alloc);
-    if !is_clean(&change.before, &gone) {
-        return Err(Fault::NotAllowed);
-    }
+    ask_clean(alloc, &change.before, &gone)?;
     match update(&mut folder, &change.before, manifest, &gone) {
         Ok(()) => Ok(folder),
         Err(_) => Err(Fault::Memory),
@@ -45,9 +43,7 @@ fn make(
 ) -> Result<Result<(), FolderError>, Fault>
     requires { IsSettled (disk_after (calls_of folder.old)) }
 {
-    if !is_clean(&change.files, &change.gone) {
-        return Err(Fault::NotAllowed);
-    }
+    ask_clean(alloc, &change.files, &change.gone)?;
     memory.begin(alloc);
     let made = update(folder, &change.files, &change.manifest, &change.gone);
     end_refusals(alloc);

@@ -1,9 +1,9 @@
 //! Changes of an index in a folder of the system.
 
 use crate::given::GivenChange;
-use crate::left::{fault_of, seen_in, write_file, write_names, write_which};
+use crate::left::{ask_clean, fault_of, seen_in, write_file, write_names, write_which};
 use cases::{Asker, Fault, Memory, end_refusals};
-use qm_folder::{NewFile, SystemFolder, is_clean, update};
+use qm_folder::{NewFile, SystemFolder, update};
 use std::alloc::Global;
 use std::os::unix::fs::PermissionsExt;
 use std::rt::Files;
@@ -33,9 +33,10 @@ impl<'a, R: Files + AllocGlobal + Clone + Drop> OnDisk<'a, R> {
         };
         let gone: Vec<String> = Vec::new(alloc);
         if let Some(manifest) = &self.change.manifest_before {
-            make(&mut folder, &self.change.before, manifest, &gone)?;
+            make(alloc, &mut folder, &self.change.before, manifest, &gone)?;
         }
         make(
+            alloc,
             &mut folder,
             &self.change.files,
             &self.change.manifest,
@@ -79,14 +80,13 @@ impl<'a, R: Files + AllocGlobal + Clone + Drop> OnDisk<'a, R> {
 
 // Makes a change.
 fn make<R: Files + AllocGlobal + Clone + Drop>(
+    alloc: Global,
     folder: &mut SystemFolder<'_, R>,
     files: &[NewFile],
     manifest: &[u8],
     gone: &[String],
 ) -> Result<(), Fault> {
-    if !is_clean(files, gone) {
-        return Err(Fault::NotAllowed);
-    }
+    ask_clean(alloc, files, gone)?;
     match update(folder, files, manifest, gone) {
         Ok(()) => Ok(()),
         Err(error) => Err(fault_of(error)),

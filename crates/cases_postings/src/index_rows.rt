@@ -3,6 +3,7 @@
 ghost use Rattle.std.specs.Prelude.{IsTrue};
 ghost use Rattle.qm_index.specs.Indexed.{IsRefreshed};
 
+use crate::saved_rows::SavedRows;
 use crate::searcher_rows::{weigh, write_norm};
 use crate::segment_rows::{postings_of, write_alive, write_postings};
 use crate::spelled::{
@@ -20,6 +21,8 @@ use std::alloc::{AllocError, Global};
 pub struct IndexRows<'s> {
     schema: &'s Schema,
     index: Index,
+    // where it is saved
+    saved: SavedRows,
     // whether it was refreshed after the last call that asks for that
     is_refreshed: bool,
     ghost refreshed: { IsTrue is_refreshed → IsRefreshed index },
@@ -46,6 +49,7 @@ impl<'s> IndexRows<'s> {
         Ok(IndexRows {
             schema,
             index: made?,
+            saved: SavedRows::new(alloc),
             is_refreshed: false,
         })
     }
@@ -119,6 +123,30 @@ impl<'s> IndexRows<'s> {
         Ok(ended?)
     }
 
+    // `join`: joins the last two ended segments, and writes whether there were two.
+    fn join(&mut self, alloc: Global, memory: Memory, text: &mut String) -> Result<(), Fault> {
+        memory.begin(alloc);
+        let joined = self.index.join_last_segments(alloc);
+        end_refusals(alloc);
+        Ok(write!(text, "{}", joined?)?)
+    }
+
+    // `join_small`: joins the last ended segments, as long as they are small.
+    fn join_small(&mut self, alloc: Global, memory: Memory) -> Result<(), Fault> {
+        memory.begin(alloc);
+        let joined = self.index.join_small_segments(alloc);
+        end_refusals(alloc);
+        Ok(joined?)
+    }
+
+    // `leave_out`: leaves out what is deleted of the last ended segment, and writes whether anything was.
+    fn leave_out(&mut self, alloc: Global, memory: Memory, text: &mut String) -> Result<(), Fault> {
+        memory.begin(alloc);
+        let left = self.index.leave_out_deleted(alloc);
+        end_refusals(alloc);
+        Ok(write!(text, "{}", left?)?)
+    }
+
     // Has all documents searched.
     fn refresh(&mut self, alloc: Global, memory: Memory) -> Result<(), Fault> {
         self.is_refreshed = false;
@@ -138,6 +166,15 @@ impl<'s> IndexRows<'s> {
         end_refusals(alloc);
         merged?;
         self.is_refreshed = true;
+        Ok(())
+    }
+
+    // Puts the index that was saved in the place of the one that is there.
+    fn open(&mut self, alloc: Global, memory: Memory, text: &mut String) -> Result<(), Fault> {
+        if let Some(index) = self.saved.open(alloc, memory, text)? {
+            self.is_refreshed = false;
+            self.index = index;
+        }
         Ok(())
     }
 
@@ -212,8 +249,17 @@ impl<'s> Asker for IndexRows<'s> {
             "set_weight" => self.set_weight(alloc, rest, memory),
             "set_norms" => self.set_norms(alloc, rest, memory),
             "end" => self.end(alloc, memory),
+            "join" => self.join(alloc, memory, text),
+            "join_small" => self.join_small(alloc, memory),
+            "leave_out" => self.leave_out(alloc, memory, text),
             "refresh" => self.refresh(alloc, memory),
             "merge" => self.merge(alloc, memory),
+            "save" => self.saved.save(alloc, &mut self.index, rest, memory, text),
+            "open" => self.open(alloc, memory, text),
+            "files" => self.saved.write_files(alloc, text),
+            "fail" => self.saved.fail(rest),
+            "remove" => self.saved.remove(alloc, rest),
+            "ended_segments" => Ok(write_lengths(self.index.ended_segments(), text)?),
             "ended" => Ok(write!(text, "{}", self.index.ended())?),
             "document_count" => Ok(write!(text, "{}", self.index.document_count())?),
             _ => self.ask_searcher(alloc, call, memory, text),

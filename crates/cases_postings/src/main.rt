@@ -22,6 +22,7 @@ mod own_postings;
 mod phrases;
 mod provider;
 mod ranked;
+mod saved_rows;
 mod schema_rows;
 mod searcher_rows;
 mod segment_phrases;

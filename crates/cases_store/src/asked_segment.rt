@@ -1,6 +1,6 @@
 //! What is asked of a stored segment.
 
-use crate::asked_terms::{ask_terms, read_terms};
+use crate::asked_wanted::{ask_wanted, ask_whole, read_wanted};
 use crate::spelled::{read_text, write_row};
 use cases::{Fault, Memory, behind, end_refusals, number, word};
 use qm_schema::{Field, QueryError, Schema, Term};
@@ -16,7 +16,8 @@ pub struct Call<'a> {
 }
 
 /// Answers `open`, how many documents a segment has; `row FIELD TEXT`, the row of a term, without positions, or with them
-/// where `placed` stands behind it; and `terms FIELD:TEXT ..`, the segment that has these terms alone.
+/// where `placed` stands behind it; `wanted FIELD:TEXT ..`, the segment that has these terms alone, and all that begin with
+/// one that `*` stands behind; and `whole`, the segment itself.
 pub fn ask<P: Pieces + Drop>(
     alloc: Global,
     source: P,
@@ -33,13 +34,17 @@ pub fn ask<P: Pieces + Drop>(
                 Err(error) => write_error(error, text),
             }
         }
-        "terms" => {
-            let terms = read_terms(alloc, behind(words, 1))?;
+        "wanted" => {
+            let (terms, beginnings) = read_wanted(alloc, behind(words, 1))?;
             match StoredSegment::open(alloc, source, call.schema, call.key) {
-                Ok(segment) => ask_terms(alloc, &segment, call, &terms, text),
+                Ok(segment) => ask_wanted(alloc, &segment, call, terms, beginnings, text),
                 Err(error) => write_error(error, text),
             }
         }
+        "whole" => match StoredSegment::open(alloc, source, call.schema, call.key) {
+            Ok(segment) => ask_whole(alloc, &segment, call, text),
+            Err(error) => write_error(error, text),
+        },
         _ => Err(Fault::NotUnderstood),
     }
 }
@@ -103,7 +108,7 @@ pub fn write_error(error: StoreError, text: &mut String) -> Result<(), Fault> {
     let spelled = match error {
         StoreError::Memory => return Err(Fault::Refused(QueryError::Memory)),
         StoreError::Failed => "failed",
-        StoreError::NotSegment => "not a segment",
+        StoreError::OtherFile => "another file",
         StoreError::OtherVersion => "another version",
         StoreError::Damaged => "damaged",
     };

@@ -19,7 +19,7 @@ impl Asker for ErrorTexts {
         let error = match call {
             "Memory" => StoreError::Memory,
             "Failed" => StoreError::Failed,
-            "NotSegment" => StoreError::NotSegment,
+            "OtherFile" => StoreError::OtherFile,
             "OtherVersion" => StoreError::OtherVersion,
             "Damaged" => StoreError::Damaged,
             _ => return Err(Fault::NotUnderstood),

@@ -4,7 +4,7 @@ use crate::asked_segment::Call;
 use crate::given_segment::read_key;
 use crate::kept::read_schema;
 use crate::spelled::{read_numbers, read_text};
-use crate::written_segment::ask_written;
+use crate::written_segment::ask_segment;
 use cases::{Asker, Fault, Memory, number, word, words_of};
 use qm_postings::{RowsError, SegmentReader, TermRow};
 use qm_schema::{Field, Schema, Term};
@@ -127,7 +127,7 @@ impl Asker for GivenRows {
                     schema: &self.schema,
                     memory,
                 };
-                ask_written(alloc, segment, &call, &words, text)
+                ask_segment(alloc, segment, &call, &words, text)
             }
         }
     }

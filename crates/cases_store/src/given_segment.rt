@@ -1,6 +1,7 @@
 //! A stored segment over bytes that are given by hand.
 
 use crate::asked_segment::{Call, ask};
+use crate::changed_bytes::changed;
 use crate::heard_pieces::{Heard, HeardPieces};
 use crate::kept::read_schema;
 use crate::spelled::bytes_of;
@@ -35,26 +36,6 @@ impl<'r> GivenSegment<'r> {
             is_file: word(words, 0) == "filed",
         })
     }
-
-    // The bytes with a bit turned, where the words begin with `turned PLACE BIT`, or the first of them, by `first COUNT`;
-    // else all as they are. How many words said so comes with them.
-    fn changed(&self, alloc: Global, words: &[&str]) -> Result<(Vec<u8>, usize), Fault> {
-        let mut bytes = Vec::from_slice(alloc, &self.bytes)?;
-        match word(words, 0) {
-            "turned" => {
-                turn(&mut bytes, number(words, 1), number(words, 2))?;
-                Ok((bytes, 3))
-            }
-            "first" => {
-                let Some(count) = number(words, 1) else {
-                    return Err(Fault::NotUnderstood);
-                };
-                bytes.truncate(count as usize);
-                Ok((bytes, 2))
-            }
-            _ => Ok((bytes, 0)),
-        }
-    }
 }
 
 /// The key that a word spells.
@@ -63,21 +44,6 @@ pub fn read_key(spelled: &str) -> Result<u64, Fault> {
         Ok(key) => Ok(key),
         Err(_) => Err(Fault::NotUnderstood),
     }
-}
-
-// Turns a bit of a byte.
-fn turn(bytes: &mut [u8], place: Option<u32>, bit: Option<u32>) -> Result<(), Fault> {
-    let (Some(place), Some(bit)) = (place, bit) else {
-        return Err(Fault::NotUnderstood);
-    };
-    let Some(byte) = bytes.get_mut(place as usize) else {
-        return Err(Fault::NotAllowed);
-    };
-    if bit > 7 {
-        return Err(Fault::NotAllowed);
-    }
-    *byte ^= 1 << bit;
-    Ok(())
 }
 
 impl<'r> Asker for GivenSegment<'r> {
@@ -92,7 +58,7 @@ impl<'r> Asker for GivenSegment<'r> {
         text: &mut String,
     ) -> Result<(), Fault> {
         let words = words_of(alloc, call)?;
-        let (bytes, count) = self.changed(alloc, &words)?;
+        let (bytes, count) = changed(alloc, &self.bytes, &words)?;
         let words = behind(&words, count);
         let call = Call {
             key: self.key,

@@ -21,6 +21,19 @@ pub fn read_schema(alloc: Global, spelled: &str) -> Result<Schema, Fault> {
     Ok(maker.builder.build())
 }
 
+/// The schema of fields that words tell of, each by `NAME:KEPT`, with a name that may be empty.
+pub fn read_named_schema(alloc: Global, words: &[&str]) -> Result<Schema, Fault> {
+    let mut maker = SchemaMaker::new(alloc);
+    // fields are added as long as there are words
+    for word in words {
+        let Some((name, kept)) = word.split_once(':') else {
+            return Err(Fault::NotUnderstood);
+        };
+        maker.add_named(name, kept)?;
+    }
+    Ok(maker.builder.build())
+}
+
 /// Makes a schema, field by field.
 #[derive(Drop)]
 struct SchemaMaker {
@@ -39,18 +52,21 @@ impl SchemaMaker {
 
     // Adds a field, which is named by its number.
     fn add(&mut self, alloc: Global, spelled: &str) -> Result<(), Fault> {
+        let name = format!(in alloc; "{}", self.count)?;
+        self.add_named(name.as_str(), spelled)
+    }
+
+    // Adds a field of a name.
+    fn add_named(&mut self, name: &str, spelled: &str) -> Result<(), Fault> {
         let (kept, has_lengths) = match spelled.strip_suffix("+lengths") {
             Some(kept) => (kept, true),
             None => (spelled, false),
         };
         let kept = read_kept(kept)?;
-        let name = format!(in alloc; "{}", self.count)?;
         if self.count >= MOST_FIELDS {
             return Err(Fault::NotAllowed);
         }
-        let added = self
-            .builder
-            .add_text_field(name.as_str(), kept, has_lengths);
+        let added = self.builder.add_text_field(name, kept, has_lengths);
         self.count += 1;
         match added {
             Ok(_) => Ok(()),

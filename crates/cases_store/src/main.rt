@@ -2,10 +2,15 @@
 //! rows are wrong.
 #![tactic(auto)]
 
+mod asked_places;
 mod asked_segment;
-mod asked_terms;
+mod asked_wanted;
+mod changed_bytes;
 mod error_texts;
+mod given_deletions;
+mod given_manifest;
 mod given_part;
+mod given_places;
 mod given_row;
 mod given_rows;
 mod given_segment;
@@ -16,6 +21,8 @@ mod merged;
 mod player;
 mod sink;
 mod spelled;
+mod told_manifest;
+mod writes;
 mod written_file;
 mod written_segment;
 

@@ -1,6 +1,10 @@
 //! Which blocks there are.
 
+use crate::asked_wanted::WantedLists;
 use crate::error_texts::ErrorTexts;
+use crate::given_deletions::GivenDeletions;
+use crate::given_manifest::GivenManifest;
+use crate::given_places::{GivenPlaces, PlacedBytes};
 use crate::given_row::GivenRow;
 use crate::given_rows::GivenRows;
 use crate::given_segment::GivenSegment;
@@ -12,7 +16,7 @@ use qm_schema::{Field, Term};
 use qm_store::read_row;
 use std::alloc::Global;
 
-/// Plays blocks of rows, of terms, of bytes, and of segments that are stored or merged.
+/// Plays blocks of rows, of terms, of lists of these, of bytes, of places, and of segments that are stored or merged.
 #[derive(Drop)]
 pub struct Store<'r> {
     /// where files can be made
@@ -42,10 +46,27 @@ impl<'r> Player for Store<'r> {
                 let mut segment = GivenSegment::make(alloc, self.rt, block.words)?;
                 play_asked(alloc, &mut segment, block.rows, report)
             }
+            "deletions" => {
+                let mut deletions = GivenDeletions::make(alloc, block.words)?;
+                play_asked(alloc, &mut deletions, block.rows, report)
+            }
+            "placed" => {
+                let mut bytes = PlacedBytes::make(alloc, self.rt, block.words)?;
+                play_asked(alloc, &mut bytes, block.rows, report)
+            }
+            "places" => {
+                let mut places = GivenPlaces::make(alloc, self.rt, block.words)?;
+                play_asked(alloc, &mut places, block.rows, report)
+            }
+            "manifest" => {
+                let mut manifest = GivenManifest::make(alloc, block.words)?;
+                play_asked(alloc, &mut manifest, block.rows, report)
+            }
             "written" => {
                 let mut rows = GivenRows::make(alloc, block.words)?;
                 play_asked(alloc, &mut rows, block.rows, report)
             }
+            "wanted" => play_asked(alloc, &mut WantedLists, block.rows, report),
             "errors" => play_asked(alloc, &mut ErrorTexts, block.rows, report),
             "merge" => play_asked(alloc, &mut Merged::new(alloc), block.rows, report),
             _ => Err(Fault::NotUnderstood),

@@ -4,4 +4,3 @@ mod Searched
 mod PhraseFields
 mod HeldTerms
 mod WantedRows
-pub mod FileTerms

@@ -1,6 +1,5 @@
 -- Some rows of a segment are those of a segment, in which documents hold their terms alone.
-use Rattle.std.proofs.Common.{◌≡◌, ℕ, ◌+◌, ◌<◌, Bool, true, false, cond, List, [], ◌∷◌, ◌++◌, get_or, length, map, take, ap, sym, subst, ◌∙◌, append-nil}
-use Rattle.std.specs.Prelude.{filter}
+use Rattle.std.proofs.Common.{◌≡◌, ℕ, ◌+◌, ◌<◌, Bool, cond, List, [], ◌∷◌, ◌++◌, get_or, length, map, take, ap, subst, ◌∙◌}
 use Rattle.std.specs.List.Sorted.{IsStrictlySortedBy}
 use Rattle.std.proofs.lemmas.List.{take_more}
 use Rattle.std.proofs.lemmas.List.Elements.{All-filter, filter-append}
@@ -8,7 +7,7 @@ use Rattle.qm_docset.specs.ListFacts.{filter-map}
 use Rattle.qm_postings.specs.Reading.{IsOfRows, Reader}
 use Rattle.qm_postings.specs.Restriction.{restricted, rows_wanted}
 use Rattle.qm_postings.specs.Rows.{IsRow, MakeSegment, Row, columns_of, segment_of_rows}
-use Rattle.qm_postings.specs.Segment.{Segment, without}
+use Rattle.qm_postings.specs.Segment.{without}
 use Rattle.qm_postings.proofs.Restrictions.{segment-wanted}
 use Rattle.qm_schema.specs.Term.{TermKey, term_cmp}
 use Rattle.qm_weight.proofs.HeldTerms.{sorted-filter}

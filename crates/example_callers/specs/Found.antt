@@ -1,5 +1,5 @@
 -- What callers find, and what they do.
-use Rattle.std.specs.Prelude.{◌≡◌, ℕ, ℤ, ◌⊎◌, ◌&&◌, All, Bool, IsTrue, List, Option, filter, length, nat_le, slice_get}
+use Rattle.std.specs.Prelude.{◌≡◌, ℕ, ℤ, ◌⊎◌, ◌&&◌, All, Bool, IsTrue, List, Option, filter, length, nat_le, option_and_then, slice_get}
 use Rattle.std.specs.List.{list_any, range_with_len}
 use Rattle.std.specs.Ordering.{eq_by_cmp}
 use Rattle.qm_docset.specs.Entry.{Entry, head_document}
@@ -18,6 +18,7 @@ use Rattle.qm_query.specs.Searches.{count_in, with_scores}
 use Rattle.qm_query.specs.TopDocs.{StandsBefore, score_first}
 use Rattle.qm_schema.specs.Term.{TermKey, term_cmp}
 use Rattle.qm_schema.specs.declared.schema.option.IndexRecordOption.TheVariants.{WithFreqs}
+use Rattle.qm_store.specs.declared.document_place.DocumentPlace.{DocumentPlace}
 use Rattle.qm_weight.specs.Best.{best}
 use Rattle.qm_weight.specs.BoostFacts.{RoundsNothing}
 use Rattle.qm_weight.specs.Callers.{multiplied, pairs}
@@ -26,6 +27,10 @@ use Rattle.qm_weight.specs.Tree.{Tree, is_scoring, list}
 -- the best of the documents that a tree matches in a segment, and none where it matches none
 abbrev pub IsBestOf : Tree → Segment → Option (ℕ × ℤ) → Type 0
 IsBestOf tree segment found = found ≡ slice_get (best 1 (pairs (list tree 1 segment))) 0
+
+-- where that document stands, by the places of all
+abbrev pub place_of_best : Tree → Segment → List DocumentPlace → Option DocumentPlace
+place_of_best tree segment places = option_and_then (λ found. slice_get places found.0) (slice_get (best 1 (pairs (list tree 1 segment))) 0)
 
 -- where no score of a tree is rounded or open, a boost multiplies what is found
 abbrev pub IsMultiplied : Tree → ℕ → List (ℕ × ℤ) → List (ℕ × ℤ) → Type 0

@@ -1,17 +1,15 @@
-//! A segment that is kept as the bytes of a file, of which a row is read again.
+//! A segment that is kept as the bytes of a file, of which a row is read again, or those of several terms, or all.
 
 ghost use Rattle.std.specs.Prelude.{◌≡◌, [], IfOk};
-ghost use Rattle.std.specs.List.Sorted.{IsStrictlySortedBy};
-ghost use Rattle.example_callers.specs.Found.{is_wanted};
 ghost use Rattle.qm_postings.specs.Restriction.{restricted};
 ghost use Rattle.qm_postings.specs.Segment.{keeps_positions, without};
-ghost use Rattle.qm_schema.specs.Term.{term_cmp};
 ghost use Rattle.qm_store.specs.Stored.{kept_row};
+ghost use Rattle.qm_store.specs.Wanted.{AreApart, is_wanted};
 
 use crate::bytes_callers::keeps_positions;
 use qm_postings::{SegmentReader, TermRow};
 use qm_schema::Term;
-use qm_store::{StoreError, StoredSegment, segment_bytes};
+use qm_store::{StoreError, StoredSegment, Wanted, segment_bytes};
 use std::alloc::Global;
 
 /// Writes a segment, opens what was written, and reads the row of a term there: it is the row that the segment has of
@@ -30,19 +28,33 @@ pub fn row_through_file(
     stored.row(alloc, term, has_positions)
 }
 
-/// Writes a segment, opens what was written, and reads the segment of some terms there, which ascend: it has the documents
-/// of the first, none of them deleted, and they hold these terms alone.
-pub fn terms_through_file(
+/// Writes a segment, opens what was written, and reads the segment of what is wanted there, which is apart: it has the
+/// documents of the first, none of them deleted, and they hold the wanted terms alone.
+pub fn wanted_through_file(
     alloc: Global,
     segment: &SegmentReader,
-    terms: &[Term],
+    wanted: &[Wanted],
     key: u64,
 ) -> Result<SegmentReader, StoreError>
-    requires ascending { IsStrictlySortedBy term_cmp terms.now }
-    ensures { IfOk result (λ it. it.segment ≡ restricted (is_wanted terms.now) (without [] segment.now.segment)) }
+    requires apart { AreApart wanted.now }
+    ensures { IfOk result (λ it. it.segment ≡ restricted (is_wanted wanted.now) (without [] segment.now.segment)) }
 {
     let bytes = segment_bytes(alloc, segment, key)?;
     let stored = StoredSegment::open(alloc, bytes, segment.schema(), key)?;
-    let some = stored.with_terms(alloc, segment.schema(), terms)?;
+    let some = stored.with_wanted(alloc, segment.schema(), wanted)?;
     Ok(some)
+}
+
+/// Writes a segment, opens what was written, and reads it whole: it is the first, none of its documents deleted.
+pub fn whole_through_file(
+    alloc: Global,
+    segment: &SegmentReader,
+    key: u64,
+) -> Result<SegmentReader, StoreError>
+    ensures { IfOk result (λ it. it.segment ≡ without [] segment.now.segment) }
+{
+    let bytes = segment_bytes(alloc, segment, key)?;
+    let stored = StoredSegment::open(alloc, bytes, segment.schema(), key)?;
+    let whole = stored.whole(alloc, segment.schema())?;
+    Ok(whole)
 }

@@ -1,7 +1,7 @@
 -- What a cursor over one document has left.
-use Rattle.std.specs.Prelude.{◌≡◌, ℕ, ◌<◌, ◌≤◌, List, [], ◌∷◌, Option, Some, None}
+use Rattle.std.specs.Prelude.{ℕ, ◌<◌, List, [], ◌∷◌, Option, Some, None}
 use Rattle.std.proofs.Common.{arith}
-use Rattle.qm_docset.specs.Entry.{Entry, AreEntries, from, no_limits, plain}
+use Rattle.qm_docset.specs.Entry.{Entry, AreEntries, no_limits, plain}
 use Rattle.qm_docset.specs.EntryFacts.{from-keep, from-nil, from-skip}
 use Rattle.qm_docset.specs.declared.numbers.TheConstants.{TERMINATED}
 

@@ -3,9 +3,10 @@
 //! found elsewhere.
 //!
 //! `one_document` is a cursor of one's own and `greatest_score` a combiner: the library takes them as
-//! it takes its own.
+//! it takes its own. `changed_files` has the files of an index that is brought up to date.
 #![tactic(auto)]
 
+mod changed_files;
 mod greatest_score;
 mod one_document;
 
@@ -13,6 +14,7 @@ ghost use Rattle.std.specs.Prelude.{◌≡◌, IfOk, IfSome};
 ghost use Rattle.example_search.specs.Both.{in_both, with_scores};
 ghost use Rattle.qm_term.specs.Bm25Weight.{weighing};
 
+use changed_files::updated;
 use greatest_score::GreatestScore;
 use one_document::OneDocument;
 use qm_combine::{BufferedUnionScorer, Exclude, Intersection, scores_left};
@@ -48,6 +50,15 @@ fn main(rt: HostRuntime) -> io::Result<()> {
         for (doc, score) in found {
             println!(rt; "  document {doc}, score {score}")?;
         }
+    }
+    let files = match updated(rt.alloc()) {
+        Ok(files) => files,
+        Err(error) => return println!(rt; "refused: {error}"),
+    };
+    println!(rt; "the files of the index")?;
+    for file in files {
+        let path = str::from_utf8(&file.path).unwrap_or("no text");
+        println!(rt; "  {path}, {} bytes", file.stamp.size)?;
     }
     Ok(())
 }

@@ -111,7 +111,7 @@ grouped : (a b c : Bool) → (a || (b || c)) ≡ ((a || b) || c)
 grouped true b c = refl
 grouped false b c = refl
 
-among_last : (names : List Name) (name n : Name) → is_among (names ++ name ∷ []) n ≡ (is_among names n || bytes_eq n name)
+pub among_last : (names : List Name) (name n : Name) → is_among (names ++ name ∷ []) n ≡ (is_among names n || bytes_eq n name)
 among_last [] name n = or_false (bytes_eq n name)
 among_last (m ∷ names) name n = ap (λ (b : Bool). bytes_eq n m || b) (among_last names name n) ∙ grouped (bytes_eq n m) (is_among names n) (bytes_eq n name)
 
@@ -134,7 +134,7 @@ pub there_before : (name : Name) (calls : List MemoryCall) (names : List Name) �
 there_before name calls names there n =
     or_implied (is_among names n) (bytes_eq n name) (is_some (seen_after calls n)) (λ same. ap (λ (m : Name). is_among names m) (same_name n name same) ∙ there)
 
-not_same : (n m : Name) → bytes_eq n m ≡ false → bytes_eq m n ≡ false
+pub not_same : (n m : Name) → bytes_eq n m ≡ false → bytes_eq m n ≡ false
 not_same n m other = other_name m n (λ same. both_ways (bytes_eq n m) other (ap (λ (x : Name). bytes_eq n x) same ∙ same_itself n))
 
 pub distinct_more : (names : List Name) (name : Name) → AreDistinct names → is_among names name ≡ false → AreDistinct (names ++ name ∷ [])

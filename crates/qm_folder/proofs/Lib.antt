@@ -1,10 +1,12 @@
 mod Causes
 mod CleanNames
 mod Commits
+mod ComparedFiles
+pub mod ComputedAfresh
 mod Files
 mod GivenNames
 mod Index
-mod Moments
-mod NameLists
+pub mod Moments
+pub mod NameLists
 mod Runs
 mod Updates

@@ -3,6 +3,9 @@ pub mod Disk
 pub mod Calls
 pub mod Steps
 pub mod Clean
+pub mod Paths
+pub mod Changes
+pub mod Afresh
 pub mod Update
 pub mod Memory
 pub mod MemoryFolder

@@ -1,12 +1,13 @@
 //! Names among others.
 
-ghost use Rattle.std.specs.Prelude.{◌≡◌, ◌↔◌, IsTrue};
-ghost use Rattle.qm_folder.specs.Clean;
+ghost use Rattle.std.specs.Prelude.{◌≡◌, ◌↔◌, [], ◌∷◌, IfOk, IsOkUnless, IsTrue};
 ghost use Rattle.qm_folder.specs.Clean.{IsClean};
 ghost use Rattle.qm_folder.specs.Names.{file_names, is_among, names_of};
 
-use crate::NewFile;
 use crate::updating::{MANIFEST, STAGED};
+use crate::{FolderError, NewFile};
+use std::alloc::Global;
+use std::collections::BTreeSet;
 
 // Whether a name is one of these.
 pub fn is_there(names: &[String], name: &str) -> bool
@@ -21,36 +22,34 @@ pub fn is_there(names: &[String], name: &str) -> bool
     false
 }
 
-// Whether a name is that of one of these files.
-fn is_new(files: &[NewFile], name: &str) -> bool
-    ensures { result ≡ is_among (file_names files.now) name.now }
+// Whether a name is that of the manifest, before it counts or since.
+fn is_manifest(name: &str) -> bool
+    ensures { result ≡ is_among (MANIFEST.now ∷ STAGED.now ∷ []) name.now }
 {
-    // it is none of those before
-    for file in files {
-        if name == file.name.as_str() {
-            return true;
-        }
-    }
-    false
+    name == MANIFEST || name == STAGED
 }
 
 /// Whether an update may have new files of these names, and remove files of those: the new names are distinct, none of all is
-/// the manifest's, and no new name is gone. Compares each name with each other.
-pub fn is_clean(files: &[NewFile], gone: &[String]) -> bool
-    ensures { IsTrue result ↔ IsClean (file_names files.now) (names_of gone.now) }
+/// the manifest's, and no new name is gone. Costs a search among the new names for each name.
+///
+/// Refused for want of memory alone.
+pub fn is_clean(alloc: Global, files: &[NewFile], gone: &[String]) -> Result<bool, FolderError>
+    ensures clean { IfOk result (λ clean. IsTrue clean ↔ IsClean (file_names files.now) (names_of gone.now)) }
+    ensures refused { IsOkUnless result FolderError.Memory }
 {
-    are_clean(files, gone)
-}
-
-fn are_clean(files: &[NewFile], gone: &[String]) -> bool
-    ensures { result ≡ Clean.is_clean (file_names files.now) (names_of gone.now) }
-{
-    match files {
-        [] => !is_there(gone, MANIFEST) && !is_there(gone, STAGED),
-        [file, rest @ ..] => {
-            let name = file.name.as_str();
-            let is_free = name != MANIFEST && name != STAGED && !is_there(gone, name);
-            is_free && !is_new(rest, name) && are_clean(rest, gone)
+    let mut names: BTreeSet<&str> = BTreeSet::new(alloc);
+    // the names before it are distinct, are in the set, and none is the manifest's
+    for file in files {
+        let name = file.name.as_str();
+        if is_manifest(name) || !names.insert(name)? {
+            return Ok(false);
         }
     }
+    // none of those before it is the manifest's, or in the set
+    for name in gone {
+        if is_manifest(name.as_str()) || names.contains(&name.as_str()) {
+            return Ok(false);
+        }
+    }
+    Ok(true)
 }

@@ -1,7 +1,8 @@
 -- Documents by their numbers over several segments.
-use Rattle.std.proofs.Common.{◌≡◌, ℕ, zero, suc, ◌+◌, ◌-◌, ◌<◌, ◌≤◌, List, [], ◌∷◌, ◌++◌, cond, drop, length, take, set, Some}
-use Rattle.std.proofs.Common.{refl, sym, ap, ◌∙◌, arith, slice_get, lt-ltb, le-ltb, OnErr, OnOk, Result, Ok, Err, ◌⊎◌, inl, inr}
+use Rattle.std.proofs.Common.{◌≡◌, ℕ, zero, suc, ◌+◌, ◌-◌, ◌<◌, ◌≤◌, List, [], ◌∷◌, ◌++◌, cond, drop, length, take, set, All, Some}
+use Rattle.std.proofs.Common.{refl, sym, ap, subst, ◌∙◌, arith, slice_get, lt-ltb, le-ltb, OnErr, OnOk, Result, Ok, Err, ◌⊎◌, inl, inr}
 use Rattle.std.proofs.lemmas.List.Sums.{sum_by-cons}
+use Rattle.std.proofs.lemmas.List.Elements.{All-head, All-set, All-tail}
 use Rattle.std.proofs.lemmas.List.{drop-set-add, drop-set-lt, length-set, length-take-le, take-set-le}
 use Rattle.std.proofs.Math.Seq.{take-set-lt}
 use Rattle.std.proofs.lemmas.Option.{slice_get_within}
@@ -9,7 +10,8 @@ use Rattle.qm_postings.specs.Reading.{Reader, deleting}
 use Rattle.qm_postings.specs.Statistics.{DeletesIn}
 use Rattle.qm_postings.specs.declared.address.DocAddress.{DocAddress}
 use Rattle.qm_postings.specs.Segment.{Segment, with_deleted}
-use Rattle.qm_index.specs.Numbers.{IsAddressOf, count_of, deleted_among, document_count, ends_from}
+use Rattle.qm_index.specs.Numbers.{AreOf, IsAddressOf, count_of, deleted_among, document_count, ends_from}
+use Rattle.qm_schema.specs.Schema.{FieldFacts}
 use Rattle.qm_index.specs.Parts.{segments_of}
 use Rattle.qm_index.proofs.SegmentEnds.{ends-set}
 
@@ -152,12 +154,19 @@ document_count-set (q ∷ rs) (suc k) d r there =
       sum_by-cons (λ x. length x.segment.documents) q (set rs k (deleting r d)),
     )
 
+-- what holds of each of them holds of the one at a place
+at-place : (P : Reader → Type 0) (rs : List Reader) (k : ℕ) (r : Reader) → slice_get rs k ≡ Some r → All P rs → P r
+at-place P [] k r there all = absurd (cc)
+at-place P (q ∷ rs) zero r there all = let same : q ≡ r = cc in subst P same (All-head P q rs all)
+at-place P (q ∷ rs) (suc k) r there all = at-place P rs k r there (All-tail P q rs all)
+
 -- Readers of which as many were ended, with as many documents, and whose others are the same.
 pub record KeepsParts (ended : ℕ) (before after : List Reader) : Type 0 where
   pub number : length after ≡ length before
   pub count : document_count (take ended after) ≡ document_count (take ended before)
   pub ends : ends_from 0 (take ended after) ≡ ends_from 0 (take ended before)
   pub parts : drop ended after ≡ drop ended before
+  pub alike : (schema : List FieldFacts) → AreOf schema (take ended before) → AreOf schema (take ended after)
 
 pub KeepsParts-ended : (readers after : List Reader) (ended wanted : ℕ) (address : DocAddress) → ended ≤ length readers →
     IsAddressOf (take ended readers) 0 wanted address → DeletesIn readers address after → KeepsParts ended readers after
@@ -168,6 +177,9 @@ KeepsParts-ended readers after ended wanted address within at deletes =
       count = ap document_count deleted.after ∙ document_count-set (take ended readers) deleted.place deleted.doc deleted.reader deleted.there;
       ends = ap (ends_from 0) deleted.after ∙ ends-set 0 (take ended readers) deleted.place deleted.doc deleted.reader deleted.there;
       parts = ended-others readers after ended wanted address deletes within at;
+      alike = λ schema are. subst (AreOf schema) (sym deleted.after)
+          (All-set (λ (r : Reader). r.segment.schema ≡ schema) (take ended readers) deleted.place (deleting deleted.reader deleted.doc)
+          (at-place (λ (r : Reader). r.segment.schema ≡ schema) (take ended readers) deleted.place deleted.reader deleted.there are) are);
     }
 
 pub KeepsParts-same : (readers after : List Reader) (ended : ℕ) → after ≡ readers → KeepsParts ended readers after
@@ -177,6 +189,7 @@ KeepsParts-same readers after ended same =
       count = ap (λ rs. document_count (take ended rs)) same;
       ends = ap (λ rs. ends_from 0 (take ended rs)) same;
       parts = ap (drop ended) same;
+      alike = λ schema are. subst (λ rs. AreOf schema (take ended rs)) (sym same) are;
     }
 
 -- what holds of a call that succeeds, or of one that fails

@@ -21,6 +21,12 @@ ends-at first (r ∷ rs) (suc k) d below =
     ends-at (first + length r.segment.documents) rs k d (omega (arith, below))
     ∙ omega (arith, sum_by-cons (λ x. length x.segment.documents) r (take (suc k) rs))
 
+-- those of so many segments
+pub ends-take : (first k : ℕ) (rs : List Reader) → take k (ends_from first rs) ≡ ends_from first (take k rs)
+ends-take first zero rs = refl
+ends-take first (suc k) [] = refl
+ends-take first (suc k) (r ∷ rs) = ap (λ l. (first + length r.segment.documents) ∷ l) (ends-take (first + length r.segment.documents) k rs)
+
 -- with one segment more
 pub ends-push : (first : ℕ) (rs : List Reader) (r : Reader) →
     ends_from first (rs ++ r ∷ []) ≡ ends_from first rs ++ (first + (document_count rs + length r.segment.documents)) ∷ []

@@ -6,7 +6,7 @@ use Rattle.qm_postings.specs.Segment.{Segment, document_of, empty_segment, with_
 use Rattle.qm_postings.specs.Statistics.{Searched, with_segments}
 use Rattle.qm_schema.specs.Schema.{FieldFacts}
 use Rattle.qm_schema.specs.declared.error.QueryError.{QueryError}
-use Rattle.qm_schema.specs.declared.error.QueryError.TheVariants.{BadBlockLength, BadNorms, Memory}
+use Rattle.qm_schema.specs.declared.error.QueryError.TheVariants.{BadBlockLength, BadNorms, Memory, TooManySegments}
 use Rattle.qm_index.specs.Numbers.{count_of, deleted_among}
 use Rattle.qm_index.specs.OpenDocuments.{segment_of}
 use Rattle.qm_index.specs.Parts.{AreParts, segments_of}
@@ -38,6 +38,10 @@ all_segments s = s.ended ++ s.current ∷ []
 abbrev pub empty_index : List FieldFacts → ℕ → Indexed
 empty_index schema block_len = record { ended = []; current = empty_segment schema block_len }
 
+-- the segments of a searcher were ended, and the open one has no document
+abbrev pub index_of_segments : Searched → ℕ → Indexed
+index_of_segments s block_len = record { ended = segments_of s.segments; current = empty_segment s.schema block_len }
+
 -- with one document more
 abbrev pub with_document_of : Indexed → Draft → Indexed
 with_document_of s draft = record { ended = s.ended; current = with_document s.current (document_of s.current.schema draft) }
@@ -67,6 +71,10 @@ IsRefreshed i = i.built ≡ vec_len i.documents
 abbrev pub IsMerged : Index → Type 0
 IsMerged i = length i.searcher.segments ≤ i.ended + 1
 
+-- nothing of it was saved
+abbrev pub IsUnsaved : Index → Type 0
+IsUnsaved i = i.saved.segments.items ≡ []
+
 -- As many documents are built, in as many parts.
 pub record IsAsBuilt (before after : Index) : Type 0 where
   pub documents : vec_len after.documents ≡ vec_len before.documents
@@ -92,3 +100,16 @@ IsIndexRefusal Memory = Unit {0}
 IsIndexRefusal BadBlockLength = Unit {0}
 IsIndexRefusal BadNorms = Unit {0}
 IsIndexRefusal error = ⊥
+
+-- blocks may be so long, but a searcher takes no segment beside these
+pub record IsFull (block_len : ℕ) (segments : List Reader) : Type 0 where
+  pub some : 0 < block_len
+  pub few : block_len ≤ 128
+  pub full : 4294967295 ≤ length segments
+
+-- why one may not be made of segments
+abbrev pub IsSegmentsRefusal : QueryError → Type 0
+IsSegmentsRefusal Memory = Unit {0}
+IsSegmentsRefusal BadBlockLength = Unit {0}
+IsSegmentsRefusal TooManySegments = Unit {0}
+IsSegmentsRefusal error = ⊥

@@ -3,3 +3,10 @@ pub mod OpenDocuments
 pub mod Parts
 pub mod Numbers
 pub mod Indexed
+pub mod Joining
+pub mod FileNames
+pub mod SavedFiles
+pub mod SavedIndex
+pub mod Writing
+pub mod Saving
+pub mod Opening

@@ -1,8 +1,9 @@
 -- Numbers of documents over several segments, in order, from 0 up.
-use Rattle.std.specs.Prelude.{◌≡◌, ◌+◌, ◌-◌, ◌<◌, ℕ, nat_lt, if◌then◌else◌, List, [], ◌∷◌, Some, length, slice_get, take}
+use Rattle.std.specs.Prelude.{◌≡◌, ◌+◌, ◌-◌, ◌<◌, ℕ, nat_lt, if◌then◌else◌, List, [], ◌∷◌, All, Some, length, slice_get, take}
 use Rattle.std.specs.List.{sum_by}
 use Rattle.qm_postings.specs.Reading.{Reader}
 use Rattle.qm_postings.specs.Segment.{Segment, with_deleted}
+use Rattle.qm_schema.specs.Schema.{FieldFacts}
 use Rattle.qm_postings.specs.declared.address.DocAddress.{DocAddress}
 
 -- how many documents segments have
@@ -12,6 +13,10 @@ count_of segments = sum_by (λ s. length s.documents) segments
 -- how many those of readers have
 abbrev pub document_count : List Reader → ℕ
 document_count readers = sum_by (λ r. length r.segment.documents) readers
+
+-- each of the segments of readers has these fields
+abbrev pub AreOf : List FieldFacts → List Reader → Type 0
+AreOf schema readers = All (λ r. r.segment.schema ≡ schema) readers
 
 -- the numbers behind the last document of each of them, where the first of them begins at this number
 abbrev pub ends_from : ℕ → List Reader → List ℕ

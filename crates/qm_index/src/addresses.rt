@@ -1,12 +1,13 @@
 //! Where documents stand that are numbered over several segments.
 
-ghost use Rattle.std.specs.Prelude.{◌≡◌, ◌<◌, ◌≤◌, ◌+◌, ◌*◌, IfSome, length, map};
+ghost use Rattle.std.specs.Prelude.{◌≡◌, ◌<◌, ◌≤◌, ◌+◌, ◌*◌, IfOk, IfSome, length, map};
 ghost use Rattle.std.specs.Option.{IsNone};
 ghost use Rattle.qm_docset.specs.declared.numbers.TheConstants.{TERMINATED};
 ghost use Rattle.qm_index.specs.Numbers.{HasDocument, IsAddressOf, document_count, ends_from};
 
 use qm_docset::DocId;
 use qm_postings::{DocAddress, SegmentReader};
+use std::alloc::{AllocError, Global};
 
 /// The address of the document of this number over these segments, of which the first has that number.
 /// Costs a step for each segment.
@@ -77,8 +78,23 @@ pub fn number_of(readers: &[SegmentReader], address: DocAddress) -> Option<u64>
     }
 }
 
+// The numbers behind the last document of each of these segments, of which the first document has number 0.
+pub(crate) fn ends_of(alloc: Global, readers: &[SegmentReader]) -> Result<Vec<u64>, AllocError>
+    requires few { length readers.now ≤ 4294967295 }
+    ensures ends { IfOk result (λ ends. ends.items ≡ ends_from 0 readers.now) }
+{
+    let mut ends = Vec::with_capacity(alloc, readers.len())?;
+    let mut end: u64 = 0;
+    // those of the segments so far are there
+    for reader in readers {
+        end += u64::from(reader.max_doc());
+        ends.push(end)?;
+    }
+    Ok(ends)
+}
+
 // How many documents segments have, deleted ones too.
-fn count_documents(readers: &[SegmentReader]) -> u64
+pub(crate) fn count_documents(readers: &[SegmentReader]) -> u64
     requires few { length readers.now ≤ 4294967295 }
     ensures count { result ≡ document_count readers.now }
     ensures few { result ≤ length readers.now * TERMINATED }

@@ -1,24 +1,29 @@
 //! Segments that are searched, of which the last takes documents.
 
 ghost use Rattle.std.specs.Prelude.{◌≡◌, ◌<◌, ◌≤◌, ◌≤ℤ◌, ◌↔◌, ◌*◌, ◌+◌, ◌⊎◌, All, IfErr, IfOk, IsErrOf, IsOkUnless, None, OnErr, OnOk};
-ghost use Rattle.std.specs.Prelude.{[], drop, length, map, nat_abs, pos, take, vec_len};
+ghost use Rattle.std.specs.Prelude.{[], drop, length, map, nat_abs, pos, take, true, vec_len};
 ghost use Rattle.std.specs.FinMap.{empty};
 ghost use Rattle.std.specs.List.Sorted.{IsNonDecreasing};
 ghost use Rattle.std.specs.Option.{ForSome};
 ghost use Rattle.qm_docset.specs.declared.numbers.TheConstants.{TERMINATED};
 ghost use Rattle.qm_postings.specs.Segment.{IsGood};
 ghost use Rattle.qm_postings.specs.Statistics.{with_norms, with_segments, with_weight};
-ghost use Rattle.qm_index.specs.Numbers.{count_of, deleted_among, document_count, ends_from};
+ghost use Rattle.qm_index.specs.Numbers.{AreOf, count_of, deleted_among, document_count, ends_from};
 ghost use Rattle.qm_index.specs.OpenDocuments.{IsBadDraft, IsDocumentRefusal, segment_of, undeleted};
 ghost use Rattle.qm_index.specs.Parts.{cut, segments_of};
 ghost use Rattle.qm_index.specs.Texts.{texts_draft};
 
-use crate::addresses::{address_among, address_by_ends};
+use crate::addresses::{address_among, address_by_ends, count_documents, ends_of};
 use crate::open_document::{OpenDocument, add_good_texts, add_texts, delete_marked};
+use crate::saved_files::SavedFiles;
 use qm_docset::{DocId, Score, TERMINATED};
 use qm_postings::{Searcher, SegmentBuilder, SegmentReader};
 use qm_schema::{Field, QueryError, Schema, Term};
 use std::alloc::Global;
+
+mod joining;
+mod opening;
+mod saving;
 
 /// How many segments a searcher takes.
 const MAX_SEGMENTS: usize = 4294967295;
@@ -45,6 +50,8 @@ pub struct Index {
     built: usize,
     // a builder that has the documents behind these, none of them deleted, as long as there is one
     builder: Option<SegmentBuilder>,
+    // which files the first of the ended segments have
+    saved: SavedFiles,
     ghost block: { (0 < block_len) × (block_len ≤ 128) },
     ghost within: { ended ≤ length searcher.segments },
     // so the open segment has room for one part
@@ -54,6 +61,8 @@ pub struct Index {
     ghost counted: { ended_documents ≡ document_count (take ended searcher.segments) },
     ghost ends_known: { ends.items ≡ ends_from 0 (take ended searcher.segments) },
     ghost small: { ended_documents ≤ ended * TERMINATED },
+    ghost alike: { AreOf searcher.schema (take ended searcher.segments) },
+    ghost some_saved: { vec_len saved.segments ≤ ended },
     ghost built_parts: { document_count (drop ended searcher.segments) ≡ built },
     ghost parts: { segments_of (drop ended searcher.segments) ≡ cut searcher.schema block_len (drop ended searcher.segments) documents.items },
     ghost building: { ForSome builder (λ b. b ≡ undeleted searcher.schema block_len (drop built documents.items)) },
@@ -62,7 +71,9 @@ pub struct Index {
 }
 
 impl Index {
-    ghost use Rattle.qm_index.specs.Indexed.{AreMerged, AreSearched, Deletes, IsAsBuilt, IsIndexRefusal, IsMerged, IsRefreshed, all_segments, empty_index, indexed, open_parts};
+    ghost use Rattle.qm_folder.specs.Disk.{Contents};
+    ghost use Rattle.qm_index.specs.Saving.{IsKeptIn};
+    ghost use Rattle.qm_index.specs.Indexed.{AreMerged, AreSearched, Deletes, IsAsBuilt, IsIndexRefusal, IsMerged, IsFull, IsRefreshed, IsSegmentsRefusal, IsUnsaved, all_segments, empty_index, index_of_segments, indexed, open_parts};
     ghost use Rattle.qm_index.specs.Indexed.{statistics, with_document_of, with_open_deleted, with_segment_ended};
 
     /// One open segment without documents. A term weighs `default_weight`, in whole scores, as long as it is
@@ -89,9 +100,10 @@ impl Index {
         ensures good { IfOk result (λ _. IsNonDecreasing norms) }
         ensures refreshed { IfOk result IsRefreshed }
         ensures merged { IfOk result IsMerged }
+        ensures unsaved { IfOk result IsUnsaved }
         ensures refused { IfErr result IsIndexRefusal }
     {
-        if block_len == 0 || block_len > 128 {
+        if !is_block_len(block_len) {
             return Err(QueryError::BadBlockLength);
         }
         let searcher = Searcher::new(
@@ -102,16 +114,62 @@ impl Index {
             default_weight,
             norms,
         )?;
+        let index = Index::of_searcher(alloc, searcher, block_len)?;
+        Ok(index)
+    }
+
+    /// An index whose ended segments are those that a searcher has, in order, by which terms weigh what they do by it;
+    /// one open segment without documents behind them. Postings of that are cut into blocks of `block_len`. Costs a step
+    /// for each segment.
+    ///
+    /// Asks that each segment has the fields that the searcher has.
+    /// Refused with [`QueryError::BadBlockLength`] exactly where `block_len` is not from 1 to 128; else with
+    /// [`QueryError::TooManySegments`] exactly where there are 4294967295 segments; else with [`QueryError::Memory`]
+    /// alone.
+    pub fn of_searcher(
+        alloc: Global,
+        searcher: Searcher,
+        block_len: u32,
+    ) -> Result<Index, QueryError>
+        requires alike { AreOf searcher.schema searcher.segments }
+        ensures segments { IfOk result (λ i. indexed i ≡ index_of_segments searcher block_len) }
+        ensures statistics { IfOk result (λ i. statistics i ≡ with_segments searcher []) }
+        ensures block_len { IsErrOf result QueryError.BadBlockLength ↔ ((block_len ≡ 0) ⊎ (128 < block_len)) }
+        ensures many { IsErrOf result QueryError.TooManySegments ↔ IsFull block_len searcher.segments }
+        ensures refreshed { IfOk result IsRefreshed }
+        ensures merged { IfOk result IsMerged }
+        ensures unsaved { IfOk result IsUnsaved }
+        ensures refused { IfErr result IsSegmentsRefusal }
+    {
+        if !is_block_len(block_len) {
+            return Err(QueryError::BadBlockLength);
+        }
+        let readers = searcher.segment_readers();
+        let ended = readers.len();
+        if ended >= MAX_SEGMENTS {
+            return Err(QueryError::TooManySegments);
+        }
+        let ended_documents = count_documents(readers);
+        let ends = ends_of(alloc, readers)?;
         Ok(Index {
             searcher,
             block_len,
-            ended: 0,
-            ended_documents: 0,
-            ends: Vec::new(alloc),
+            ended,
+            ended_documents,
+            ends,
             documents: Vec::new(alloc),
             built: 0,
             builder: None,
+            saved: SavedFiles::none(alloc),
         })
+    }
+
+    /// The segments that were ended, in order. Constant time.
+    pub fn ended_segments(&self) -> &[SegmentReader]
+        ensures segments { segments_of result.now ≡ (indexed self.now).ended }
+        ensures alike { AreOf (indexed self.now).current.schema result.now }
+    {
+        &self.searcher.segment_readers()[..self.ended]
     }
 
     /// Adds a document to the open segment, whose fields have these texts. Costs what
@@ -131,6 +189,7 @@ impl Index {
         ensures good { OnOk result (IsGood (indexed self.old).current.schema (texts_draft texts.items)) }
         ensures unchanged { OnErr result (indexed self.new ≡ indexed self.old) }
         ensures statistics { statistics self.new ≡ statistics self.old }
+        ensures saved { self.new.saved ≡ self.old.saved }
         ensures refreshed { OnErr result (IsRefreshed self.old → IsRefreshed self.new) }
         ensures merged { IsMerged self.old → IsMerged self.new }
         ensures many { IsErrOf result QueryError.TooManyDocuments ↔ (length (indexed self.old).current.documents ≡ TERMINATED) }
@@ -162,6 +221,8 @@ impl Index {
         ensures deleted { IfOk result (λ exists. Deletes number (indexed self.old) exists (indexed self.new)) }
         ensures unchanged { OnErr result (indexed self.new ≡ indexed self.old) }
         ensures statistics { statistics self.new ≡ statistics self.old }
+        ensures saved { self.new.saved ≡ self.old.saved }
+        ensures kept { (c : Contents) → IsKeptIn self.old c → IsKeptIn self.new c }
         ensures refreshed { IsRefreshed self.old → IsRefreshed self.new }
         ensures merged { IsMerged self.old → IsMerged self.new }
         ensures refused { IsOkUnless result QueryError.Memory }
@@ -192,6 +253,7 @@ impl Index {
         ensures set { OnOk result (statistics self.new ≡ with_weight (statistics self.old) term (nat_abs weight)) }
         ensures unchanged { OnErr result (statistics self.new ≡ statistics self.old) }
         ensures documents { indexed self.new ≡ indexed self.old }
+        ensures saved { self.new.saved ≡ self.old.saved }
         ensures refreshed { IsRefreshed self.old → IsRefreshed self.new }
         ensures merged { IsMerged self.old → IsMerged self.new }
         ensures refused { IsOkUnless result QueryError.Memory }
@@ -207,6 +269,7 @@ impl Index {
         ensures set { OnOk result (statistics self.new ≡ with_norms (statistics self.old) norms.now) }
         ensures unchanged { OnErr result (statistics self.new ≡ statistics self.old) }
         ensures documents { indexed self.new ≡ indexed self.old }
+        ensures saved { self.new.saved ≡ self.old.saved }
         ensures refreshed { IsRefreshed self.old → IsRefreshed self.new }
         ensures merged { IsMerged self.old → IsMerged self.new }
         ensures bad_norms { IsErrOf result QueryError.BadNorms ↔ ¬ IsNonDecreasing norms.now }
@@ -224,6 +287,7 @@ impl Index {
         ensures ended { OnOk result (indexed self.new ≡ with_segment_ended (indexed self.old)) }
         ensures unchanged { OnErr result (indexed self.new ≡ indexed self.old) }
         ensures statistics { statistics self.new ≡ statistics self.old }
+        ensures saved { self.new.saved ≡ self.old.saved }
         ensures refreshed { OnOk result (IsRefreshed self.new) }
         ensures merged { OnOk result (IsMerged self.new) }
         ensures many { IsErrOf result QueryError.TooManySegments ↔ (length (all_segments (indexed self.old)) ≡ 4294967295) }
@@ -250,6 +314,7 @@ impl Index {
     pub fn refresh(&mut self, alloc: Global) -> Result<(), QueryError>
         ensures documents { indexed self.new ≡ indexed self.old }
         ensures statistics { statistics self.new ≡ statistics self.old }
+        ensures saved { self.new.saved ≡ self.old.saved }
         ensures refreshed { OnOk result (IsRefreshed self.new) }
         ensures refused { IsOkUnless result QueryError.Memory }
     {
@@ -268,6 +333,7 @@ impl Index {
     pub fn merge(&mut self, alloc: Global) -> Result<(), QueryError>
         ensures documents { indexed self.new ≡ indexed self.old }
         ensures statistics { statistics self.new ≡ statistics self.old }
+        ensures saved { self.new.saved ≡ self.old.saved }
         ensures refreshed { OnOk result (IsRefreshed self.new) }
         ensures merged { OnOk result (IsMerged self.new) }
         ensures refused { IsOkUnless result QueryError.Memory }
@@ -312,6 +378,8 @@ impl Index {
         ensures deleted { OnOk result (all_segments (indexed self.new) ≡ deleted_among (all_segments (indexed self.old)) number) }
         ensures unchanged { OnErr result (indexed self.new ≡ indexed self.old) }
         ensures statistics { statistics self.new ≡ statistics self.old }
+        ensures saved { self.new.saved ≡ self.old.saved }
+        ensures kept { (c : Contents) → IsKeptIn self.old c → IsKeptIn self.new c }
         ensures same { IsAsBuilt self.old self.new }
         ensures refused { IsOkUnless result QueryError.Memory }
     {
@@ -327,6 +395,7 @@ impl Index {
         ensures deleted { OnOk result (indexed self.new ≡ with_open_deleted (indexed self.old) place) }
         ensures unchanged { OnErr result (indexed self.new ≡ indexed self.old) }
         ensures statistics { statistics self.new ≡ statistics self.old }
+        ensures saved { self.new.saved ≡ self.old.saved }
         ensures same { IsAsBuilt self.old self.new }
         ensures refused { IsOkUnless result QueryError.Memory }
     {
@@ -343,6 +412,7 @@ impl Index {
         requires there { place < vec_len self.old.documents }
         ensures deleted { indexed self.new ≡ with_open_deleted (indexed self.old) place }
         ensures statistics { statistics self.new ≡ statistics self.old }
+        ensures saved { self.new.saved ≡ self.old.saved }
         ensures same { IsAsBuilt self.old self.new }
     {
         self.documents[place].is_deleted = true;
@@ -359,6 +429,7 @@ impl Index {
     fn build_part(&mut self, alloc: Global) -> Result<(), QueryError>
         ensures documents { indexed self.new ≡ indexed self.old }
         ensures statistics { statistics self.new ≡ statistics self.old }
+        ensures saved { self.new.saved ≡ self.old.saved }
         ensures refreshed { OnOk result (IsRefreshed self.new) }
         ensures pushed { OnOk result (length self.new.searcher.segments ≤ length self.old.searcher.segments + 1) }
         ensures ended { self.new.ended ≡ self.old.ended }
@@ -375,6 +446,7 @@ impl Index {
     fn make_room(&mut self)
         ensures documents { indexed self.new ≡ indexed self.old }
         ensures statistics { statistics self.new ≡ statistics self.old }
+        ensures saved { self.new.saved ≡ self.old.saved }
         ensures ended { self.new.ended ≡ self.old.ended }
         ensures fewer { length self.new.searcher.segments ≤ length self.old.searcher.segments }
         ensures room { length self.new.searcher.segments < 4294967295 }
@@ -394,6 +466,7 @@ impl Index {
         ensures ends { self.new.ends ≡ self.old.ends }
         ensures documents { self.new.documents ≡ self.old.documents }
         ensures built { self.new.built ≡ self.old.built }
+        ensures saved { self.new.saved ≡ self.old.saved }
         ensures taken { self.new.builder ≡ None }
         ensures refused { IsOkUnless result QueryError.Memory }
     {
@@ -406,6 +479,7 @@ impl Index {
     fn take_small_parts_back(&mut self)
         ensures documents { indexed self.new ≡ indexed self.old }
         ensures statistics { statistics self.new ≡ statistics self.old }
+        ensures saved { self.new.saved ≡ self.old.saved }
     {
         while self.part_count() > 0 {
             if self.last_part_len() >= 2 * (self.documents.len() - self.built) {
@@ -419,6 +493,7 @@ impl Index {
     fn take_parts_back(&mut self)
         ensures documents { indexed self.new ≡ indexed self.old }
         ensures statistics { statistics self.new ≡ statistics self.old }
+        ensures saved { self.new.saved ≡ self.old.saved }
         ensures ended { self.new.ended ≡ self.old.ended }
         ensures none { length self.new.searcher.segments ≡ self.new.ended }
     {
@@ -440,6 +515,7 @@ impl Index {
         requires { self.old.ended < length self.old.searcher.segments }
         ensures documents { indexed self.new ≡ indexed self.old }
         ensures statistics { statistics self.new ≡ statistics self.old }
+        ensures saved { self.new.saved ≡ self.old.saved }
         ensures ended { self.new.ended ≡ self.old.ended }
         ensures fewer { length self.new.searcher.segments < length self.old.searcher.segments }
     {
@@ -459,6 +535,7 @@ impl Index {
         ensures ends { self.new.ends ≡ self.old.ends }
         ensures documents { self.new.documents ≡ self.old.documents }
         ensures built { self.new.built ≡ self.old.built }
+        ensures saved { self.new.saved ≡ self.old.saved }
         ensures taken { self.new.builder ≡ None }
         ensures refused { IsOkUnless result QueryError.Memory }
     {
@@ -480,4 +557,11 @@ impl Index {
         }
         Ok(builder)
     }
+}
+
+// Whether postings may be cut into blocks of so many.
+fn is_block_len(block_len: u32) -> bool
+    ensures { (result ≡ true) ↔ ((0 < block_len) × (block_len ≤ 128)) }
+{
+    block_len > 0 && block_len <= 128
 }

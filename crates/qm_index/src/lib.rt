@@ -6,8 +6,14 @@
 #![tactic(auto)]
 
 mod addresses;
+mod deleted_count;
+mod file_names;
 mod index;
 mod open_document;
+mod plan_writing;
+mod saved_files;
+mod saving_plan;
+mod stored_files;
 
 pub use addresses::{address_of, number_of};
 pub use index::Index;

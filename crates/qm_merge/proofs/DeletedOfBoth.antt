@@ -6,9 +6,9 @@ use Rattle.std.proofs.lemmas.List.{append-nil}
 use Rattle.qm_docset.specs.ListFacts.{list_any-outside}
 use Rattle.qm_docset.specs.Members.{members_between}
 use Rattle.qm_docset.proofs.MembersLemmas.{members_between-first, members_between-none, members_between-same, members_between-shift, members_between-split}
-use Rattle.qm_postings.specs.Segment.{Segment, is_deleted, with_deleted, without}
+use Rattle.qm_postings.specs.Segment.{Segment, deleted_documents, is_deleted, with_deleted, without}
 use Rattle.qm_postings.proofs.DeletedDocuments.{among_members}
-use Rattle.qm_merge.specs.Merging.{deleted_documents, joined, was_deleted}
+use Rattle.qm_merge.specs.Merging.{joined, was_deleted}
 
 -- ---- members one by one
 
@@ -26,8 +26,9 @@ members-more has n =
 
 -- ---- the deleted ones of both
 
-pub deleted-of_both : (s t : Segment) → members_between (was_deleted s t) 0 (length s.documents + length t.documents) ≡ (joined s t).deleted
-deleted-of_both s t =
+pub deleted-of_both : (s t : Segment) → s.deleted ≡ deleted_documents s → t.deleted ≡ deleted_documents t →
+    members_between (was_deleted s t) 0 (length s.documents + length t.documents) ≡ (joined s t).deleted
+deleted-of_both s t own_s own_t =
     let n = length s.documents in
     let m = length t.documents in
     let start : n + 0 ≡ n = omega arith in
@@ -37,17 +38,12 @@ deleted-of_both s t =
     ++ (ap (λ k. members_between (was_deleted s t) k (n + m)) (sym start)
     ∙ members_between-shift (was_deleted s t) n 0 m
     ∙ ap (map (λ d. n + d)) (members_between-same (λ d. was_deleted s t (n + d)) (is_deleted t) 0 m (λ x above below. behind n x))) i)
+    ∙ (λ i. sym own_s i ++ map (λ d. n + d) (sym own_t i))
   where
     behind : (n x : ℕ) → cond (nat_lt (n + x) n) (is_deleted s (n + x)) (is_deleted t (n + x - n)) ≡ is_deleted t x
     behind n x =
         let back : n + x - n ≡ x = omega arith in
         ap (λ b. cond b (is_deleted s (n + x)) (is_deleted t (n + x - n))) (le-ltb (n + x) n (omega arith)) ∙ ap (is_deleted t) back
-
--- where the deleted ones stand in order, each once, they are these
-pub deleted_documents-own : (has : ℕ → Bool) (s : Segment) → s.deleted ≡ members_between has 0 (length s.documents) → deleted_documents s ≡ s.deleted
-deleted_documents-own has s own =
-    members_between-same (is_deleted s) has 0 (length s.documents)
-    (λ x above below. ap (list_any (λ y. y == x)) own ∙ among_members has (length s.documents) x below) ∙ sym own
 
 -- ---- one document more is deleted
 

@@ -1,12 +1,7 @@
 -- The segment of the documents of two, and a segment without its deleted documents.
-use Rattle.std.specs.Prelude.{◌≡◌, Bool, ℕ, ◌+◌, ◌-◌, ◌<◌, if◌then◌else◌, List, [], ◌++◌, length, map, nat_lt, slice_index_or}
+use Rattle.std.specs.Prelude.{◌≡◌, Bool, ℕ, ◌+◌, ◌-◌, ◌<◌, if◌then◌else◌, [], ◌++◌, length, map, nat_lt, slice_index_or}
 use Rattle.qm_docset.specs.declared.numbers.TheConstants.{TERMINATED}
-use Rattle.qm_docset.specs.Members.{members_between}
 use Rattle.qm_postings.specs.Segment.{Segment, alive_documents, is_deleted, no_document}
-
--- the numbers of the deleted documents, ascending, each once
-abbrev pub deleted_documents : Segment → List ℕ
-deleted_documents s = members_between (is_deleted s) 0 (length s.documents)
 
 -- The segment of the documents of one segment, and of those of another behind them, with the fields and the blocks of
 -- the first. Deleted are those that were.
@@ -15,7 +10,7 @@ joined s t = record {
   schema = s.schema;
   block_len = s.block_len;
   documents = s.documents ++ t.documents;
-  deleted = deleted_documents s ++ map (λ d. length s.documents + d) (deleted_documents t);
+  deleted = s.deleted ++ map (λ d. length s.documents + d) t.deleted;
 }
 
 -- the segment of the documents that were not deleted, in their order, numbered from 0 up

@@ -10,7 +10,8 @@ use qm_postings::SegmentReader;
 use qm_schema::QueryError;
 use std::alloc::Global;
 
-// Deletes what is deleted in two segments, in a segment of the documents of both. A step for each document.
+// Deletes what is deleted in two segments, in a segment of the documents of both. A step for each document, where one
+// was deleted.
 pub(crate) fn delete_of_both(
     alloc: Global,
     segment: &mut SegmentReader,
@@ -22,6 +23,10 @@ pub(crate) fn delete_of_both(
     ensures deleted { OnOk result (segment.new.segment ≡ without (joined first.now.segment second.now.segment).deleted segment.old.segment) }
     ensures refused { IsOkUnless result QueryError.Memory }
 {
+    let (in_first, in_second) = (first.alive_bitset(), second.alive_bitset());
+    if in_first.is_none() && in_second.is_none() {
+        return Ok(());
+    }
     // those before it are deleted where they were
     for doc in 0..segment.max_doc() {
         if was_deleted(first, second, doc) {

@@ -7,7 +7,7 @@ ghost use Rattle.qm_docset.specs.AliveBitSet.{alive_docs};
 ghost use Rattle.qm_docset.specs.BitSet.{set_has};
 ghost use Rattle.qm_postings.specs.Deletions.{HasSameAlive, IsAliveSet};
 ghost use Rattle.qm_postings.specs.Reading.{deleting};
-ghost use Rattle.qm_postings.specs.Segment.{alive_documents, is_alive, keeps_lengths, length_id};
+ghost use Rattle.qm_postings.specs.Segment.{alive_documents, deleted_documents, is_alive, keeps_lengths, length_id};
 
 use crate::fieldnorm::FieldNormReader;
 use crate::frequencies::Frequencies;
@@ -146,6 +146,7 @@ impl SegmentReader {
     pub fn alive_bitset(&self) -> Option<&AliveBitSet>
         ensures none { IsNone result ↔ (self.now.segment.deleted ≡ []) }
         ensures alive { IfSome result (λ alive. (d : ℕ) → set_has (alive_docs alive.now) d ≡ is_alive self.now.segment d) }
+        ensures ascending { self.now.segment.deleted ≡ deleted_documents self.now.segment }
     {
         self.alive.as_ref()
     }

@@ -41,7 +41,18 @@ impl Term {
         ensures ok { IfOk result (λ term. term ≡ record { field = field; bytes = text.now }) }
         ensures refused { IsOkUnless result QueryError.Memory }
     {
-        let bytes = TermBytes::from_slice(alloc, text.as_bytes())?;
+        Term::from_field_bytes(alloc, field, text.as_bytes())
+    }
+
+    /// The term of that field with these bytes, which need not be those of a text and may be none; costs a copy of
+    /// them, which takes no memory where they are at most 14.
+    ///
+    /// Refused with [`QueryError::Memory`] alone.
+    pub fn from_field_bytes(alloc: Global, field: Field, bytes: &[u8]) -> Result<Term, QueryError>
+        ensures ok { IfOk result (λ term. term ≡ record { field = field; bytes = bytes.now }) }
+        ensures refused { IsOkUnless result QueryError.Memory }
+    {
+        let bytes = TermBytes::from_slice(alloc, bytes)?;
         Ok(Term { field, bytes })
     }
 

@@ -1,6 +1,6 @@
 -- What a file says of a term that a segment was written into: its row there.
 use Rattle.std.proofs.Common.{◌≡◌, ℕ, zero, suc, ◌+◌, ◌-◌, ◌*◌, ◌^◌, ◌<◌, ◌≤◌, Bool, true, false, cond, List, [], ◌∷◌, ◌++◌, drop, length, take, map, Option, None, Some, Ok, Err, refl, ap, sym, subst, ◌∙◌, append_assoc, append-nil, arith}
-use Rattle.std.specs.Prelude.{All, nat_le, ok_or, option_and_then, option_map}
+use Rattle.std.specs.Prelude.{All, ok_or, option_and_then, option_map}
 use Rattle.std.specs.List.{AllByRecursion, flat_map}
 use Rattle.std.specs.List.Sorted.{IsStrictlySortedBy}
 use Rattle.std.specs.Ordering.{eq_by_cmp}
@@ -13,23 +13,27 @@ use Rattle.qm_postings.specs.Rows.{IsRow, Row, columns_of}
 use Rattle.qm_postings.specs.Segment.{keeps_positions}
 use Rattle.qm_schema.specs.Schema.{FieldFacts}
 use Rattle.qm_schema.specs.Term.{TermKey, same_term, term_cmp}
-use Rattle.qm_store.specs.RowBytes.{Postings, followed_by, placed_at, postings_at, postings_bytes, postings_part, row_at, row_bytes}
 use Rattle.qm_store.specs.Numbers.{spelled}
 use Rattle.qm_store.specs.Stored.{IsStored, IsStorable, all_apart, block_bytes, blocks_named, dictionary_bytes, ending_bytes, entries_bytes, group_bytes, group_count, groups, head_bytes, index_bytes, kept_row, last_bytes, named, row_of, rows_bytes, stored, stored_blocks, with_places}
 use Rattle.qm_store.specs.Dictionary.{index_at}
 use Rattle.qm_store.specs.Ends.{ending_at, ending_in, headed, last_piece_at}
 use Rattle.qm_store.specs.Pieces.{part_at, piece_in}
-use Rattle.qm_store.specs.StoredSegment.{Opened, behind_head, lengths_in, looked_up, opened, opened_in, opened_segment, parts_in, with_columns}
+use Rattle.qm_store.specs.StoredSegment.{Opened, behind_head, lengths_in, looked_up, opened, opened_in, opened_segment, parts_in, rows_of, rows_of_blocks, with_columns}
 use Rattle.qm_store.specs.declared.ending.Ending.{Ending}
 use Rattle.qm_store.specs.declared.piece.Piece.{Piece}
-use Rattle.qm_store.specs.declared.store_error.StoreError.TheVariants.{Damaged, NotSegment}
+use Rattle.qm_store.specs.declared.store_error.StoreError.TheVariants.{Damaged, OtherFile}
 use Rattle.qm_store.proofs.DigestFits.{digest-fits}
 use Rattle.qm_store.proofs.FileOpened.{columns-read, ending-read, index-read, last-read}
 use Rattle.qm_store.proofs.PiecesRead.{part-there, piece-there}
-use Rattle.qm_store.proofs.NumberBytes.{number-read}
 use Rattle.qm_store.proofs.RowsFound.{found_as, read_as}
-use Rattle.qm_store.proofs.RowsRead.{ascend-length, postings-bytes, postings-read, row-read, some-byte}
+use Rattle.qm_store.proofs.RowsKept.{row-kept}
+use Rattle.qm_store.proofs.RowsRead.{some-byte}
 use Rattle.qm_store.proofs.StoredRead.{IsGroup, all_rows, looked, term_of}
+use Rattle.qm_store.proofs.BlocksRead.{AreRead, all-read, groups-read, wanted-read}
+use Rattle.qm_store.proofs.WantedRows.{each-read, rows-apart}
+use Rattle.qm_store.specs.Wanted.{AreApart, is_meant, is_wanted}
+use Rattle.qm_store.specs.declared.wanted.Wanted.{Wanted}
+use Rattle.qm_postings.specs.Restriction.{rows_wanted}
 
 -- ---- groups
 
@@ -51,6 +55,10 @@ are-groups (suc n) rows some are =
       are-groups n (drop 128 rows) (omega (arith, length-drop 128 rows, some)) (All-drop IsStorable 128 rows are),
     )
 
+are-rows : (P : Row → Type 0) (n : ℕ) (rows : List Row) → All P rows → AllByRecursion (All P) (groups n rows)
+are-rows P zero rows are = tt
+are-rows P (suc n) rows are = (All-take P 128 rows are, are-rows P n (drop 128 rows) (All-drop P 128 rows are))
+
 -- as many blocks as there are bytes, at most
 few-blocks : (key at : ℕ) (gs : List (List Row)) → length (blocks_named key at gs) ≤ length (dictionary_bytes key at gs)
 few-blocks key at [] = omega arith
@@ -65,30 +73,7 @@ few-blocks key at (g ∷ gs) =
       some-byte 8 (length g),
     )
 
--- ---- a row
-
--- without its positions
-unplaced-read : (schema : List FieldFacts) (count : ℕ) (r : Row) → IsRow schema count r → IsStorable r →
-    row_at r.term false (postings_part r) ≡ Some (with_places false r)
-unfolding postings_part
-unplaced-read schema count r is fit =
-    let postings = postings_bytes 0 r.documents r.frequencies in
-    let n = length r.documents in
-    let many = ascend-length 0 r.documents is.ascending (omega arith) in
-    let enough : n ≤ length postings = omega (arith, postings-bytes 0 r.documents r.frequencies is.paired) in
-    ap (λ (x : Option (ℕ × List ℕ)). followed_by x then_postings) (number-read 8 n postings (omega (arith, many)))
-    ∙ ap (λ b. cond b (followed_by (postings_at n 0 postings) (placed_at r.term false)) None) (le-leb n (length postings) enough)
-    ∙ ap (λ (l : List ℕ). followed_by (postings_at n 0 l) (placed_at r.term false)) (sym (append-nil postings))
-    ∙ ap (λ (x : Option Postings). followed_by x (placed_at r.term false)) (postings-read 0 r.documents r.frequencies [] is.ascending is.paired fit.frequencies)
-  where
-    then_postings : ℕ → List ℕ → Option Row
-    then_postings n rest = cond (nat_le n (length rest)) (followed_by (postings_at n 0 rest) (placed_at r.term false)) None
-
-row-kept : (schema : List FieldFacts) (count : ℕ) (placed : Bool) (r : Row) → IsRow schema count r → IsStorable r →
-    (placed ≡ true → keeps_positions schema r.term.field ≡ true) → read_as placed r.term r ≡ Some (with_places placed r)
-row-kept schema count false r is fit keeps = unplaced-read schema count r is fit
-row-kept schema count true r is fit keeps =
-    ap (λ b. row_at r.term b (row_bytes r)) (sym (keeps refl)) ∙ row-read schema count r is fit.frequencies
+-- ---- a term among rows
 
 rows-kept : (schema : List FieldFacts) (count : ℕ) (placed : Bool) (t : TermKey) (rows : List Row) → All (IsRow schema count) rows → All IsStorable rows →
     (placed ≡ true → keeps_positions schema t.field ≡ true) → found_as placed t (row_of t rows) ≡ Some (kept_row placed t rows)
@@ -158,6 +143,40 @@ module _ (key : ℕ) (r : Reader) (are : IsStored key r) where
   term-kept placed t keeps =
       rows-found placed t
       ∙ rows-kept r.segment.schema (length r.segment.documents) placed t r.rows are.of.made.are_rows.each are.each keeps
+
+  -- ---- the rows of several terms
+
+  abbrev tail : List ℕ
+  tail = index ++ (lengths ++ (ending ++ last))
+
+  all-groups : AllByRecursion IsGroup (groups (group_count r.rows) r.rows)
+  all-groups = are-groups (group_count r.rows) r.rows (omega (arith, (div_ceil_times (length r.rows) 128 (omega arith)).1)) are.each
+
+  whole-rows : all_rows (groups (group_count r.rows) r.rows) ≡ r.rows
+  whole-rows = whole-groups (group_count r.rows) r.rows (omega (arith, (div_ceil_times (length r.rows) 128 (omega arith)).0))
+
+  groups-sorted : IsStrictlySortedBy term_cmp (map term_of (all_rows (groups (group_count r.rows) r.rows)))
+  groups-sorted = subst (λ rs. IsStrictlySortedBy term_cmp (map term_of rs)) (sym whole-rows) are.of.made.are_rows.terms
+
+  all-read-there : AreRead key (stored key r) r.segment.schema 16 (groups (group_count r.rows) r.rows)
+  all-read-there =
+      subst (λ l. AreRead key l r.segment.schema 16 (groups (group_count r.rows) r.rows)) (sym (regrouped head_bytes dictionary index lengths ending last))
+      (groups-read key r.segment.schema (length r.segment.documents) (groups (group_count r.rows) r.rows) head_bytes tail all-groups
+      (are-rows (IsRow r.segment.schema (length r.segment.documents)) (group_count r.rows) r.rows are.of.made.are_rows.each) (omega (arith, are.whole, size)))
+
+  -- a file that was written has all rows of the segment
+  pub whole-kept : rows_of_blocks key (stored key r) r.segment.schema None (stored_blocks key r.rows) ≡ Some r.rows
+  whole-kept =
+      all-read key (stored key r) r.segment.schema 16 (groups (group_count r.rows) r.rows) all-read-there ∙ ap Some whole-rows
+
+  -- and of what is wanted those that are
+  pub wanted-kept : (ws : List Wanted) → AreApart ws →
+      rows_of key (stored key r) r.segment.schema (stored_blocks key r.rows) ws ≡ Some (rows_wanted (is_wanted ws) r.rows)
+  wanted-kept ws apart =
+      each-read key (stored key r) r.segment.schema (stored_blocks key r.rows) r.rows
+      (λ w. wanted-read key (stored key r) r.segment.schema w 16 (groups (group_count r.rows) r.rows) all-read-there all-groups groups-sorted
+      ∙ ap (λ rs. Some (rows_wanted (is_meant w) rs)) whole-rows) ws
+      ∙ ap Some (rows-apart r.rows ws are.of.made.are_rows.terms apart)
 
   -- ---- it opens
 
@@ -235,4 +254,4 @@ module _ (key : ℕ) (r : Reader) (are : IsStored key r) where
         (columns-read r.segment.schema (length r.segment.documents) (columns_of r.segment) are.of.made.lengths))
       where
         begun : headed (stored key r) ≡ Ok (stored key r)
-        begun = ap (λ b. cond b (Err NotSegment) (Ok (stored key r))) (le-ltb (length (stored key r)) 16 (omega (arith, size)))
+        begun = ap (λ b. cond b (Err OtherFile) (Ok (stored key r))) (le-ltb (length (stored key r)) 16 (omega (arith, size)))

@@ -1,24 +1,34 @@
--- Words, pieces and their names that were written are read again.
-use Rattle.std.proofs.Common.{◌≡◌, ℕ, ◌+◌, ◌^◌, ◌<◌, cond, List, ◌++◌, drop, length, take, Option, None, Some, refl, ap, ◌∙◌, append_assoc, arith}
+-- Words, halves of them, pieces and their names that were written are read again.
+use Rattle.std.proofs.Common.{◌≡◌, ℕ, ◌+◌, ◌^◌, ◌<◌, cond, List, ◌++◌, drop, length, take, Option, None, Some, refl, ap, sym, ◌∙◌, append_assoc, arith}
 use Rattle.std.specs.Prelude.{option_and_then}
-use Rattle.std.specs.Int.{w64, from_le_bytes, to_le_bytes}
+use Rattle.std.specs.Int.{Width, w32, w64, from_le_bytes, to_le_bytes}
 use Rattle.std.proofs.lemmas.Bool.{eq-eqb, le-leb, le-ltb}
 use Rattle.std.proofs.lemmas.List.{length-append}
-use Rattle.std.proofs.lemmas.Nat.{from_le_bytes-to_le_bytes_8}
+use Rattle.std.proofs.lemmas.Nat.{from_le_bytes-to_le_bytes_4, from_le_bytes-to_le_bytes_8}
 use Rattle.std.proofs.Math.Seq.{drop-append_seam, take-append_seam}
 use Rattle.qm_store.specs.Numbers.{number_at, spelled}
 use Rattle.qm_store.specs.Pieces.{digest, digested, part_at, piece_at, piece_bytes, piece_in}
 use Rattle.qm_store.specs.RowBytes.{followed_by}
 use Rattle.qm_store.specs.Stored.{named}
-use Rattle.qm_store.specs.Words.{word_at}
+use Rattle.qm_store.specs.Words.{fixed_at, half_at, word_at}
 use Rattle.qm_store.specs.declared.piece.Piece.{Piece}
 use Rattle.qm_store.proofs.NumberBytes.{number-read}
 
+fixed-read : (w : Width) (size n : ℕ) (rest : List ℕ) → length (to_le_bytes w n) ≡ size → from_le_bytes w (to_le_bytes w n) ≡ n →
+    fixed_at w size (to_le_bytes w n ++ rest) ≡ Some (n, rest)
+fixed-read w size n rest long back =
+    let bs = to_le_bytes w n in
+    ap (λ b. cond b None (Some (from_le_bytes w (take size (bs ++ rest)), drop size (bs ++ rest))))
+    (le-ltb (length (bs ++ rest)) size (omega (arith, length-append bs rest, long)))
+    ∙ (λ i. Some (from_le_bytes w (take (sym long i) (bs ++ rest)), drop (sym long i) (bs ++ rest)))
+    ∙ (λ i. Some (from_le_bytes w (take-append_seam bs rest i), drop-append_seam bs rest i))
+    ∙ ap (λ m. Some (m, rest)) back
+
 pub word-read : (n : ℕ) (rest : List ℕ) → n < 2 ^ 64 → word_at (to_le_bytes w64 n ++ rest) ≡ Some (n, rest)
-word-read n rest fits =
-    ap (λ b. cond b None (Some (from_le_bytes w64 (take 8 (to_le_bytes w64 n ++ rest)), drop 8 (to_le_bytes w64 n ++ rest))))
-    (le-ltb (length (to_le_bytes w64 n ++ rest)) 8 (omega (arith, length-append (to_le_bytes w64 n) rest)))
-    ∙ ap (λ m. Some (m, rest)) (from_le_bytes-to_le_bytes_8 n fits)
+word-read n rest fits = fixed-read w64 8 n rest refl (from_le_bytes-to_le_bytes_8 n fits)
+
+pub half-read : (n : ℕ) (rest : List ℕ) → n < 2 ^ 32 → half_at (to_le_bytes w32 n ++ rest) ≡ Some (n, rest)
+half-read n rest fits = fixed-read w32 4 n rest refl (from_le_bytes-to_le_bytes_4 n fits)
 
 pub piece-read : (p : Piece) (rest : List ℕ) → p.at < 128 ^ 9 → p.len < 128 ^ 9 → p.digest < 2 ^ 64 → piece_at (piece_bytes p ++ rest) ≡ Some (p, rest)
 piece-read p rest at len fits =

@@ -9,9 +9,8 @@ use Rattle.qm_schema.specs.Schema.{FieldFacts}
 use Rattle.qm_schema.specs.Term.{TermKey, term_cmp}
 use Rattle.qm_store.specs.Columns.{columns_at}
 use Rattle.qm_store.specs.Dictionary.{Block, block_start_at, entries_at, is_behind, last_of, row_with, start_of, starts_at}
-use Rattle.qm_store.specs.Entries.{Entry, Part, parts_at}
+use Rattle.qm_store.specs.Entries.{Entry, Part, entry_at}
 use Rattle.qm_store.specs.RowBytes.{followed_by}
-use Rattle.qm_store.specs.TermBytes.{term_at}
 use Rattle.qm_store.specs.declared.dictionary_index.BlockStart.{BlockStart}
 
 -- some things in front of those that are read behind them, one of which was read
@@ -102,20 +101,14 @@ abbrev then_entries : ℕ → Entry → List ℕ → Option (List Entry)
 then_entries n e rest = option_map (λ es. e ∷ es) (entries_at n rest)
 
 -- an entry was read
-pub entry-passes : (t : TermKey) (found : Option (Part × Part)) (n : ℕ) (bs : List ℕ) (u : TermKey) (between : List ℕ) (p : Part × Part) (rest : List ℕ) →
-    0 < n → term_at bs ≡ Some (u, between) → parts_at between ≡ Some (p, rest) →
-    option_map (or_else_among t (found_by t found u p)) (entries_at (n - 1) rest) ≡ option_map (or_else_among t found) (entries_at n bs)
-entry-passes t found zero bs u between p rest some is then = absurd (omega (arith, some))
-entry-passes t found (suc n) bs u between p rest some is then =
-    let e : suc n - 1 ≡ n = omega arith in
-    ap (λ k. option_map (or_else_among t (found_by t found u p)) (entries_at k rest)) e
-    ∙ looked-at t found u p (entries_at n rest)
-    ∙ ap (option_map (or_else_among t found)) (sym read)
-  where
-    read : entries_at (suc n) bs ≡ then_entries n (record { term = u; row = p }) rest
-    read =
-        ap (λ (r : Option (TermKey × List ℕ)). followed_by (followed_by r (λ t rest. followed_by (parts_at rest) (λ p rest. Some (record { term = t; row = p }, rest)))) (then_entries n)) is
-        ∙ ap (λ (r : Option ((Part × Part) × List ℕ)). followed_by (followed_by r (λ p rest. Some (record { term = u; row = p }, rest))) (then_entries n)) then
+pub entry-passes : (t : TermKey) (found : Option (Part × Part)) (n : ℕ) (bs : List ℕ) (e : Entry) (rest : List ℕ) → 0 < n → entry_at bs ≡ Some (e, rest) →
+    option_map (or_else_among t (found_by t found e.term e.row)) (entries_at (n - 1) rest) ≡ option_map (or_else_among t found) (entries_at n bs)
+entry-passes t found zero bs e rest some is = absurd (omega (arith, some))
+entry-passes t found (suc n) bs e rest some is =
+    let less : suc n - 1 ≡ n = omega arith in
+    ap (λ k. option_map (or_else_among t (found_by t found e.term e.row)) (entries_at k rest)) less
+    ∙ looked-at t found e.term e.row (entries_at n rest)
+    ∙ ap (λ (r : Option (Entry × List ℕ)). option_map (or_else_among t found) (followed_by r (then_entries n))) (sym is)
 
 -- ---- columns
 

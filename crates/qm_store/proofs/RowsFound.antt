@@ -60,6 +60,15 @@ apart-is : (r : Row) → apart r ≡ parts_apart (postings_part r) (places_part 
 unfolding apart
 apart-is r = refl
 
+-- a row, by where its parts stand
+pub row-found : (key : ℕ) (placed : Bool) (t : TermKey) (r : Row) (before rest : List ℕ) →
+    row_in key (before ++ (apart r ++ rest)) placed t (parts_stored key (length before) (postings_part r) (places_part r)) ≡ read_as placed t r
+row-found key placed t r before rest =
+    let front = postings_part r in
+    let back = places_part r in
+    ap (λ l. option_and_then (row_at t placed) (row_bytes_in key (before ++ (l ++ rest)) placed (parts_stored key (length before) front back))) (apart-is r)
+    ∙ ap (option_and_then (row_at t placed)) (parts-found key before front back rest placed)
+
 -- the rows of a group, by the entries of its block
 pub found-in-group : (key : ℕ) (placed : Bool) (t : TermKey) (rs : List Row) (before behind : List ℕ) →
     found_in key (before ++ (all_apart rs ++ behind)) placed t (row_with t (entries_stored key (length before) rs)) ≡ found_as placed t (row_of t rs)
@@ -79,9 +88,7 @@ found-in-group key placed t (r ∷ rs) before behind = by_term (eq_by_cmp term_c
     first = ap (λ l. before ++ l) (append_assoc (apart r) (all_apart rs) behind)
 
     here-found : row_in key whole placed t (parts_stored key (length before) front back) ≡ read_as placed t r
-    here-found =
-        (λ i. option_and_then (row_at t placed) (row_bytes_in key ((first ∙ ap (λ l. before ++ (l ++ (all_apart rs ++ behind))) (apart-is r)) i) placed (parts_stored key (length before) front back)))
-        ∙ ap (option_and_then (row_at t placed)) (parts-found key before front back (all_apart rs ++ behind) placed)
+    here-found = (λ i. row_in key (first i) placed t (parts_stored key (length before) front back)) ∙ row-found key placed t r before (all_apart rs ++ behind)
 
     by_term : (b : Bool) → found_in key ((before ++ apart r) ++ (all_apart rs ++ behind)) placed t (row_with t (entries_stored key (length (before ++ apart r)) rs))
         ≡ found_as placed t (row_of t rs) →

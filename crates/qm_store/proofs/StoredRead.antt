@@ -75,26 +75,35 @@ pub record IsGroup (g : List Row) : Type 0 where
   pub few : length g < 2 ^ 60
   pub rows : All IsStorable g
 
-apart-len : (g : List Row) → all_apart_len g ≡ length (all_apart g)
+pub apart-len : (g : List Row) → all_apart_len g ≡ length (all_apart g)
 apart-len [] = refl
 apart-len (r ∷ rs) = ap (λ n. length (apart r) + n) (apart-len rs) ∙ sym (length-append (apart r) (all_apart rs))
+
+-- the file is the same with a group counted to what stands before
+pub regrouped : (key : ℕ) (g : List Row) (gs : List (List Row)) (before behind : List ℕ) →
+    before ++ (dictionary_bytes key (length before) (g ∷ gs) ++ behind)
+    ≡ (before ++ group_bytes key (length before) g) ++ (dictionary_bytes key (length before + length (group_bytes key (length before) g)) gs ++ behind)
+regrouped key g gs before behind =
+    let own = group_bytes key (length before) g in
+    let others = dictionary_bytes key (length before + length own) gs in
+    ap (λ l. before ++ l) (append_assoc own others behind) ∙ sym (append_assoc before own (others ++ behind))
+
+-- the first block that is behind a term ends the search
+pub late-first : (key : ℕ) (t : TermKey) (at : ℕ) (gs : List (List Row)) (b : Block) → block_for t (blocks_named key at gs) ≡ Some b → AllByRecursion IsGroup gs →
+    (s : Row) × (rs : List Row) × (all_rows gs ≡ s ∷ rs) × (is_gt (term_cmp s.term t) ≡ false)
+late-first key t at [] b is are = absurd (false≢true (ap is_some is))
+late-first key t at ([] ∷ gs) b is are = absurd (omega (arith, are.0.some))
+late-first key t at ((s ∷ g) ∷ gs) b is are = (s, g ++ all_rows gs, refl, by_first (is_gt (term_cmp s.term t)) is)
+  where
+    by_first : (x : Bool) → cond x None (Some (unwrap_or (block_for t (blocks_named key (at + length (group_bytes key at (s ∷ g))) gs)) (block_named key at (s ∷ g)))) ≡ Some b → x ≡ false
+    by_first true e = absurd (false≢true (ap is_some e))
+    by_first false e = refl
 
 module _ (key : ℕ) (placed : Bool) (t : TermKey) where
   abbrev Looked : List (List Row) → List ℕ → List ℕ → Type 0
   Looked gs before behind =
       looked_up_in key (before ++ (dictionary_bytes key (length before) gs ++ behind)) placed t (option_map (λ b. b.piece) (block_for t (blocks_named key (length before) gs)))
       ≡ found_as placed t (row_of t (all_rows gs))
-
-  -- the first block that is behind a term ends the search
-  late-first : (at : ℕ) (gs : List (List Row)) (b : Block) → block_for t (blocks_named key at gs) ≡ Some b → AllByRecursion IsGroup gs →
-      (s : Row) × (rs : List Row) × (all_rows gs ≡ s ∷ rs) × (is_gt (term_cmp s.term t) ≡ false)
-  late-first at [] b is are = absurd (false≢true (ap is_some is))
-  late-first at ([] ∷ gs) b is are = absurd (omega (arith, are.0.some))
-  late-first at ((s ∷ g) ∷ gs) b is are = (s, g ++ all_rows gs, refl, by_first (is_gt (term_cmp s.term t)) is)
-    where
-      by_first : (x : Bool) → cond x None (Some (unwrap_or (block_for t (blocks_named key (at + length (group_bytes key at (s ∷ g))) gs)) (block_named key at (s ∷ g)))) ≡ Some b → x ≡ false
-      by_first true e = absurd (false≢true (ap is_some e))
-      by_first false e = refl
 
   -- the rows of a group, where the term is not behind it
   in-group : (g : List Row) (gs : List (List Row)) (before behind : List ℕ) → IsGroup g →
@@ -109,15 +118,6 @@ module _ (key : ℕ) (placed : Bool) (t : TermKey) where
       ap (λ l. looked_up_in key (before ++ l) placed t (Some (block_named key (length before) g).piece)) (append_assoc own others behind)
       ∙ group-looked key placed t g before (others ++ behind) is.rows (omega (arith, near, long, parts, apart-len g)) is.few
 
-  -- the file is the same with a group counted to what stands before
-  regrouped : (g : List Row) (gs : List (List Row)) (before behind : List ℕ) →
-      before ++ (dictionary_bytes key (length before) (g ∷ gs) ++ behind)
-      ≡ (before ++ group_bytes key (length before) g) ++ (dictionary_bytes key (length before + length (group_bytes key (length before) g)) gs ++ behind)
-  regrouped g gs before behind =
-      let own = group_bytes key (length before) g in
-      let others = dictionary_bytes key (length before + length own) gs in
-      ap (λ l. before ++ l) (append_assoc own others behind) ∙ sym (append_assoc before own (others ++ behind))
-
   pub looked : (gs : List (List Row)) (before behind : List ℕ) → AllByRecursion IsGroup gs → IsStrictlySortedBy term_cmp (map term_of (all_rows gs)) →
       length before + length (dictionary_bytes key (length before) gs) ≤ 2 ^ 60 → Looked gs before behind
   looked [] before behind are sorted near = refl
@@ -127,7 +127,7 @@ module _ (key : ℕ) (placed : Bool) (t : TermKey) where
       let long = length-append own (dictionary_bytes key (at + length own) gs) in
       let more = length-append before own in
       let others : looked_up_in key whole placed t (option_map (λ b. b.piece) (block_for t next)) ≡ found_as placed t (row_of t (all_rows gs)) =
-      (λ i. looked_up_in key (regrouped (s ∷ g) gs before behind i) placed t (option_map (λ b. b.piece) (block_for t next)))
+      (λ i. looked_up_in key (regrouped key (s ∷ g) gs before behind i) placed t (option_map (λ b. b.piece) (block_for t next)))
       ∙ (λ i. looked_up_in key ((before ++ own) ++ (dictionary_bytes key (sym more i) gs ++ behind)) placed t
       (option_map (λ b. b.piece) (block_for t (blocks_named key (sym more i) gs))))
       ∙ looked gs (before ++ own) behind are.1 (behind-sorted (s ∷ g) (all_rows gs) sorted)
@@ -158,7 +158,7 @@ module _ (key : ℕ) (placed : Bool) (t : TermKey) where
           ∙ in-group (s ∷ g) gs before behind are.0 near
           ∙ ap (found_as placed t) (sym (none-behind t (s ∷ g) (all_rows gs) none))
       by_first false late (Some b) is others =
-          let there = late-first (at + length (group_bytes key at (s ∷ g))) gs b is are.1 in
+          let there = late-first key t (at + length (group_bytes key at (s ∷ g))) gs b is are.1 in
           let sorted_there = subst (λ rs. IsStrictlySortedBy term_cmp (map term_of ((s ∷ g) ++ rs))) there.2 sorted in
           let none = late-none t (s ∷ g) there.0 there.1 sorted_there there.3 in
           ap (λ y. looked_up_in key whole placed t (Some (unwrap_or y own_block).piece)) is

@@ -1,10 +1,14 @@
 -- What the writing of a stored segment is in the midst of.
-use Rattle.std.proofs.Common.{◌≡◌, ℕ, zero, suc, ◌+◌, ◌-◌, ◌*◌, ◌<◌, ◌≤◌, List, [], ◌∷◌, ◌++◌, drop, get_or, length, take, refl, ap, sym, ◌∙◌, append_assoc, arith, min, inl, inr}
+use Rattle.std.proofs.Common.{◌≡◌, ℕ, zero, suc, ◌+◌, ◌-◌, ◌*◌, ◌<◌, ◌≤◌, List, [], ◌∷◌, ◌++◌, drop, get_or, length, take, refl, ap, sym, ◌∙◌, append_assoc, arith, min, inl, inr, Result, Ok, Err, subst}
 use Rattle.std.proofs.lemmas.List.{drop-drop, drop_more, length-append, length-drop, length-take, take_min}
+use Rattle.std.specs.Prelude.{IfErr, IsErrAnd}
 use Rattle.std.specs.List.{AllWithin, HoldsAt, flat_map}
 use Rattle.std.proofs.lemmas.Bool.{cases_lt}
 use Rattle.std.proofs.lemmas.Grind.{div_ceil_times}
 use Rattle.qm_postings.specs.Rows.{Row, no_row}
+use Rattle.qm_store.specs.Pieces.{IsMakeRefusal}
+use Rattle.qm_store.specs.declared.store_error.StoreError.{StoreError}
+use Rattle.qm_store.specs.declared.store_error.StoreError.TheVariants.{Damaged, Failed, Memory, OtherFile, OtherVersion}
 use Rattle.qm_store.specs.Stored.{all_apart, apart, block_named, blocks_named, dictionary_bytes, entries_bytes, entry_bytes, first_row, group_bytes, group_count, groups, start_bytes}
 
 -- the rows from one place up to another
@@ -21,6 +25,19 @@ pub none-between : (rows : List Row) (place end : ℕ) → end ≤ place → bet
 none-between rows place end past =
     let e : end - place ≡ zero = omega (arith, past) in
     ap (λ n. take n (drop place rows)) e
+
+-- a refusal of so many bytes is one of more
+pub refused-more : (e : StoreError) (n m : ℕ) → n ≤ m → IsMakeRefusal n e → IsMakeRefusal m e
+refused-more Memory n m le refused = tt
+refused-more Failed n m le refused = omega (arith, le, refused)
+refused-more OtherFile n m le refused = refused
+refused-more OtherVersion n m le refused = refused
+refused-more Damaged n m le refused = refused
+
+-- an error that is handed on
+pub handed-on : {T : Type 0} (r : Result T StoreError) (e : StoreError) (Q : StoreError → Type 0) → IsErrAnd r (λ y. y ≡ e) → Q e → IfErr r Q
+handed-on (Ok x) e Q is q = tt
+handed-on (Err y) e Q is q = subst Q (sym is) q
 
 -- ---- entries
 

@@ -1,5 +1,5 @@
 -- The dictionary: blocks of entries, and what tells of the blocks.
-use Rattle.std.specs.Prelude.{ℕ, Bool, true, ◌&&◌, if◌then◌else◌, List, [], ◌∷◌, Option, None, Some, option_map, unwrap_or}
+use Rattle.std.specs.Prelude.{ℕ, Bool, true, ◌&&◌, if◌then◌else◌, List, [], ◌∷◌, ◌++◌, Option, None, Some, filter, option_map, option_to_list, unwrap_or}
 use Rattle.std.proofs.Common.{zero, suc}
 use Rattle.std.specs.Ordering.{eq_by_cmp, is_gt, is_lt}
 use Rattle.qm_schema.specs.Term.{TermKey, term_cmp}
@@ -8,8 +8,10 @@ use Rattle.qm_store.specs.Numbers.{number_at}
 use Rattle.qm_store.specs.Pieces.{piece_at}
 use Rattle.qm_store.specs.RowBytes.{followed_by}
 use Rattle.qm_store.specs.TermBytes.{term_at}
+use Rattle.qm_store.specs.Wanted.{is_meant}
 use Rattle.qm_store.specs.declared.dictionary_index.BlockStart.{BlockStart}
 use Rattle.qm_store.specs.declared.piece.Piece.{Piece}
+use Rattle.qm_store.specs.declared.wanted.Wanted.{Wanted}
 
 -- ---- a block: how many entries it has, and these
 
@@ -70,6 +72,15 @@ last_of (b ∷ bs) = Some (unwrap_or (last_of bs) b)
 abbrev pub block_for : TermKey → List Block → Option Block
 block_for term [] = None
 block_for term (b ∷ bs) = if is_gt (term_cmp b.first term) then None else Some (unwrap_or (block_for term bs) b)
+
+-- the blocks that begin behind a term
+abbrev pub blocks_behind : TermKey → List Block → List Block
+blocks_behind term blocks = filter (λ b. is_gt (term_cmp b.first term)) blocks
+
+-- the blocks that may have a term that is meant: the last that begins with the wanted one or before it, and of those
+-- behind it all that begin with a term that is meant
+abbrev pub blocks_of : Wanted → List Block → List Block
+blocks_of w blocks = option_to_list (block_for w.term blocks) ++ filter (λ b. is_meant w b.first) (blocks_behind w.term blocks)
 
 -- ---- as the program has them
 

@@ -1,7 +1,6 @@
 -- The ends of a stored segment: its first bytes, and where its last ones say that its parts stand.
-use Rattle.std.specs.Prelude.{ℕ, ◌-◌, ◌==◌, nat_eq, nat_le, nat_lt, not, if◌then◌else◌, List, [], ◌∷◌, Option, None, Some, Result, Ok, Err, drop, length, option_and_then, take}
-use Rattle.std.specs.Int.{w64, from_le_bytes}
-use Rattle.std.specs.Cmp.Lexicographic.{pointwise}
+use Rattle.std.specs.Prelude.{ℕ, ◌-◌, ◌==◌, nat_le, nat_lt, not, if◌then◌else◌, List, [], ◌∷◌, Option, None, Some, Result, length, option_and_then}
+use Rattle.qm_store.specs.Heads.{headed_as}
 use Rattle.qm_store.specs.Numbers.{number_at}
 use Rattle.qm_store.specs.Pieces.{part_at, piece_at, piece_in}
 use Rattle.qm_store.specs.RowBytes.{followed_by}
@@ -9,14 +8,14 @@ use Rattle.qm_store.specs.Words.{word_at}
 use Rattle.qm_store.specs.declared.ending.Ending.{Ending}
 use Rattle.qm_store.specs.declared.piece.Piece.{Piece}
 use Rattle.qm_store.specs.declared.store_error.StoreError.{StoreError}
-use Rattle.qm_store.specs.declared.store_error.StoreError.TheVariants.{NotSegment, OtherVersion}
 
--- A file that begins as a stored segment does: with the bytes of `birchseg`, and then the number of its version, 1.
+-- the bytes of `birchseg`
+abbrev pub segment_kind : List ℕ
+segment_kind = 98 ∷ 105 ∷ 114 ∷ 99 ∷ 104 ∷ 115 ∷ 101 ∷ 103 ∷ []
+
+-- A file that begins as a stored segment does.
 abbrev pub headed : List ℕ → Result (List ℕ) StoreError
-headed file =
-    if nat_lt (length file) 16 then Err NotSegment else
-    if not (pointwise nat_eq (take 8 file) (98 ∷ 105 ∷ 114 ∷ 99 ∷ 104 ∷ 115 ∷ 101 ∷ 103 ∷ [])) then Err NotSegment else
-    if from_le_bytes w64 (take 8 (drop 8 file)) == 1 then Ok file else Err OtherVersion
+headed file = headed_as segment_kind file
 
 -- what was read, where no byte is left
 abbrev pub ended_by : {A : Type 0} → A → List ℕ → Option A

@@ -5,6 +5,7 @@ use Rattle.qm_store.specs.Numbers.{number_at}
 use Rattle.qm_store.specs.RowBytes.{followed_by}
 use Rattle.qm_store.specs.TermBytes.{term_at}
 use Rattle.qm_store.specs.Words.{word_at}
+use Rattle.qm_store.specs.declared.entry.EntryRef.{EntryRef}
 use Rattle.qm_store.specs.declared.entry.PartRef.{PartRef}
 use Rattle.qm_store.specs.declared.entry.PartRef.TheVariants.{Here, There}
 use Rattle.qm_store.specs.declared.piece.Piece.{Piece}
@@ -54,3 +55,6 @@ entry_at bs =
 abbrev pub lent_part : PartRef → Part
 lent_part (Here bs) = here bs.now
 lent_part (There p) = there p
+
+abbrev pub lent_entry : EntryRef → Entry
+lent_entry e = record { term = record { field = e.field; bytes = e.text.now }; row = (lent_part e.parts.0, lent_part e.parts.1) }

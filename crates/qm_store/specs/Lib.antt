@@ -4,8 +4,17 @@ pub mod TermBytes
 pub mod Words
 pub mod Pieces
 pub mod Entries
+pub mod Wanted
 pub mod Dictionary
 pub mod Columns
+pub mod Heads
 pub mod Ends
+pub mod Sealed
+pub mod Deletions
+pub mod Items
+pub mod Fields
+pub mod Weights
+pub mod Manifest
+pub mod Places
 pub mod StoredSegment
 pub mod Stored

@@ -1,5 +1,5 @@
 -- Pieces of a file, and their digests; and when a function returned what some bytes are.
-use Rattle.std.specs.Prelude.{◌≡◌, ℕ, ◌+◌, ◌^◌, ◌≤◌, ◌==◌, nat_le, if◌then◌else◌, List, ◌++◌, Option, None, Some, Result, Ok, Err, drop, length, option_and_then, take}
+use Rattle.std.specs.Prelude.{◌≡◌, ℕ, ◌+◌, ◌^◌, ◌<◌, ◌≤◌, ◌==◌, nat_le, if◌then◌else◌, List, ◌++◌, Option, None, Some, Result, Ok, Err, drop, length, option_and_then, take}
 use Rattle.std.specs.Int.{w64, to_le_bytes}
 use Rattle.std.specs.Hash.DefaultHasher.{finish, initial, write}
 use Rattle.qm_store.specs.Numbers.{number_at, spelled}
@@ -7,7 +7,7 @@ use Rattle.qm_store.specs.RowBytes.{followed_by}
 use Rattle.qm_store.specs.Words.{word_at}
 use Rattle.qm_store.specs.declared.piece.Piece.{Piece}
 use Rattle.qm_store.specs.declared.store_error.StoreError.{StoreError}
-use Rattle.qm_store.specs.declared.store_error.StoreError.TheVariants.{Damaged, Failed, Memory, NotSegment, OtherVersion}
+use Rattle.qm_store.specs.declared.store_error.StoreError.TheVariants.{Damaged, Failed, Memory, OtherFile, OtherVersion}
 
 -- ---- what a function returned
 
@@ -15,7 +15,7 @@ use Rattle.qm_store.specs.declared.store_error.StoreError.TheVariants.{Damaged, 
 abbrev pub TellsOf : {Y : Type 0} → StoreError → Option Y → Type 0
 TellsOf Memory found = Unit {0}
 TellsOf Failed found = ⊥
-TellsOf NotSegment found = ⊥
+TellsOf OtherFile found = ⊥
 TellsOf OtherVersion found = ⊥
 TellsOf Damaged found = found ≡ None
 
@@ -28,7 +28,7 @@ GivesSome view (Err e) found = TellsOf e found
 abbrev pub Fails : {Y : Type 0} → StoreError → Result Y StoreError → Type 0
 Fails Memory read = Unit {0}
 Fails Failed read = ⊥
-Fails NotSegment read = read ≡ Err NotSegment
+Fails OtherFile read = read ≡ Err OtherFile
 Fails OtherVersion read = read ≡ Err OtherVersion
 Fails Damaged read = read ≡ Err Damaged
 
@@ -36,6 +36,22 @@ Fails Damaged read = read ≡ Err Damaged
 abbrev pub Gives : {X Y : Type 0} → (X → Y) → Result X StoreError → Result Y StoreError → Type 0
 Gives view (Ok x) read = read ≡ Ok (view x)
 Gives view (Err e) read = Fails e read
+
+-- A refusal of bytes that are made, so many: for want of memory, or because they are more than 2^60.
+abbrev pub IsMakeRefusal : ℕ → StoreError → Type 0
+IsMakeRefusal count Memory = Unit {0}
+IsMakeRefusal count Failed = 2 ^ 60 < count
+IsMakeRefusal count OtherFile = ⊥
+IsMakeRefusal count OtherVersion = ⊥
+IsMakeRefusal count Damaged = ⊥
+
+-- A refusal of what is written: for want of memory, when nothing was, or because it can't be written.
+abbrev pub IsWriteRefusal : {W : Type 0} → W → W → StoreError → Type 0
+IsWriteRefusal old new Memory = new ≡ old
+IsWriteRefusal old new Failed = Unit {0}
+IsWriteRefusal old new OtherFile = ⊥
+IsWriteRefusal old new OtherVersion = ⊥
+IsWriteRefusal old new Damaged = ⊥
 
 -- ---- pieces
 

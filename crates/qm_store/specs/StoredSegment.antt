@@ -1,22 +1,24 @@
 -- What some bytes are as a stored segment, and what they say of a term.
-use Rattle.std.specs.Prelude.{ℕ, Bool, if◌then◌else◌, List, ◌++◌, Option, None, Some, Result, Ok, Err, length, map, ok_or, option_and_then, option_map, ◌≡◌, [], ◌∷◌, IfSome, option_to_list}
+use Rattle.std.specs.Prelude.{ℕ, Bool, if◌then◌else◌, List, ◌++◌, Option, None, Some, Result, Ok, Err, length, map, ok_or, option_and_then, option_map, ◌≡◌, [], ◌∷◌, IfSome}
 use Rattle.qm_postings.specs.Reading.{Reader, reader_of_rows}
 use Rattle.qm_postings.specs.Rows.{MakeSegment, Row, columns_of}
 use Rattle.qm_postings.specs.Segment.{keeps_positions}
 use Rattle.qm_schema.specs.Schema.{FieldFacts}
 use Rattle.qm_schema.specs.Term.{TermKey}
 use Rattle.qm_store.specs.Columns.{columns_at}
-use Rattle.qm_store.specs.Dictionary.{Block, block_at, block_for, index_at, row_with, start_of}
+use Rattle.qm_store.specs.Dictionary.{Block, block_at, block_for, blocks_of, index_at, row_with, start_of}
 use Rattle.qm_store.specs.Ends.{ending_in, headed}
-use Rattle.qm_store.specs.Entries.{Part, here, there}
+use Rattle.qm_store.specs.Entries.{Entry, Part, here, there}
 use Rattle.qm_store.specs.Pieces.{piece_in}
 use Rattle.qm_store.specs.RowBytes.{row_at}
 use Rattle.qm_store.specs.Stored.{stored_blocks}
+use Rattle.qm_store.specs.Wanted.{is_chosen}
 use Rattle.qm_store.specs.declared.ending.Ending.{Ending}
 use Rattle.qm_store.specs.declared.piece.Piece.{Piece}
 use Rattle.qm_store.specs.declared.store_error.StoreError.{StoreError}
-use Rattle.qm_store.specs.declared.store_error.StoreError.TheVariants.{Damaged, Failed, Memory, NotSegment, OtherVersion}
+use Rattle.qm_store.specs.declared.store_error.StoreError.TheVariants.{Damaged, Failed, Memory, OtherFile, OtherVersion}
 use Rattle.qm_store.specs.declared.stored_segment.StoredSegment.{StoredSegment}
+use Rattle.qm_store.specs.declared.wanted.Wanted.{Wanted}
 
 -- ---- what is known of a stored segment once it is open
 
@@ -90,14 +92,40 @@ looked_up_in key file placed term (Some p) = option_and_then (row_by key file pl
 abbrev pub looked_up : ℕ → List ℕ → Bool → TermKey → List Block → Option (Option Row)
 looked_up key file placed term blocks = looked_up_in key file placed term (option_map (λ b. b.piece) (block_for term blocks))
 
--- ---- several terms
+-- ---- the rows of several terms
 
--- the rows of some terms, one behind the other, of those that have one
-abbrev pub rows_of : ℕ → List ℕ → List FieldFacts → List Block → List TermKey → Option (List Row)
+-- rows in front of others, where both are there
+abbrev pub rows_then : Option (List Row) → Option (List Row) → Option (List Row)
+rows_then None more = None
+rows_then (Some rows) more = option_map (λ back. rows ++ back) more
+
+-- the row of an entry, with its positions where the field keeps them; none where the term is not chosen
+abbrev pub rows_of_entry : ℕ → List ℕ → List FieldFacts → Option Wanted → Entry → Option (List Row)
+rows_of_entry key file schema chosen e =
+    if is_chosen chosen e.term then option_map (λ row. row ∷ []) (row_in key file (keeps_positions schema e.term.field) e.term e.row) else Some []
+
+-- those of some entries, one behind the other
+abbrev pub rows_of_entries : ℕ → List ℕ → List FieldFacts → Option Wanted → List Entry → Option (List Row)
+rows_of_entries key file schema chosen [] = Some []
+rows_of_entries key file schema chosen (e ∷ es) =
+    rows_then (rows_of_entry key file schema chosen e) (rows_of_entries key file schema chosen es)
+
+-- those of a block, by its bytes
+abbrev pub rows_by : ℕ → List ℕ → List FieldFacts → Option Wanted → List ℕ → Option (List Row)
+rows_by key file schema chosen bs = option_and_then (rows_of_entries key file schema chosen) (block_at bs)
+
+-- The rows of the chosen terms of some blocks, or of all their terms: nothing where one of the blocks, or of the rows, is
+-- damaged.
+abbrev pub rows_of_blocks : ℕ → List ℕ → List FieldFacts → Option Wanted → List Block → Option (List Row)
+rows_of_blocks key file schema chosen [] = Some []
+rows_of_blocks key file schema chosen (b ∷ bs) =
+    rows_then (option_and_then (rows_by key file schema chosen) (piece_in key file b.piece)) (rows_of_blocks key file schema chosen bs)
+
+-- the rows of what is wanted, one behind the other, each by the blocks that may have such terms
+abbrev pub rows_of : ℕ → List ℕ → List FieldFacts → List Block → List Wanted → Option (List Row)
 rows_of key file schema blocks [] = Some []
-rows_of key file schema blocks (t ∷ ts) =
-    option_and_then (λ row. option_map (λ rows. option_to_list row ++ rows) (rows_of key file schema blocks ts))
-    (looked_up key file (keeps_positions schema t.field) t blocks)
+rows_of key file schema blocks (w ∷ ws) =
+    rows_then (rows_of_blocks key file schema (Some w) (blocks_of w blocks)) (rows_of key file schema blocks ws)
 
 -- rows that make no segment of a schema beside what is known of it
 abbrev pub MakeNone : List FieldFacts → Opened → List Row → Type 0
@@ -108,7 +136,7 @@ abbrev pub TellsOfRows : List FieldFacts → Opened → StoreError → Option (L
 TellsOfRows schema o Memory found = Unit {0}
 TellsOfRows schema o Damaged found = IfSome found (MakeNone schema o)
 TellsOfRows schema o Failed found = ⊥
-TellsOfRows schema o NotSegment found = ⊥
+TellsOfRows schema o OtherFile found = ⊥
 TellsOfRows schema o OtherVersion found = ⊥
 
 -- What was returned is the reader of the rows that were found, and damaged where these make no segment, unless memory ran out.

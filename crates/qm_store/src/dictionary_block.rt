@@ -6,9 +6,8 @@ ghost use Rattle.qm_schema.specs.Term.{term_cmp};
 ghost use Rattle.qm_store.specs.Entries.{lent_part};
 ghost use Rattle.qm_store.specs.Dictionary.{block_at, row_with};
 
-use crate::entry::{PartRef, read_parts};
+use crate::entry::{PartRef, read_entry};
 use crate::numbers::read_number;
-use crate::term_bytes::read_term;
 use qm_schema::{Field, Term};
 
 // Where a block says that the row of a term stands: `None` where the bytes are no block, and none in it where it has no
@@ -25,14 +24,11 @@ pub(crate) fn find_row<'a>(
     let mut found = None;
     // what was found, or else is found among those that are left, is what is found
     for _ in 0..count {
-        let Some((field, text, between)) = read_term(rest) else {
+        let Some((entry, behind)) = read_entry(rest) else {
             return None;
         };
-        let Some((postings, places, behind)) = read_parts(between) else {
-            return None;
-        };
-        if found.is_none() && is_term(field, text, term) {
-            found = Some((postings, places));
+        if found.is_none() && is_term(entry.field, entry.text, term) {
+            found = Some(entry.parts);
         }
         rest = behind;
     }
@@ -41,7 +37,7 @@ pub(crate) fn find_row<'a>(
 
 // Whether a term is this text of a field.
 #[tactic(auto, using(qm_schema::specs::Term::term_parts))]
-fn is_term(field: Field, text: &[u8], term: &Term) -> bool
+pub(crate) fn is_term(field: Field, text: &[u8], term: &Term) -> bool
     ensures { result ≡ eq_by_cmp term_cmp (record { field = field; bytes = text.now }) term.now }
 {
     if field == term.field() {

@@ -1,13 +1,15 @@
 //! What tells of the blocks of a dictionary.
 
-ghost use Rattle.std.specs.Prelude.{◌≡◌, ◌≤◌, None, IfOk, IsTrue, length, map, not, option_map, take};
+ghost use Rattle.std.specs.Prelude.{◌≡◌, ◌≤◌, None, Some, IfOk, IsTrue, drop, filter, length, map, not, option_map, take};
 ghost use Rattle.std.specs.Ordering.{is_gt};
 ghost use Rattle.qm_schema.specs.Term.{term_cmp};
-ghost use Rattle.qm_store.specs.Dictionary.{ascend, block_for, block_start_at, index_at, is_behind, last_of, start_of};
+ghost use Rattle.qm_store.specs.Dictionary.{ascend, block_for, block_start_at, blocks_behind, blocks_of, index_at, is_behind, last_of, start_of};
+ghost use Rattle.qm_store.specs.Wanted.{is_meant};
 
 use crate::numbers::read_number;
 use crate::piece::{Piece, read_piece_name};
 use crate::term_bytes::read_term;
+use crate::wanted::Wanted;
 use qm_schema::{Field, Term};
 use std::alloc::{AllocError, Global};
 use std::cmp::Ordering;
@@ -101,6 +103,29 @@ impl DictionaryIndex {
         }
         Some(starts[behind - 1].piece)
     }
+
+    // The blocks that may have a term that is meant.
+    pub(crate) fn blocks_of(&self, wanted: &Wanted) -> &[BlockStart]
+        ensures { map start_of result.now ≡ blocks_of wanted.now (map start_of self.now.starts.items) }
+    {
+        let starts = self.starts.as_slice();
+        let behind = blocks_until(starts, &wanted.term);
+        let end = behind + blocks_meant(&starts[behind..], wanted);
+        &starts[behind.saturating_sub(1)..end]
+    }
+}
+
+// How many of some blocks begin with a term that is meant, where each begins behind the wanted one. By halving.
+fn blocks_meant(starts: &[BlockStart], wanted: &Wanted) -> usize
+    requires { IsTrue (ascend (Some wanted.now.term) (map start_of starts.now)) }
+    ensures within { result ≤ length starts.now }
+    ensures meant { filter (λ b. is_meant wanted.now b.first) (map start_of starts.now) ≡ take result (map start_of starts.now) }
+{
+    starts.partition_point(
+        |start|
+            ensures { result ≡ is_meant wanted.entry.now (start_of start.now).first }
+        { wanted.means(start.field, &start.text) },
+    )
 }
 
 // How many blocks begin with a term or before it. By halving.
@@ -108,6 +133,7 @@ fn blocks_until(starts: &[BlockStart], term: &Term) -> usize
     requires { IsTrue (ascend None (map start_of starts.now)) }
     ensures within { result ≤ length starts.now }
     ensures before { block_for term.now (map start_of starts.now) ≡ last_of (take result (map start_of starts.now)) }
+    ensures behind { blocks_behind term.now (map start_of starts.now) ≡ drop result (map start_of starts.now) }
 {
     starts.partition_point(
         |start|

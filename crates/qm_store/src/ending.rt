@@ -4,6 +4,7 @@ ghost use Rattle.std.specs.Prelude.{◌≡◌, List, ℕ, Some};
 ghost use Rattle.qm_store.specs.Ends.{checked_ending, ending_at, ending_in, headed, last_piece_at};
 ghost use Rattle.qm_store.specs.Pieces.{Gives, GivesSome};
 
+use crate::head::{HEAD_BYTES, check_kind};
 use crate::numbers::read_number;
 use crate::piece::{Piece, read_piece, read_piece_name};
 use crate::pieces::Pieces;
@@ -12,13 +13,7 @@ use crate::words::read_word;
 use std::alloc::Global;
 
 /// The first bytes of each stored segment.
-const MAGIC: &[u8] = b"birchseg";
-
-/// The version that is written, and read, here.
-const VERSION: u64 = 1;
-
-/// How many bytes stand before the rows: those, and the version.
-const HEAD_BYTES: u64 = 16;
+pub(crate) const KIND: &[u8] = b"birchseg";
 
 /// How many the last ones are, which name the ending.
 const NAME_BYTES: u64 = 24;
@@ -36,19 +31,13 @@ pub(crate) struct Ending {
 pub(crate) fn check_head<P: Pieces>(alloc: Global, source: &P) -> Result<(), StoreError>
     ensures { (file : List ℕ) → P.bytes source.now ≡ Some file → Gives (λ _. file) result (headed file) }
 {
-    if source.byte_count()? < HEAD_BYTES {
-        return Err(StoreError::NotSegment);
+    if source.byte_count()? < HEAD_BYTES as u64 {
+        return Err(StoreError::OtherFile);
     }
     let mut head = Vec::new(alloc);
-    source.read_at(0, HEAD_BYTES, &mut head)?;
-    let (magic, rest) = head.split_at(8);
-    if magic != MAGIC {
-        return Err(StoreError::NotSegment);
-    }
-    match read_word(rest) {
-        Some((VERSION, _)) => Ok(()),
-        _ => Err(StoreError::OtherVersion),
-    }
+    source.read_at(0, HEAD_BYTES as u64, &mut head)?;
+    check_kind(KIND, &head)?;
+    Ok(())
 }
 
 // What the last bytes say of the segment of a key.

@@ -1,11 +1,13 @@
-//! Where a dictionary says that a row stands.
+//! What a dictionary says of a term, and where it says that its row stands.
 
 ghost use Rattle.std.specs.Prelude.{◌≡◌, ◌<◌, ◌^◌, option_map};
-ghost use Rattle.qm_store.specs.Entries.{here_at, lent_part, parts_at, there_at};
+ghost use Rattle.qm_store.specs.Entries.{entry_at, here_at, lent_entry, lent_part, parts_at, there_at};
 
 use crate::numbers::read_number;
 use crate::piece::Piece;
+use crate::term_bytes::read_term;
 use crate::words::read_word;
+use qm_schema::Field;
 
 /// A part of a row: bytes that stand in the dictionary itself, or elsewhere in the file.
 #[derive(Clone, Copy)]
@@ -14,9 +16,31 @@ pub(crate) enum PartRef<'a> {
     There(Piece),
 }
 
+/// What a dictionary says of a term: its field and its text, and where its postings and its positions stand.
+#[derive(Clone, Copy)]
+pub(crate) struct EntryRef<'a> {
+    pub(crate) field: Field,
+    pub(crate) text: &'a [u8],
+    pub(crate) parts: (PartRef<'a>, PartRef<'a>),
+}
+
+// The entry that some bytes begin with, and the bytes behind it; none where they begin with none.
+pub(crate) fn read_entry(bytes: &[u8]) -> Option<(EntryRef<'_>, &[u8])>
+    ensures read { option_map (λ r. (lent_entry r.0, r.1.now)) result ≡ entry_at bytes.now }
+{
+    let Some((field, text, rest)) = read_term(bytes) else {
+        return None;
+    };
+    let Some((postings, places, rest)) = read_parts(rest) else {
+        return None;
+    };
+    let parts = (postings, places);
+    Some((EntryRef { field, text, parts }, rest))
+}
+
 // Where the postings of a row and its positions stand, which some bytes begin with, and the bytes behind that; none where
 // they begin with no such.
-pub(crate) fn read_parts(bytes: &[u8]) -> Option<(PartRef<'_>, PartRef<'_>, &[u8])>
+fn read_parts(bytes: &[u8]) -> Option<(PartRef<'_>, PartRef<'_>, &[u8])>
     ensures read { option_map (λ r. ((lent_part r.0, lent_part r.1), r.2.now)) result ≡ parts_at bytes.now }
 {
     let (marked, rest) = read_number(bytes)?;

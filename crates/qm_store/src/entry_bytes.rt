@@ -1,8 +1,8 @@
 //! Entries of a dictionary as bytes.
 
-ghost use Rattle.std.specs.Prelude.{◌≡◌, ◌≤◌, ◌+◌, ◌++◌, All, IfOk, OnOk, drop, length, take};
+ghost use Rattle.std.specs.Prelude.{◌≡◌, ◌≤◌, ◌+◌, ◌++◌, All, IfErr, IfOk, OnOk, drop, length, take};
 ghost use Rattle.qm_postings.specs.LentRow.{lent_row};
-ghost use Rattle.qm_store.specs.Pieces.{IsInFile};
+ghost use Rattle.qm_store.specs.Pieces.{IsInFile, IsMakeRefusal};
 ghost use Rattle.qm_store.specs.RowBytes.{IsSomeRow, postings_part, row_bytes};
 ghost use Rattle.qm_store.specs.Stored.{AreShortEnough, IsStorable, apart, digests_bytes, entry_bytes, here_bytes, parts_apart, parts_bytes, there_bytes};
 
@@ -32,6 +32,7 @@ pub(crate) fn push_entry(
     ensures out { OnOk result (out.new.items ≡ out.old.items ++ apart (lent_row row.now)) }
     ensures block { OnOk result (block.new.items ≡ block.old.items ++ entry_bytes key (length out.old.items) (lent_row row.now)) }
     ensures storable { OnOk result (IsStorable (lent_row row.now)) }
+    ensures refused { IfErr result (IsMakeRefusal (length out.old.items + length (apart (lent_row row.now)))) }
 {
     let postings = write_parts(room, row)?;
     push_term(block, row.term())?;
@@ -65,6 +66,7 @@ fn push_parts(
     ensures out { OnOk result (out.new.items ≡ out.old.items ++ parts_apart (take postings row.now) (drop postings row.now)) }
     ensures block { OnOk result (block.new.items ≡ block.old.items ++ parts_bytes key (length out.old.items) (take postings row.now) (drop postings row.now)) }
     ensures few { OnOk result (AreShortEnough (take postings row.now) (drop postings row.now)) }
+    ensures refused { IfErr result (IsMakeRefusal (length out.old.items + length (parts_apart (take postings row.now) (drop postings row.now)))) }
 {
     let (first, second) = row.split_at(postings);
     if row.len() <= SHORT_ROW {

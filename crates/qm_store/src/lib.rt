@@ -1,30 +1,58 @@
 //! What keeps a segment elsewhere than in memory: the rows of its terms, and terms, as bytes and back.
 #![tactic(auto)]
 
+mod byte_parts;
+mod deletions;
 mod dictionary_block;
 mod dictionary_index;
+mod document_place;
 mod ending;
 mod entry;
 mod entry_bytes;
+mod field_bytes;
 mod gaps;
+mod head;
+mod kept_segment;
 mod length_columns;
+mod manifest;
+mod manifest_reader;
 mod named_piece;
 mod numbers;
 mod piece;
 mod pieces;
+mod place_bytes;
 mod row_bytes;
+mod sealed;
 mod segment_file;
+mod segment_rows;
 mod store_error;
 mod stored_bytes;
+mod stored_places;
 mod stored_segment;
 mod term_bytes;
+mod wanted;
+mod wanted_list;
+mod weight_bytes;
 mod words;
+mod written_bytes;
+mod written_manifest;
+mod written_places;
 
+pub use deletions::{delete_stored, deletions_bytes};
+pub use document_place::DocumentPlace;
+pub use kept_segment::KeptSegment;
+pub use manifest::Manifest;
+pub use manifest_reader::read_manifest;
 pub use piece::Piece;
 pub use pieces::Pieces;
 pub use row_bytes::{push_row, read_row};
 pub use segment_file::SegmentFile;
 pub use store_error::StoreError;
 pub use stored_bytes::{segment_bytes, write_segment};
+pub use stored_places::StoredPlaces;
 pub use stored_segment::StoredSegment;
 pub use term_bytes::{push_term, read_term};
+pub use wanted::Wanted;
+pub use wanted_list::wanted_of;
+pub use written_manifest::manifest_bytes;
+pub use written_places::{places_bytes, write_places};

@@ -1,7 +1,7 @@
 //! A piece that is added to a file.
 
-ghost use Rattle.std.specs.Prelude.{◌≡◌, ◌≤◌, ◌^◌, ◌++◌, IfOk, OnOk, length};
-ghost use Rattle.qm_store.specs.Pieces.{IsInFile};
+ghost use Rattle.std.specs.Prelude.{◌≡◌, ◌≤◌, ◌+◌, ◌^◌, ◌++◌, IfErr, IfOk, OnOk, length};
+ghost use Rattle.qm_store.specs.Pieces.{IsInFile, IsMakeRefusal};
 ghost use Rattle.qm_store.specs.Stored.{named};
 
 use crate::piece::{Piece, digest};
@@ -16,6 +16,7 @@ pub(crate) fn push_named(out: &mut Vec<u8>, key: u64, bytes: &[u8]) -> Result<Pi
     ensures named { IfOk result (λ piece. piece ≡ named key (length out.old.items) bytes.now) }
     ensures few { IfOk result IsInFile }
     ensures end { OnOk result (length out.new.items ≤ 2 ^ 60) }
+    ensures refused { IfErr result (IsMakeRefusal (length out.old.items + length bytes.now)) }
 {
     let start = out.len();
     if start > MOST || bytes.len() > MOST - start {

@@ -1,4 +1,4 @@
-//! Why a stored segment can't be read or written.
+//! Why what is stored can't be read or written.
 
 ghost use Rattle.std.specs.Prelude.{◌≡◌};
 ghost use Rattle.qm_store.specs.declared.store_error.StoreError.TheVariants.{Memory};
@@ -7,7 +7,7 @@ use qm_schema::QueryError;
 use std::alloc::{AllocError, AllocFailed};
 use thiserror::Error;
 
-/// Why a stored segment can't be read or written.
+/// Why a file of an index, such as a stored segment, can't be read or written.
 #[derive(Clone, Copy, Debug, PartialEq, Eq, Error)]
 pub enum StoreError {
     /// There was no memory left.
@@ -16,14 +16,14 @@ pub enum StoreError {
     /// What holds the bytes, or takes them, refused.
     #[error("the bytes can't be read or written")]
     Failed,
-    /// The bytes are no stored segment at all.
-    #[error("not a stored segment")]
-    NotSegment,
-    /// The bytes are a stored segment of a version that is not read here.
-    #[error("a stored segment of another version")]
+    /// The bytes are no file of this kind at all.
+    #[error("not a file of this kind")]
+    OtherFile,
+    /// The bytes are a file of a version that is not read here.
+    #[error("a file of another version")]
     OtherVersion,
     /// They are one that is not whole: a part of it ends too early, or its digest is another, or says what can't be.
-    #[error("the stored segment is damaged")]
+    #[error("the file is damaged")]
     Damaged,
 }
 

@@ -1,20 +1,23 @@
 //! A segment as bytes.
 
-ghost use Rattle.std.specs.Prelude.{◌≡◌, ◌≤◌, ◌<◌, ◌+◌, ◌-◌, ◌++◌, [], All, IfOk, OnOk, drop, length, take};
+ghost use Rattle.std.specs.Prelude.{◌≡◌, ◌≤◌, ◌<◌, ◌+◌, ◌-◌, ◌++◌, [], All, IfErr, IfOk, OnOk, drop, length, take};
 ghost use Rattle.std.specs.Io.KnownBytes.{Appends};
 ghost use Rattle.std.specs.List.{AllWithin, flat_map};
 ghost use Rattle.qm_postings.specs.Reading.{IsOfRows};
 ghost use Rattle.qm_postings.specs.Rows.{columns_of};
 ghost use Rattle.qm_store.specs.Stored.{IsStored, IsStorable, all_apart, block_named, ending_bytes, entries_bytes, group_bytes, index_bytes, last_bytes, rows_bytes, start_bytes, stored, stored_blocks};
-ghost use Rattle.qm_store.specs.Pieces.{IsInFile};
+ghost use Rattle.qm_store.specs.Pieces.{IsInFile, IsMakeRefusal, IsWriteRefusal};
 
+use crate::ending::KIND;
 use crate::entry_bytes::push_entry;
+use crate::head::push_head;
 use crate::named_piece::push_named;
 use crate::numbers::push_number;
 use crate::piece::{Piece, push_piece};
 use crate::store_error::StoreError;
 use crate::term_bytes::push_term;
 use crate::words::push_word;
+use crate::written_bytes::write_bytes;
 use qm_postings::SegmentReader;
 use qm_schema::Field;
 use std::alloc::{AllocError, Global};
@@ -34,6 +37,7 @@ pub fn segment_bytes(
 ) -> Result<Vec<u8>, StoreError>
     ensures stored { IfOk result (λ bytes. bytes.items ≡ stored key segment.now) }
     ensures storable { OnOk result (IsStored key segment.now) }
+    ensures refused { IfErr result (IsMakeRefusal (length (stored key segment.now))) }
 {
     let mut out = Vec::new(alloc);
     let mut index = Vec::new(alloc);
@@ -104,9 +108,9 @@ fn push_dictionary(
     ensures index { OnOk result (index.new.items ≡ index_bytes (stored_blocks key segment.now.rows)) }
     ensures storable { OnOk result (All IsStorable segment.now.rows) }
     ensures rows { OnOk result (IsOfRows segment.now) }
+    ensures refused { IfErr result (IsMakeRefusal (length (rows_bytes key segment.now.rows))) }
 {
-    out.extend_from_slice(b"birchseg")?;
-    push_word(out, 1)?;
+    push_head(out, KIND)?;
     let count = segment.row_count();
     let blocks = count.div_ceil(BLOCK_TERMS);
     push_number(index, blocks as u64)?;
@@ -136,6 +140,7 @@ fn push_group(
     ensures out { OnOk result (out.new.items ≡ out.old.items ++ group_bytes key (length out.old.items) (take (end - start) (drop start segment.now.rows))) }
     ensures index { OnOk result (index.new.items ≡ index.old.items ++ start_bytes (block_named key (length out.old.items) (take (end - start) (drop start segment.now.rows)))) }
     ensures storable { OnOk result (AllWithin IsStorable segment.now.rows start end) }
+    ensures refused { IfErr result (IsMakeRefusal (length out.old.items + length (group_bytes key (length out.old.items) (take (end - start) (drop start segment.now.rows))))) }
 {
     let mut block = Vec::new(alloc);
     push_number(&mut block, (end - start) as u64)?;
@@ -162,6 +167,7 @@ fn push_entries(
     ensures out { OnOk result (out.new.items ≡ out.old.items ++ all_apart (take (end - start) (drop start segment.now.rows))) }
     ensures block { OnOk result (block.new.items ≡ block.old.items ++ entries_bytes key (length out.old.items) (take (end - start) (drop start segment.now.rows))) }
     ensures storable { OnOk result (AllWithin IsStorable segment.now.rows start end) }
+    ensures refused { IfErr result (IsMakeRefusal (length out.old.items + length (all_apart (take (end - start) (drop start segment.now.rows))))) }
 {
     let mut room = Vec::new(alloc);
     // those before it are there
@@ -183,10 +189,9 @@ pub fn write_segment<W: Write>(
 ) -> Result<(), StoreError>
     ensures written { OnOk result (Appends (W.contents out.old) (W.contents out.new) (stored key segment.now)) }
     ensures storable { OnOk result (IsStored key segment.now) }
+    ensures refused { IfErr result (IsWriteRefusal out.old out.new) }
 {
     let bytes = segment_bytes(alloc, segment, key)?;
-    match out.write_all(&bytes) {
-        Ok(()) => Ok(()),
-        Err(_) => Err(StoreError::Failed),
-    }
+    write_bytes(&bytes, out)?;
+    Ok(())
 }

@@ -1,5 +1,5 @@
 -- Both scorers are placed, and list what the terms do.
-use Rattle.std.proofs.Common.{◌≡◌, ◌∙◌, [], ◌∷◌, ap}
+use Rattle.std.proofs.Common.{◌∙◌, [], ◌∷◌, ap}
 use Rattle.std.proofs.lemmas.List.Elements.{All-cons, All-nil}
 use Rattle.qm_combine.specs.HeldSum.{held_sum}
 use Rattle.qm_docset.specs.Gather.{common_entries}

@@ -1,15 +1,13 @@
-use Rattle.std.proofs.Common.{◌≡◌, List, ℕ, Bool, true, Option, Some, Result, Ok, Err, IfOk, ap, arith, refl, sym, ◌∙◌}
+use Rattle.std.proofs.Common.{◌≡◌, Option, Some, Result, Ok, Err, IfOk, ap, arith, refl, sym, ◌∙◌}
 use Rattle.std.proofs.lemmas.Option.{same_Some}
 use Rattle.qm_postings.specs.Rows.{Row}
 use Rattle.qm_postings.specs.Segment.{keeps_positions}
-use Rattle.qm_schema.specs.Term.{TermKey}
-use Rattle.qm_store.specs.Dictionary.{Block}
 use Rattle.qm_store.specs.Pieces.{GivesSome}
-use Rattle.qm_store.specs.Stored.{kept_row, stored, stored_blocks}
-use Rattle.qm_store.specs.StoredSegment.{Opened, looked_up, opened, opened_of, opened_segment}
+use Rattle.qm_store.specs.Stored.{kept_row, stored}
+use Rattle.qm_store.specs.StoredSegment.{looked_up, opened, opened_of, opened_segment}
 use Rattle.qm_store.specs.declared.store_error.StoreError.{StoreError}
 use Rattle.qm_store.proofs.FileRead.{segment-opens, term-kept}
-use Rattle.example_callers.proofs.FileTerms.{same_opened}
+use Rattle.qm_store.proofs.SameOk.{same-ok}
 use Rattle.example_callers.proofs.file_callers.row_through_file.Goals as goal
 
 -- what was returned is what is known to be there
@@ -25,7 +23,7 @@ returns c =
     let t = c.args.term.now in
     let file = c.in_ok-bytes.ensures.stored in
     let placed = c.keeps_positions-has_positions.ensures ∙ (λ i. keeps_positions (c.schema-2.ensures i) (c.field.ensures i)) in
-    let shows = same_opened (opened_of c.in_ok-stored.stored) (opened_segment key r)
+    let shows = same-ok (opened_of c.in_ok-stored.stored) (opened_segment key r)
     (sym (c.in_ok-stored.ensures.opened c.in_ok-bytes.bytes.items refl) ∙ (λ i. opened (c.schema.ensures i) key (file i))
     ∙ segment-opens key r c.in_ok-bytes.ensures.storable (omega (arith, c.ranges.key.fits)))
     in

@@ -1,6 +1,6 @@
-use Rattle.std.proofs.Common.{◌≡◌, ℕ, List, ap, length, map, rules, sym, subst, ◌∙◌}
+use Rattle.std.proofs.Common.{ℕ, List, ap, length, map, rules, sym, subst, ◌∙◌}
 use Rattle.qm_schema.specs.Schema.{FieldFacts}
-use Rattle.qm_postings.specs.Reading.{IsOfRows, Reader}
+use Rattle.qm_postings.specs.Reading.{Reader}
 use Rattle.qm_postings.specs.Restriction.{rows_wanted}
 use Rattle.qm_postings.specs.Rows.{MakeSegment, Row, columns_of, segment_of_rows}
 use Rattle.example_callers.specs.Found.{is_wanted}

@@ -30,4 +30,4 @@ returns-clause-deleted c =
     let end : c.loop-doc.doc ≡ length s.documents + length t.documents =
     omega (arith, c.loop-doc-test.false, c.loop-doc.auto.doc-end, c.max_doc-doc-end.ensures.number, c.requires.both) in
     c.loop-doc.invariant
-    ∙ ap (λ ds. without ds c.args.segment.now.segment) (ap (members_between (was_deleted s t) 0) end ∙ deleted-of_both s t)
+    ∙ ap (λ ds. without ds c.args.segment.now.segment) (ap (members_between (was_deleted s t) 0) end ∙ deleted-of_both s t c.alive_bitset-in_first.ensures.ascending c.alive_bitset-in_second.ensures.ascending)

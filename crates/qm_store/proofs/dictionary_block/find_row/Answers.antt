@@ -1,7 +1,6 @@
 use Rattle.std.proofs.Common.{rules, ◌≡◌, ◌+◌, ◌-◌, arith, ap, sym, ◌∙◌, option_map}
-use Rattle.qm_schema.specs.Term.{TermKey}
 use Rattle.qm_store.specs.Dictionary.{entries_at}
-use Rattle.qm_store.specs.Entries.{Part, lent_part}
+use Rattle.qm_store.specs.Entries.{Part, lent_entry, lent_part}
 use Rattle.qm_store.specs.declared.entry.PartRef.{PartRef}
 use Rattle.qm_store.proofs.ReadingOn.{entry-passes, first-kept, first-taken, found_by, or_else_among, other-passed}
 use Rattle.qm_store.proofs.dictionary_block.find_row.Goals as goal
@@ -14,14 +13,15 @@ pub loop-preserved : goal.loop-preserved
 loop-preserved c =
     let at = c.loop in
     let t = c.args.term.now in
-    let u : TermKey = record { field = c.in-Some-read_term.field; bytes = c.in-Some-read_term.text.now } in
-    let p : Part × Part = (lent_part c.in-Some-read_parts.postings, lent_part c.in-Some-read_parts.places) in
-    let rest = c.in-Some-read_parts.behind.now in
+    let e = lent_entry c.in-Some-read_entry.entry in
+    let u = e.term in
+    let p = e.row in
+    let rest = c.in-Some-read_entry.behind.now in
     let left = c.in-Some.count - at.counter in
-    let e : c.in-Some.count - (at.counter + 1) ≡ left - 1 = omega arith in
+    let less : c.in-Some.count - (at.counter + 1) ≡ left - 1 = omega arith in
     let same : option_map (λ p. (lent_part p.0, lent_part p.1)) c.if-is_none.found ≡ found_by t (option_map (λ p. (lent_part p.0, lent_part p.1)) at.found) u p =
     elim c.if-is_none.branch [
-      | then-is_none+then-is_term w ↦ ap (option_map lent) w.found-is ∙ first-taken lent t at.found u (c.in-Some-read_parts.postings, c.in-Some-read_parts.places) w.if-is_none.ensures (search rules)
+      | then-is_none+then-is_term w ↦ ap (option_map lent) w.found-is ∙ first-taken lent t at.found u c.in-Some-read_entry.entry.parts w.if-is_none.ensures (search rules)
       | else-is_none w ↦ ap (option_map lent) w.found-is ∙ elim w.else-is_none.branch [
         | else-is_none-via-then-is_none+else-is_term w' ↦ other-passed lent t at.found u p w'.if-is_none.ensures (search rules)
         | else-is_none-via-else-is_none w' ↦ first-kept lent t at.found u p w'.if-is_none.ensures
@@ -30,8 +30,8 @@ loop-preserved c =
     in
     record {
       whole =
-          (λ i. option_map (or_else_among t (same i)) (entries_at (e i) rest))
-          ∙ entry-passes t (option_map (λ p. (lent_part p.0, lent_part p.1)) at.found) left at.rest.now u c.in-Some-read_term.between.now p rest
-          (omega (arith, c.loop-test.true)) (sym c.in-Some-read_term.ensures) (search rules)
+          (λ i. option_map (or_else_among t (same i)) (entries_at (less i) rest))
+          ∙ entry-passes t (option_map (λ p. (lent_part p.0, lent_part p.1)) at.found) left at.rest.now e rest
+          (omega (arith, c.loop-test.true)) (sym c.in-Some-read_entry.ensures.read)
           ∙ at.invariant.whole;
     }

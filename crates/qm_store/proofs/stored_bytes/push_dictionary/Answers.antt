@@ -2,9 +2,11 @@ use Rattle.std.proofs.Common.{◌≡◌, ◌+◌, ◌*◌, ◌<◌, ◌≤◌, �
 use Rattle.std.specs.Int.{div_ceil}
 use Rattle.std.specs.List.{AllWithin, flat_map}
 use Rattle.std.proofs.lemmas.Grind.{div_ceil_times}
+use Rattle.std.proofs.lemmas.List.{length-append}
 use Rattle.qm_store.specs.Numbers.{spelled}
-use Rattle.qm_store.specs.Stored.{IsStorable, block_named, blocks_named, dictionary_bytes, group_bytes, group_count, start_bytes, stored_blocks}
-use Rattle.qm_store.proofs.StoredSteps.{between, group-more, groups_left, joined, length-blocks, none-left, start-more, starts-within}
+use Rattle.qm_store.specs.Pieces.{IsMakeRefusal}
+use Rattle.qm_store.specs.Stored.{IsStorable, block_named, blocks_named, dictionary_bytes, group_bytes, group_count, rows_bytes, start_bytes, stored_blocks}
+use Rattle.qm_store.proofs.StoredSteps.{between, group-more, groups_left, handed-on, joined, length-blocks, none-left, refused-more, start-more, starts-within}
 use Rattle.qm_store.proofs.stored_bytes.push_dictionary.Goals as goal
 
 pub loop-number-preserved : goal.loop-number-preserved
@@ -64,3 +66,28 @@ returns-clause-storable c =
     let bounds = div_ceil_times (length rows) 128 (omega arith) in
     let past : length rows ≤ at.number * 128 = omega (arith, blocks, c.loop-number-test.false, bounds.0) in
     λ k d inside. at.invariant.storable k d (omega arith) (omega (arith, inside, past))
+
+pub returns-in_err-push_group-clause-refused : goal.returns-in_err-push_group-clause-refused
+returns-in_err-push_group-clause-refused c =
+    let at = c.loop-number in
+    let rows = c.args.segment.now.rows in
+    let key = c.args.key in
+    let i = at.number in
+    let count = c.row_count-count.ensures.count in
+    let blocks = c.div_ceil-blocks.ensures ∙ ap (λ n. div_ceil n 128) count in
+    let some : i < group_count rows = omega (arith, blocks, c.loop-number-test.true) in
+    let start = starts-within rows i some in
+    let end-is : i * 128 + c.min.result ≡ min (i * 128 + 128) (length rows) = omega (arith, c.min.ensures, count, start) in
+    let out = at.out.items in
+    let own = group_bytes key (length out) (between rows (i * 128) (min (i * 128 + 128) (length rows))) in
+    let rest = dictionary_bytes key (length (out ++ own)) (groups_left rows (i + 1)) in
+    let whole = ap length (group-more key out rows i some ∙ at.invariant.out) in
+    let sizes : length out + length own ≤ length (rows_bytes key rows) =
+    omega (arith, whole, length-append (out ++ own) rest, length-append out own)
+    in
+    let e = c.in_err-push_group.field-0.0 in
+    let refused : IsMakeRefusal (length (rows_bytes key rows)) e =
+    refused-more e _ _ sizes (subst (λ n. IsMakeRefusal (length out + length (group_bytes key (length out) (between rows (i * 128) n))) e) end-is
+    c.in_err-push_group.ensures.refused)
+    in
+    handed-on c.from_residual-in_err-push_group.result e (IsMakeRefusal (length (rows_bytes key rows))) c.from_residual-in_err-push_group.ensures.1 refused

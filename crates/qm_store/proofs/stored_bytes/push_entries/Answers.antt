@@ -1,8 +1,10 @@
-use Rattle.std.proofs.Common.{◌+◌, ◌<◌, ◌++◌, ap, sym, ◌∙◌, append-nil, arith, length, subst}
+use Rattle.std.proofs.Common.{◌+◌, ◌<◌, ◌≤◌, ◌++◌, ap, get_or, sym, ◌∙◌, append-nil, arith, length, rules, subst}
+use Rattle.std.proofs.lemmas.List.{length-append}
 use Rattle.std.proofs.lemmas.List.Elements.{AllWithin-more, AllWithin-upto}
 use Rattle.qm_postings.specs.Rows.{IsRow, no_row}
+use Rattle.qm_store.specs.Pieces.{IsMakeRefusal}
 use Rattle.qm_store.specs.Stored.{IsStorable, all_apart, apart, entries_bytes, entry_bytes}
-use Rattle.qm_store.proofs.StoredSteps.{apart-more, at-place, between, entry-more, none-between}
+use Rattle.qm_store.proofs.StoredSteps.{apart-more, at-place, between, entry-more, none-between, refused-more}
 use Rattle.qm_store.proofs.stored_bytes.push_entries.Goals as goal
 
 pub push_entry-requires : goal.push_entry-requires
@@ -54,3 +56,22 @@ returns-clause-block c =
 pub returns-clause-storable : goal.returns-clause-storable
 returns-clause-storable c =
     AllWithin-upto IsStorable c.args.segment.now.rows c.args.start c.loop-place.place c.args.end c.loop-place-test.false c.loop-place.invariant.storable
+
+pub returns-in_err-push_entry-clause-refused : goal.returns-in_err-push_entry-clause-refused
+returns-in_err-push_entry-clause-refused c =
+    let at = c.loop-place in
+    let rows = c.args.segment.now.rows in
+    let end = c.args.end in
+    let r = get_or rows at.place no_row in
+    let out = c.args.out.now.items in
+    let rest = all_apart (between rows (at.place + 1) end) in
+    let all = between rows c.args.start end in
+    let e = c.in_err-push_entry.field-0.0 in
+    let whole = ap length (apart-more at.out.items rows at.place end c.loop-place-test.true c.requires.within ∙ at.invariant.out) in
+    let sizes : length at.out.items + length (apart r) ≤ length out + length (all_apart all) =
+    omega (arith, whole, length-append (at.out.items ++ apart r) rest, length-append at.out.items (apart r), length-append out (all_apart all))
+    in
+    let refused : IsMakeRefusal (length out + length (all_apart all)) e =
+    refused-more e _ _ sizes (subst (λ r. IsMakeRefusal (length at.out.items + length (apart r)) e) c.row.ensures c.in_err-push_entry.ensures.refused)
+    in
+    search (rules, refused)

@@ -78,6 +78,8 @@ invariant_of-self-2 c =
       counted = taken.counted;
       ends_known = taken.ends_known;
       small = taken.small;
+      alike = taken.alike;
+      some_saved = taken.some_saved;
       built_parts = taken.built_parts;
       parts = taken.parts ∙ sym (cut-push schema taken.block_len parts ds (d ∷ []) (omega (arith, taken.built_parts, built)))
           ∙ ap (cut schema taken.block_len parts) (sym pushed);

@@ -3,7 +3,7 @@ use Rattle.std.proofs.Common.{◌≡◌, ◌-◌, ◌++◌, ◌∷◌, [], All, 
 use Rattle.std.proofs.lemmas.List.{drop-append-le, length-append, length-drop, length-map, map-append, take-append-le, take_all}
 use Rattle.std.proofs.lemmas.List.Sums.{sum_by-append, sum_by-cons}
 use Rattle.qm_postings.specs.Reading.{Reader}
-use Rattle.qm_index.specs.Numbers.{document_count, ends_from}
+use Rattle.qm_index.specs.Numbers.{AreOf, document_count, ends_from}
 use Rattle.qm_index.specs.OpenDocuments.{IsBadDraft, kept_of, segment_of}
 use Rattle.qm_index.specs.Parts.{cut, segments_of}
 use Rattle.qm_index.specs.Texts.{texts_draft}
@@ -46,6 +46,8 @@ invariant_of-self-2 c =
       counted = self.counted ∙ ap document_count (sym front);
       ends_known = self.ends_known ∙ ap (ends_from 0) (sym front);
       small = self.small;
+      alike = subst (λ s. AreOf s (take self.ended after)) (sym schema) (subst (AreOf self.searcher.schema) (sym front) self.alike);
+      some_saved = self.some_saved;
       built_parts = omega (
         arith,
         ap document_count behind,

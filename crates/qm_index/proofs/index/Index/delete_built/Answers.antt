@@ -5,7 +5,7 @@ use Rattle.std.proofs.lemmas.List.{length-drop, length-set, take_all}
 use Rattle.qm_postings.specs.Reading.{Reader, deleting}
 use Rattle.qm_postings.specs.Segment.{Segment}
 use Rattle.qm_index.specs.Indexed.{Indexed}
-use Rattle.qm_index.specs.Numbers.{IsAddressOf, document_count, ends_from}
+use Rattle.qm_index.specs.Numbers.{AreOf, IsAddressOf, document_count, ends_from}
 use Rattle.qm_index.specs.OpenDocuments.{IsBadDraft, mark, segment_of, undeleted}
 use Rattle.qm_index.specs.Parts.{cut, segments_of}
 use Rattle.qm_index.specs.Texts.{texts_draft}
@@ -46,6 +46,8 @@ invariant_of-self-2 c =
       counted = self.counted ∙ ap document_count (sym others);
       ends_known = self.ends_known ∙ ap (ends_from 0) (sym others);
       small = self.small;
+      alike = subst (λ s. AreOf s (take self.ended after)) (sym schema) (subst (AreOf self.searcher.schema) (sym others) self.alike);
+      some_saved = self.some_saved;
       built_parts = ap document_count deleted.after ∙ document_count-set parts deleted.place deleted.doc deleted.reader deleted.there ∙ self.built_parts;
       parts = subst (λ s. segments_of (drop self.ended after) ≡ cut s self.block_len (drop self.ended after) left) (sym schema)
           (subst (λ rs. segments_of rs ≡ cut self.searcher.schema self.block_len rs left) (sym deleted.after)

@@ -1,10 +1,13 @@
 -- Of the ended segments one has one document less alive; the parts are what they were.
 use Rattle.std.proofs.Common.{◌≡◌, ◌++◌, ◌∷◌, [], All, drop, take, ap, sym, ◌∙◌, subst, arith, inl, inr}
 use Rattle.std.specs.Option.{ForSome}
-use Rattle.qm_index.specs.Numbers.{IsAddressOf, deleted_among, document_count}
+use Rattle.qm_postings.specs.Statistics.{Searched}
+use Rattle.qm_index.specs.Numbers.{AreOf, IsAddressOf, deleted_among, document_count}
 use Rattle.qm_index.specs.OpenDocuments.{IsBadDraft, segment_of, undeleted}
 use Rattle.qm_index.specs.Parts.{cut, segments_of}
 use Rattle.qm_index.specs.Texts.{texts_draft}
+use Rattle.qm_index.specs.SavedIndex.{WereHeld}
+use Rattle.qm_index.proofs.KeptOn.{were-deleted}
 use Rattle.qm_index.proofs.Numbering.{KeepsParts, KeepsParts-ended, KeepsParts-same, deleted_among-reader, either, ended-deleted}
 use Rattle.qm_index.proofs.index.Index.delete_ended.Goals as goal
 
@@ -30,6 +33,8 @@ invariant_of-self c =
       counted = self.counted ∙ sym kept.count;
       ends_known = self.ends_known ∙ sym kept.ends;
       small = self.small;
+      alike = subst (λ s. AreOf s (take self.ended after)) (sym schema) (kept.alike self.searcher.schema self.alike);
+      some_saved = self.some_saved;
       built_parts = ap document_count kept.parts ∙ self.built_parts;
       parts = subst (λ s. segments_of (drop self.ended after) ≡ cut s self.block_len (drop self.ended after) self.documents.items) (sym schema)
           (subst (λ rs. segments_of rs ≡ cut self.searcher.schema self.block_len rs self.documents.items) (sym kept.parts) self.parts);
@@ -52,3 +57,21 @@ returns-clause-deleted c =
     ∙ ap (λ rs. segments_of rs ++ current ∷ []) deleted.after
     ∙ sym (deleted_among-reader (take self.ended readers) deleted.place deleted.doc deleted.reader (current ∷ []) deleted.there deleted.inside)
     ∙ ap (deleted_among (segments_of (take self.ended readers) ++ current ∷ [])) (sym deleted.number)
+
+pub returns-in_err-delete-clause-kept : goal.returns-in_err-delete-clause-kept
+returns-in_err-delete-clause-kept c = λ c' kept.
+    let self = c.args.self.now in
+    subst (λ (s : Searched). WereHeld c' self.saved.segments.items (segments_of (take self.ended s.segments))) (sym c.in_err-delete.ensures.unchanged) kept
+
+pub returns-clause-kept : goal.returns-clause-kept
+returns-clause-kept c = λ c' kept.
+    let self = c.args.self.now in
+    let readers = self.searcher.segments in
+    let after = c.delete.new.self.segments in
+    let address = c.address_by_ends-address.result in
+    let at =
+    subst (λ rs. IsAddressOf (take self.ended rs) 0 c.args.number address) c.segment_readers.ensures.segments c.address_by_ends-address.ensures.address in
+    let deleted = ended-deleted readers after self.ended c.args.number address c.in_ok-delete.ensures.deleted self.within at in
+    let ks = self.saved.segments.items in
+    subst (λ rs. WereHeld c' ks (segments_of rs)) (sym deleted.after)
+    (were-deleted c' ks (take self.ended readers) deleted.place deleted.doc deleted.reader deleted.there deleted.inside kept)

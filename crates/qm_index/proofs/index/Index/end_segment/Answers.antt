@@ -1,11 +1,12 @@
 -- The segment of all documents of the open one stands behind those that were ended, and no part is left.
-use Rattle.std.proofs.Common.{◌≡◌, List, ◌+◌, ◌++◌, ◌∷◌, [], ap, sym, ◌∙◌, arith, drop, length, take, IsOk, rules, ◌<◌}
+use Rattle.std.proofs.Common.{◌≡◌, List, ◌+◌, ◌++◌, ◌∷◌, [], ap, sym, subst, ◌∙◌, arith, drop, length, take, IsOk, rules, ◌<◌}
 use Rattle.std.proofs.lemmas.List.{drop_all, length-append, length-map, length-take-le, map-append, take_all}
+use Rattle.std.proofs.lemmas.List.Elements.{All-push}
 use Rattle.std.proofs.lemmas.List.Sums.{sum_by-append, sum_by-cons}
 use Rattle.qm_postings.specs.Reading.{Reader}
 use Rattle.qm_postings.specs.Segment.{Segment}
 use Rattle.qm_index.specs.Indexed.{Indexed, all_segments, indexed, with_segment_ended}
-use Rattle.qm_index.specs.Numbers.{document_count, ends_from}
+use Rattle.qm_index.specs.Numbers.{AreOf, document_count, ends_from}
 use Rattle.qm_index.specs.OpenDocuments.{kept_of, segment_of}
 use Rattle.qm_index.specs.Parts.{cut, segments_of}
 use Rattle.qm_index.proofs.Marks.{segment_of-none}
@@ -32,6 +33,9 @@ invariant_of-self-2 c =
     let behind : drop (self.ended + 1) after ≡ [] = drop_all (self.ended + 1) after (omega (arith, long, none)) in
     let all : take (self.ended + 1) after ≡ readers ++ segment ∷ [] = take_all (self.ended + 1) after (omega (arith, long, none)) ∙ pushed in
     let front : take self.ended readers ≡ readers = take_all self.ended readers (omega (arith, none)) in
+    let schema = ap (λ s. s.schema) c.in_ok-push_segment.ensures.pushed in
+    let own : segment.segment.schema ≡ self.searcher.schema =
+    ap (λ s. s.schema) c.in_ok-segment.ensures.segment ∙ ap (λ s. s.schema) (sym told.searcher) in
     let sum = ap document_count all ∙ sum_by-append (λ (r : Reader). length r.segment.documents) readers (segment ∷ []) in
     let same = ap (λ v. length v.items) told.documents in
     let number = self.ended_documents + c.len.result in
@@ -59,6 +63,9 @@ invariant_of-self-2 c =
       ends_known = added ∙ ap (λ l. l ++ number ∷ []) (c.reserve.ensures.items ∙ self.ends_known ∙ ap (ends_from 0) front)
           ∙ ap (λ n. ends_from 0 readers ++ n ∷ []) here ∙ sym (ends-push 0 readers segment) ∙ ap (ends_from 0) (sym all);
       small = omega (arith, self.small, self.few, c.len.ensures, self.documents.ok.0);
+      alike = subst (λ s. AreOf s (take (self.ended + 1) after)) (sym schema) (subst (AreOf self.searcher.schema) (sym all)
+          (All-push (λ (r : Reader). r.segment.schema ≡ self.searcher.schema) readers segment (subst (AreOf self.searcher.schema) front self.alike) own));
+      some_saved = omega (arith, self.some_saved);
       built_parts = ap document_count behind;
       parts = ap segments_of behind ∙ sym (ap (λ rs. cut c.push_segment.new.self.schema self.block_len rs c.clear.new.self.items) behind);
       building = λ x h. let no = sym told.taken ∙ h in cc;

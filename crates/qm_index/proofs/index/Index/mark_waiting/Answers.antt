@@ -29,6 +29,8 @@ invariant_of-self c =
       counted = self.counted;
       ends_known = self.ends_known;
       small = self.small;
+      alike = self.alike;
+      some_saved = self.some_saved;
       built_parts = self.built_parts;
       parts = self.parts ∙ sym (cut-mark_past self.searcher.schema self.block_len parts ds (place - self.built))
           ∙ ap (λ n. cut self.searcher.schema self.block_len parts (mark ds n)) (omega (arith, self.built_parts, c.requires.waiting))

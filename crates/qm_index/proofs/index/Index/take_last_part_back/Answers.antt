@@ -3,7 +3,7 @@ use Rattle.std.proofs.Common.{◌≡◌, ◌+◌, ◌≤◌, ◌++◌, ◌∷◌
 use Rattle.std.proofs.lemmas.List.{drop-append-le, length-append, take-append-le}
 use Rattle.std.proofs.lemmas.List.Sums.{sum_by-append, sum_by-cons}
 use Rattle.qm_postings.specs.Reading.{Reader}
-use Rattle.qm_index.specs.Numbers.{document_count, ends_from}
+use Rattle.qm_index.specs.Numbers.{AreOf, document_count, ends_from}
 use Rattle.qm_index.specs.OpenDocuments.{IsBadDraft}
 use Rattle.qm_index.specs.Parts.{cut, segments_of}
 use Rattle.qm_index.specs.Texts.{texts_draft}
@@ -34,6 +34,8 @@ invariant_of-self c =
       counted = self.counted ∙ ap document_count front;
       ends_known = self.ends_known ∙ ap (ends_from 0) front;
       small = self.small;
+      alike = subst (λ s. AreOf s (take self.ended left)) (sym schema) (subst (AreOf self.searcher.schema) front self.alike);
+      some_saved = self.some_saved;
       built_parts = omega (
         arith,
         all,

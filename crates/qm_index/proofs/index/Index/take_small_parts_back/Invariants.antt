@@ -7,6 +7,7 @@ invariant-loop-self l = record {
   documents : indexed l.self ≡ indexed l.fn.self;
   statistics : statistics l.self ≡ statistics l.fn.self;
   ended : l.self.ended ≡ l.fn.self.ended;
+  saved : l.self.saved ≡ l.fn.self.saved;
 }
 
 abbrev pub decreases-loop-self : goal.decreases-loop-self

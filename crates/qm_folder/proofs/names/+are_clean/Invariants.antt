@@ -1,5 +1,0 @@
-use Rattle.std.proofs.Common.{length}
-use Rattle.qm_folder.proofs.names.+are_clean.Given as goal
-
-abbrev pub decreases-are_clean : goal.decreases-are_clean
-decreases-are_clean l = length l.files.now

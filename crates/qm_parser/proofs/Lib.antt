@@ -1,0 +1,11 @@
+pub mod CharacterLemmas
+pub mod DigitLemmas
+pub mod LetterLemmas
+pub mod PlacedLemmas
+pub mod StepLemmas
+pub mod TokensEnough
+pub mod TreesReadBack
+pub mod TextsReadBack
+pub mod PiecesReadBack
+pub mod WordsReadBack
+pub mod TokenLemmas

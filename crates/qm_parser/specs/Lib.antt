@@ -1,0 +1,14 @@
+pub mod Query
+pub mod Reading
+pub mod Views
+pub mod Characters
+pub mod Cursor
+pub mod Signs
+pub mod Letters
+pub mod Numbers
+pub mod Pieces
+pub mod Tokens
+pub mod Levels
+pub mod LevelViews
+pub mod Trees
+pub mod Spelling
