@@ -29,6 +29,9 @@ BUILT = {
     "cases_store": ["--optimised"],
     "cases_folder": ["--optimised"],
     "cases_parser": ["--optimised"],
+    "bench_store": [],
+    "example_search": [],
+    "example_uses": [],
 }
 
 
@@ -45,6 +48,7 @@ def main(words):
             if not all(pool.map(lambda name: build(room, name), BUILT)):
                 return 1
         runs = [
+            [f"{ROOT}/tests/own_runs.py", room],
             [f"{ROOT}/tests/refused_calls.py"],
             [f"{ROOT}/tests/cases.py", "--built", room, *words],
             [f"{ROOT}/tests/format_runs.py"],
