@@ -37,6 +37,11 @@ pub(crate) fn read_number(bytes: &[u8]) -> Option<(u64, &[u8])>
     ensures read { option_map (λ r. (r.0, r.1.now)) result ≡ number_at 8 bytes.now }
     ensures fits { IfSome result (λ r. r.0 < 128 ^ 9) }
 {
+    let (first, rest) = bytes.split_first()?;
+    // nearly all numbers of a row have one byte, and need no further call
+    if *first < 128 {
+        return Some((u64::from(*first), rest));
+    }
     read_part(MORE, bytes)
 }
 

@@ -122,6 +122,7 @@ pub fn read_row(
         return Ok(None);
     };
     let rest = if has_positions {
+        row.positions = Vec::with_capacity(alloc, rest.len())?;
         match read_places(&mut row.positions, &row.frequencies, rest)? {
             Some(rest) => rest,
             None => return Ok(None),

@@ -93,27 +93,28 @@ impl<P: Pieces + Drop> StoredSegment<P> {
             return Ok(None);
         };
         let term = copied(alloc, term)?;
-        let row = self.read_row_parts(alloc, term, parts, with_positions)?;
+        let row = self.read_row_parts(alloc, term, parts, with_positions, &mut Vec::new(alloc))?;
         Ok(Some(row))
     }
 
-    // The row of a term whose parts stand there.
+    // The row of a term whose parts stand there. Their bytes are put into room that is lent for many rows.
     pub(crate) fn read_row_parts(
         &self,
         alloc: Global,
         term: Term,
         parts: (PartRef<'_>, PartRef<'_>),
         with_positions: bool,
+        bytes: &mut Vec<u8>,
     ) -> Result<TermRow, StoreError>
         ensures { (file : List ℕ) → P.bytes self.now.source ≡ Some file
             → GivesSome (λ row. row) result (row_in self.now.key file with_positions term (lent_part parts.entry.0, lent_part parts.entry.1)) }
     {
-        let mut bytes = Vec::new(alloc);
-        self.read_part(&parts.0, &mut bytes)?;
+        bytes.clear();
+        self.read_part(&parts.0, bytes)?;
         if with_positions {
-            self.read_part(&parts.1, &mut bytes)?;
+            self.read_part(&parts.1, bytes)?;
         }
-        match read_row(alloc, term, with_positions, &bytes)? {
+        match read_row(alloc, term, with_positions, bytes)? {
             Some(row) => Ok(row),
             None => Err(StoreError::Damaged),
         }
