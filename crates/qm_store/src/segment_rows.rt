@@ -133,12 +133,12 @@ impl<P: Pieces + Drop> StoredSegment<P> {
             (rows_of_blocks self.now.key file schema.now (option_map (λ w. w.now) chosen.entry) (map start_of blocks.now))) }
     {
         let mut bytes = Vec::new(alloc);
-        let mut row_bytes = Vec::new(alloc);
+        let mut room = Vec::new(alloc);
         // what is read and what is left make all
         for block in blocks {
             bytes.clear();
             read_piece(&self.source, self.key, &block.piece, &mut bytes)?;
-            self.push_rows_of(alloc, schema, chosen, &bytes, &mut row_bytes, rows)?;
+            self.push_rows_of(alloc, schema, chosen, &bytes, &mut room, rows)?;
         }
         Ok(())
     }
@@ -150,7 +150,7 @@ impl<P: Pieces + Drop> StoredSegment<P> {
         schema: &Schema,
         chosen: Option<&Wanted>,
         block: &[u8],
-        row_bytes: &mut Vec<u8>,
+        room: &mut Vec<u8>,
         rows: &mut Vec<TermRow>,
     ) -> Result<(), StoreError>
         ensures { (file : List ℕ) → P.bytes self.now.source ≡ Some file
@@ -165,7 +165,7 @@ impl<P: Pieces + Drop> StoredSegment<P> {
             let Some((entry, behind)) = read_entry(rest) else {
                 return Err(StoreError::Damaged);
             };
-            self.push_chosen(alloc, schema, chosen, &entry, row_bytes, rows)?;
+            self.push_chosen(alloc, schema, chosen, &entry, room, rows)?;
             rest = behind;
         }
         if rest.is_empty() {
@@ -182,7 +182,7 @@ impl<P: Pieces + Drop> StoredSegment<P> {
         schema: &Schema,
         chosen: Option<&Wanted>,
         entry: &EntryRef<'_>,
-        row_bytes: &mut Vec<u8>,
+        room: &mut Vec<u8>,
         rows: &mut Vec<TermRow>,
     ) -> Result<(), StoreError>
         ensures { (file : List ℕ) → P.bytes self.now.source ≡ Some file
@@ -194,7 +194,7 @@ impl<P: Pieces + Drop> StoredSegment<P> {
         }
         let term = made_term(alloc, entry.field, entry.text)?;
         let has_positions = keeps_positions(schema, entry.field);
-        let row = self.read_row_parts(alloc, term, entry.parts, has_positions, row_bytes)?;
+        let row = self.read_row_parts(alloc, term, entry.parts, has_positions, room)?;
         rows.push(row)?;
         Ok(())
     }

@@ -104,17 +104,17 @@ impl<P: Pieces + Drop> StoredSegment<P> {
         term: Term,
         parts: (PartRef<'_>, PartRef<'_>),
         with_positions: bool,
-        bytes: &mut Vec<u8>,
+        room: &mut Vec<u8>,
     ) -> Result<TermRow, StoreError>
         ensures { (file : List ℕ) → P.bytes self.now.source ≡ Some file
             → GivesSome (λ row. row) result (row_in self.now.key file with_positions term (lent_part parts.entry.0, lent_part parts.entry.1)) }
     {
-        bytes.clear();
-        self.read_part(&parts.0, bytes)?;
+        room.clear();
+        self.read_part(&parts.0, room)?;
         if with_positions {
-            self.read_part(&parts.1, bytes)?;
+            self.read_part(&parts.1, room)?;
         }
-        match read_row(alloc, term, with_positions, bytes)? {
+        match read_row(alloc, term, with_positions, room)? {
             Some(row) => Ok(row),
             None => Err(StoreError::Damaged),
         }
