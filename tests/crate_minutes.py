@@ -16,12 +16,12 @@ TICKS = os.sysconf("SC_CLK_TCK")
 
 
 class CrateMinutes(threading.Thread):
-    """Looks at what the processes below one take, until it is stopped."""
+    """Looks at what the processes below some take, until it is stopped."""
 
     def __init__(self, processes=None):
         super().__init__(daemon=True)
         self.processes, self.over = processes or running, threading.Event()
-        self.root, self.begun, self.took, self.seconds, self.kept = None, {}, {}, {}, set()
+        self.roots, self.begun, self.took, self.seconds, self.kept = set(), {}, {}, {}, set()
 
     def run(self):
         while not self.over.wait(1):
@@ -29,7 +29,7 @@ class CrateMinutes(threading.Thread):
 
     def look(self, now):
         """Notes what each process has taken so far, and when its crate was first seen."""
-        for number, crate, seconds, is_edit in self.processes(self.root):
+        for number, crate, seconds, is_edit in self.processes(self.roots):
             self.seconds[number, crate, is_edit] = seconds
             if not is_edit:
                 self.begun.setdefault(crate, now)
@@ -41,7 +41,7 @@ class CrateMinutes(threading.Thread):
             return None
         if said[2] == "proved":
             self.took[said[1]] = now - self.begun.get(said[1], now)
-        else:
+        elif said[1] not in self.took:
             self.kept.add(said[1])
         return said[1]
 
@@ -67,8 +67,8 @@ def row(name, seconds):
     return f"| {' | '.join([name, *cells])} |"
 
 
-def running(root):
-    """The prover's processes below this one: number, crate, seconds of a processor, whether it tries an edit."""
+def running(roots):
+    """The prover's processes below these: number, crate, seconds of a processor, whether it tries an edit."""
     found, parents = [], {}
     for number in (it for it in os.listdir("/proc") if it.isdigit()):
         try:
@@ -83,11 +83,11 @@ def running(root):
         if crate:
             seconds = (int(words[11]) + int(words[12])) / TICKS
             found.append((int(number), crate[1].decode(), seconds, b"/rt-edit" in line))
-    return [it for it in found if is_below(it[0], root, parents)]
+    return [it for it in found if is_below(it[0], roots, parents)]
 
 
-def is_below(number, root, parents):
-    """Whether a process was started by another, or by one that this started, and so on."""
-    while number and number != root:
+def is_below(number, roots, parents):
+    """Whether a process was started by one of some, or by one that these started, and so on."""
+    while number and number not in roots:
         number = parents.get(number)
-    return number == root
+    return number in roots

@@ -4,9 +4,11 @@
     python3 tests/gate.py
 
 `rt ci` proves all crates from nothing, but for those that an earlier run on this machine proved as they are,
-tries the wrong bodies of must-fail/ and runs the programs. As soon as it says of a crate that it is proved or
-kept, tests/wrong_bodies.py tries the others of that crate beside it, at the lowest priority, so that proofs
-wait for nothing: those whose refusal does not stand, and some by chance (refused_before.py). tests/refusal_rows.py
+tries the wrong bodies of must-fail/ and runs the programs. Where the toolchain keeps what it proved, the longest
+chain of crates goes before that, and the crates that do not stand on its longest proofs beside these: else all wait for
+the chain at the end, on one processor. As soon as `rt ci` says of a crate that it is proved or kept,
+tests/wrong_bodies.py tries the others of that crate beside it, at the lowest priority, so that proofs wait for nothing:
+those whose refusal does not stand, and some by chance (refused_before.py). tests/refusal_rows.py
 has rows of what counts as refused. Then tests/refused_calls.py looks whether each public call has its rows under
 refused memory, tests/cases.py plays the cases, tests/format_runs.py holds two plain readings of docs/FORMAT.md against
 each other, and tests/program_runs.py and tests/birch_runs.py run the programs
@@ -63,6 +65,9 @@ PLAYED = {
     "installed runs": ["installed_runs.py"],
 }
 PRINTING = threading.Lock()
+# the longest chain of crates that stand on each other: its first part ends with one crate, the second, which is the
+# longest, begins with another and ends with the third
+CHAIN = ("qm_phrase", "qm_scorer", "qm_query")
 
 
 class Stage:
@@ -74,20 +79,26 @@ class Stage:
 
     def run(self, words, heard=lambda line: None, begun=lambda process: None):
         """Runs a part of it, prints what that says, and takes what its last line counts."""
-        how = {"stdout": subprocess.PIPE, "stderr": subprocess.STDOUT, "text": True}
-        last = ""
-        with subprocess.Popen(words, cwd=ROOT, **how) as it:
-            begun(it)
-            for last in it.stdout:
-                with PRINTING:
-                    print(last, end="", flush=True)
-                heard(last.rstrip("\n"))
-        counted = re.fullmatch(COUNTED[self.name], last.rstrip("\n"))
+        it, last = printed(words, heard, begun)
+        counted = re.fullmatch(COUNTED[self.name], last)
         # (two crates' wrong bodies may end at once)
         with PRINTING:
             self.is_well = self.is_well and it.returncode == 0 and counted is not None
             self.count += int(counted[1]) if counted else 0
             self.minutes = (time.monotonic() - self.start) / 60
+
+
+def printed(words, heard, begun):
+    """Runs a command, prints what it says, and gives the process and its last line."""
+    how = {"stdout": subprocess.PIPE, "stderr": subprocess.STDOUT, "text": True}
+    last = ""
+    with subprocess.Popen(words, cwd=ROOT, **how) as it:
+        begun(it)
+        for last in it.stdout:
+            with PRINTING:
+                print(last, end="", flush=True)
+            heard(last.rstrip("\n"))
+    return it, last.rstrip("\n")
 
 
 class Proofs:
@@ -101,16 +112,32 @@ class Proofs:
         self.beside = ["nice", "-n", "19", sys.executable, "tests/wrong_bodies.py", "--built", "--chance", chance]
 
     def run(self):
+        self.told.start()
+        if kit.keeps_proofs():
+            self.run_chain()
         self.stage.run(["rt", "ci"], self.hear, self.begin)
         self.told.over.set()
         self.told.join()
 
+    def run_chain(self):
+        """Proves the chain, and beside its second part all crates that do not stand on that. What fails fails once
+        more in the run of all. No wrong body is tried yet: these runs leave no libraries behind."""
+        first, longest, last = CHAIN
+        known = kit.crates_of(ROOT)
+        others = [it.name for it in known.values() if longest not in {it.name, *(low.name for low in it.below())}]
+        printed(["rt", "ci", first], self.note, self.begin)
+        with ThreadPoolExecutor(2) as pool:
+            pool.submit(printed, ["rt", "ci", last], self.note, self.begin)
+            pool.submit(printed, ["nice", "-n", "5", "rt", "ci", *others], self.note, self.begin)
+
     def begin(self, process):
-        self.told.root = process.pid
-        self.told.start()
+        self.told.roots.add(process.pid)
+
+    def note(self, line):
+        return self.told.hear(line, time.monotonic())
 
     def hear(self, line):
-        crate = self.told.hear(line, time.monotonic())
+        crate = self.note(line)
         if crate in self.waiting:
             self.waiting.remove(crate)
             self.tried.append(self.pool.submit(self.try_wrong_bodies, crate))

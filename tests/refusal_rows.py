@@ -207,11 +207,13 @@ def files():
 def minutes():
     """The rows of how long crates take."""
     seen = [(7, "low", 30.0, False), (8, "low", 6.0, True), (9, "low", 90.0, False)]
-    told = CrateMinutes(lambda root: seen)
+    told = CrateMinutes(lambda roots: seen)
     told.look(100.0)
     yield "a crate that is proved", told.hear("rt: low proved", 160.0), "low"
     yield "another line", told.hear("rt: low: trying its must-fail edits (3)", 170.0), None
     told.hear("rt: high is kept: an earlier run", 180.0)
+    # a later run keeps what one before it proved
+    told.hear("rt: low is kept: an earlier run", 190.0)
     yield "the table", told.table({"low": 12.0})[2:], [
         "| low | 1.0 | 2.0 | 0.2 |",
         "| kept: 1 |  |  | 0.0 |",
