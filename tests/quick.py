@@ -49,6 +49,7 @@ def main(words):
                 return 1
         runs = [
             [f"{ROOT}/tests/own_runs.py", room],
+            [f"{ROOT}/tests/wrong_bodies.py", "--look"],
             [f"{ROOT}/tests/refused_calls.py"],
             [f"{ROOT}/tests/cases.py", "--built", room, *words],
             [f"{ROOT}/tests/format_runs.py"],

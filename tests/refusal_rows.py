@@ -16,6 +16,7 @@ sys.dont_write_bytecode = True
 HERE = os.path.dirname(os.path.abspath(__file__))
 sys.path.insert(0, HERE)
 
+from checked_name import what_lacks  # noqa: E402
 from contracts import contracts_of  # noqa: E402
 from crate_minutes import CrateMinutes  # noqa: E402
 from refusals import Verdict, messages  # noqa: E402
@@ -51,6 +52,19 @@ OTHER = [
     ("record {segment = c.a; doc = c.b}", "record {segment = c.b; doc = c.a}"),
     ("all.iter().max()", "all.iter().min()"),
 ]
+# a crate's files, and what there is none of for a function of some names
+FILES = {
+    "src/index.rt": "pub struct Index {\n}\nimpl Pieces for Vec<u8> {\n    fn count(&self) -> u64 {\n    }\n}\n",
+    "src/index/opening.rt": "impl Index {\n    pub fn open() -> Index {\n    }\n}\nfn part() {\n}\n",
+}
+NAMED = {
+    "index::Index::open": None,
+    "index::VecU8Pieces::count": None,
+    "index::opening::part": None,
+    "index::opening::Index::open": "no type Index in src/index/opening.rt",
+    "index::part": "no function part in src/index.rt",
+    "opening::part": "no file src/opening.rt",
+}
 # some of the names that checks lack, and what they have in their place
 RENAMED = {
     "condition_turned": {
@@ -154,6 +168,13 @@ def texts():
     yield "seen from above: a lemma", contracts_of("proofs/Lemmas.antt", "x"), "x"
 
 
+def names():
+    """The rows of what an edit calls a function."""
+    crate = SimpleNamespace(files=lambda: FILES, read=FILES.get)
+    for name, wanted in NAMED.items():
+        yield f"the name {name}", what_lacks(crate, name), wanted
+
+
 def tried():
     """The rows of which edits are tried."""
     for what, *given, is_tried in TRIED:
@@ -223,7 +244,7 @@ def minutes():
 
 
 def main():
-    rows = [row for part in (refusals, renames, texts, tried, plans, files, minutes) for row in part()]
+    rows = [row for part in (refusals, renames, texts, names, tried, plans, files, minutes) for row in part()]
     wrong = [it for it in rows if it[1] != it[2]]
     for name, found, wanted in wrong:
         print(f"{name}: {found!r}, and not {wanted!r}")

@@ -2,6 +2,7 @@
 """Tries wrong bodies: each edit in tests/wrong_bodies/CRATE must be refused by that crate's contracts.
 
     python3 tests/wrong_bodies.py [--built] [--all] [--write] [--said FOLDER] [--chance NAMES] [CRATE..]
+    python3 tests/wrong_bodies.py --look [CRATE..]
 
 wrong_edit.py says what an edit is. A function's proof stands on the contracts of what it calls and not on
 their bodies, so edits of different functions are tried in one check. A batch has at most one edit of a
@@ -21,7 +22,7 @@ What was refused is kept, in the repository and on this machine, and tried again
 what it drew by; --chance has the names, with commas between them, where the gate has drawn. What stays undecided is
 named and counted apart. Libraries are built where
 they have changed; with --built they are taken as `rt ci` has left them. --write writes the lines `refused by:` anew
-from what the checks say, and --said keeps what they wrote. RT_JOBS says how many processors are used. The exit
+from what the checks say, and --said keeps what they wrote. --look tries none, and says at once which can't be tried. RT_JOBS says how many processors are used. The exit
 status is 1 where an edit is proved, or can't be tried.
 """
 
@@ -47,7 +48,7 @@ from wrong_edit import COMPILER, BadEdit, Edit, batches_of  # noqa: E402
 
 ROOT = os.path.dirname(HERE)
 EDITS = f"{HERE}/wrong_bodies"
-FLAGS = ("--built", "--all", "--write", "--said", "--chance")
+FLAGS = ("--built", "--all", "--write", "--said", "--chance", "--look")
 # what a check takes at most, in bytes
 ROOM = 3_000_000_000
 # how often a proof gets names that an edit changed
@@ -388,6 +389,22 @@ def drawn(known, plan):
     return found
 
 
+def look(crates):
+    """Reads the edits of these crates: 1 where one can't be tried, else 0."""
+    count = bad = 0
+    for crate in crates:
+        for name in sorted(os.listdir(f"{EDITS}/{crate.name}")):
+            count += 1
+            try:
+                with open(f"{EDITS}/{crate.name}/{name}", encoding="utf-8") as it:
+                    Edit(crate, name, it.read())
+            except BadEdit as error:
+                bad += 1
+                print(f"wrong body {crate.name}/{name}: BAD EDIT: {error}")
+    print(f"wrong bodies: {count - bad} can be tried, {bad} not")
+    return 1 if bad else 0
+
+
 def main(words):
     # (a word that is misspelled, or --help, is not to start hours of work)
     if not {it for it in words if it.startswith("-")} <= {*FLAGS}:
@@ -399,6 +416,8 @@ def main(words):
     if not {*names} <= {*known}:
         print(f"wrong bodies: no such crate among {' '.join(names)}")
         return 1
+    if "--look" in words:
+        return look(known[it] for it in names)
     lanes = Lanes()
     plan = plan_of(known, words)
     trials = [Trial(known[it], words, lanes, plan) for it in names]

@@ -14,6 +14,7 @@ form what the code says (same_body.py) is none.
 
 import re
 
+from checked_name import what_lacks
 from same_body import says_the_same
 
 # what an edit is refused by that the compiler does not take, before the error's code
@@ -34,6 +35,9 @@ class Edit:
         self.pairs = pairs_of(text)
         if not self.pairs or not self.path:
             raise BadEdit("it has no pair of lines old: and new:, or no line checked:")
+        lacking = what_lacks(crate, self.path)
+        if lacking:
+            raise BadEdit(f"there is no {self.path}: {lacking}")
         if says_the_same(*("\n".join(it[at] for it in self.pairs) for at in (1, 2))):
             raise BadEdit("it says what the code says, by other names or in another order")
         # what it can break the proof of: two edits of one unit are not told apart by one check
