@@ -28,10 +28,10 @@ class Command:
         self.runs += 1
         return subprocess.Popen([self.path, *words], cwd=folder, **how)
 
-    def run(self, *words, folder, given=b"", environment=None):
+    def run(self, *words, folder, given=b"", environment=None, **how):
         """Runs it with these words and this standard input."""
         pipes = {"stdin": subprocess.PIPE, "stdout": subprocess.PIPE, "stderr": subprocess.PIPE}
-        with self.start(*words, folder=folder, env=environment, **pipes) as running:
+        with self.start(*words, folder=folder, env=environment, **pipes, **how) as running:
             text, told = running.communicate(given, timeout=LIMIT)
         return Outcome(text.decode(), running.returncode, told.decode())
 

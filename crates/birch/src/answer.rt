@@ -1,7 +1,9 @@
 //! The answer to one query.
 
 use crate::explain::{write_explanation, write_weights};
+use crate::files::{Source, note};
 use crate::index::Index;
+use crate::kept::Trouble;
 use crate::options::Options;
 use crate::searched::{Searched, build};
 use crate::shown::{Shown, line_of, shown_part, text_of, write_json, write_plain};
@@ -12,6 +14,7 @@ use birch_text::{Clause, Marker, QueryFault, read_query};
 use qm_postings::DocAddress;
 use qm_query::{EnableScoring, Query, TopDocs};
 use qm_schema::QueryError;
+use qm_store::DocumentPlace;
 use qm_term::Explanation;
 use qm_weight::Weight;
 use std::io;
@@ -22,7 +25,7 @@ use std::io::Write;
 pub fn answer<W: Write>(
     rt: &HostRuntime,
     options: &Options<'_>,
-    index: &Index,
+    index: &mut Index,
     text: &str,
     is_coloured: bool,
     out: &mut W,
@@ -56,12 +59,14 @@ fn explain_fault(rt: &HostRuntime, text: &str, fault: QueryFault) {
 fn answer_clauses<W: Write>(
     rt: &HostRuntime,
     options: &Options<'_>,
-    index: &Index,
+    index: &mut Index,
     clauses: &[Clause],
     is_coloured: bool,
     out: &mut W,
 ) -> Result<usize, Stop> {
     let watch = Stopwatch::start(rt)?;
+    index.want(rt.alloc(), clauses)?;
+    let index: &Index = index;
     let searched = build(rt.alloc(), index, clauses)?;
     let asked = Asked {
         rt,
@@ -128,13 +133,25 @@ impl<'a, 'o> Asked<'a, 'o> {
         Ok(())
     }
 
-    // Writes all results.
+    // Writes all results. Each is looked for before the first is written, so that where this can't be told an answer
+    // can still be found in another way.
     fn list<W: Write>(&self, found: &[(i64, DocAddress)], out: &mut W) -> Result<(), Stop> {
         let marker = Marker::new(self.rt.alloc(), self.clauses)?;
-        for (number, (score, address)) in found.iter().enumerate() {
-            self.write(&marker, number.saturating_add(1), *score, *address, out)?;
+        let places = self.places(found)?;
+        for (number, ((score, _), place)) in found.iter().zip(places.iter()).enumerate() {
+            self.write(&marker, number.saturating_add(1), *score, *place, out)?;
         }
         Ok(())
+    }
+
+    // Where each of these documents stands.
+    fn places(&self, found: &[(i64, DocAddress)]) -> Result<Vec<Option<DocumentPlace>>, Trouble> {
+        let alloc = self.rt.alloc();
+        let mut places = Vec::with_capacity(alloc, found.len())?;
+        for (_, address) in found {
+            places.push(self.index.place(alloc, *address)?)?;
+        }
+        Ok(places)
     }
 
     // Writes one result.
@@ -143,10 +160,10 @@ impl<'a, 'o> Asked<'a, 'o> {
         marker: &Marker<'_>,
         number: usize,
         score: i64,
-        address: DocAddress,
+        place: Option<DocumentPlace>,
         out: &mut W,
     ) -> Result<(), Stop> {
-        let Some(shown) = self.shown(marker, score, address)? else {
+        let Some(shown) = self.shown(marker, score, place)? else {
             return Ok(());
         };
         if self.options.is_json {
@@ -157,42 +174,48 @@ impl<'a, 'o> Asked<'a, 'o> {
         Ok(())
     }
 
-    // A result with its text; a file that can't be read any more is noted.
+    // A result with its text.
     fn shown(
         &self,
         marker: &Marker<'_>,
         score: i64,
-        address: DocAddress,
+        place: Option<DocumentPlace>,
     ) -> Result<Option<Shown<'a>>, Stop> {
-        let Some(filed) = self.index.place(address) else {
+        let Some(place) = place else {
             return Ok(None);
         };
-        let Some(file) = self.index.files.get(filed.file as usize) else {
+        let Some(file) = self.index.files.get(place.file as usize) else {
             return Ok(None);
         };
         let form = self.options.form;
-        let path = file.path.as_str();
-        let text = match text_of(self.rt, form, self.index, filed) {
-            Ok(text) => text,
-            Err(error) if error.kind() == io::ErrorKind::OutOfMemory => {
-                return Err(Stop::from(error));
-            }
-            Err(error) => {
-                let _ = eprintln!(self.rt; "birch: {path}: {error}");
-                String::new(self.rt.alloc())
-            }
-        };
+        let text = self.text(file, place)?;
         let marks = marker.marks(self.rt.alloc(), text.as_str())?;
         let snippet = shown_part(text.as_str(), &marks);
-        let line = line_of(form, filed, text.as_str(), &marks, snippet);
+        let line = line_of(form, place, text.as_str(), &marks, snippet);
         Ok(Some(Shown {
-            path,
+            path: file.path.as_str(),
             line,
             score,
             text,
             marks,
             snippet,
         }))
+    }
+
+    // The text of a document; a file that can't be read any more, or has changed, is noted, and gives none.
+    fn text(&self, file: &Source, place: DocumentPlace) -> Result<String, Stop> {
+        let path = file.path.as_str();
+        match text_of(self.rt, self.options.form, file, place) {
+            Ok(Some(text)) => return Ok(text),
+            Ok(None) => note(self.rt, path, "has changed since it was read"),
+            Err(error) if error.kind() == io::ErrorKind::OutOfMemory => {
+                return Err(Stop::from(error));
+            }
+            Err(error) => {
+                let _ = eprintln!(self.rt; "birch: {path}: {error}");
+            }
+        }
+        Ok(String::new(self.rt.alloc()))
     }
 
     // Writes one result, and why it scores what it does.
@@ -211,8 +234,9 @@ impl<'a, 'o> Asked<'a, 'o> {
             return Ok(());
         };
         let marker = Marker::new(self.rt.alloc(), self.clauses)?;
-        self.write(&marker, number, *score, *address, out)?;
         let alloc = self.rt.alloc();
+        let place = self.index.place(alloc, *address)?;
+        self.write(&marker, number, *score, place, out)?;
         let explanation = self.explanation(*address)?;
         write_weights(alloc, out, self.index, self.clauses)?;
         write_explanation(alloc, out, &explanation)?;

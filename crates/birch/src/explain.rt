@@ -61,7 +61,7 @@ fn write_weight<W: Write>(
     clause: &Clause,
     word: &str,
 ) -> Result<(), Stop> {
-    let term = Term::from_field_text(alloc, index.field_of(clause), word)?;
+    let term = Term::from_field_text(alloc, index.fields.of(clause), word)?;
     let held = index.held(&term);
     let documents = index.tally.documents;
     let weight = weight(documents, held);

@@ -1,14 +1,24 @@
 //! Which files there are, and what stands in them.
 
 use crate::options::Options;
+use crate::stamps::stamp_of;
 use birch_text::is_glob_match;
+use qm_folder::FileStamp;
 use std::alloc::{AllocError, Global};
-use std::fs::File;
+use std::fs::{File, Metadata};
 use std::io::{Read, Seek, SeekFrom};
 use std::{fs, io};
 
 /// Why a file is left out.
 const TOO_LARGE: &str = "left out, it is larger than --max-size";
+
+/// What of a path that isn't a file that can be read again is known of its changes: nothing.
+const NO_STAMP: FileStamp = FileStamp {
+    size: 0,
+    bytes_changed: 0,
+    changed: 0,
+    inode: 0,
+};
 
 /// A file that is read.
 #[derive(Debug, Drop)]
@@ -21,6 +31,8 @@ pub struct Source {
     pub kept: Option<String>,
     /// Which column of a table is read.
     pub column: usize,
+    /// What it was when an index was made that is kept; none where it was read in this run.
+    pub stamp: Option<FileStamp>,
 }
 
 /// Tells on standard error why a file is left out.
@@ -28,24 +40,56 @@ pub fn note(rt: &HostRuntime, path: &str, what: &str) {
     let _ = eprintln!(rt; "birch: {path}: {what}");
 }
 
+// A path that is still to be looked at.
+#[derive(Drop)]
+struct Waiting {
+    path: String,
+    // which of the paths that were given it stands below
+    root: u32,
+    // what stands there, where its folder was listed
+    seen: Option<Seen>,
+}
+
+// What stands at a path, as the system tells it.
+#[derive(Clone, Copy)]
+struct Seen {
+    is_folder: bool,
+    is_file: bool,
+    stamp: FileStamp,
+}
+
+impl Seen {
+    fn of(found: &Metadata) -> Seen {
+        Seen {
+            is_folder: found.is_dir(),
+            is_file: found.is_file(),
+            stamp: stamp_of(found),
+        }
+    }
+}
+
 // Paths that are still to be looked at, the next one last.
 #[derive(Drop)]
 struct Walk {
-    left: Vec<String>,
+    left: Vec<Waiting>,
 }
 
 impl Walk {
     // Begins with these paths.
     fn new(alloc: Global, paths: &[&str]) -> Result<Walk, AllocError> {
         let mut left = Vec::new(alloc);
-        for path in paths.iter().rev() {
-            left.push(String::from_str(alloc, path)?)?;
+        for (number, path) in paths.iter().enumerate().rev() {
+            left.push(Waiting {
+                path: String::from_str(alloc, path)?,
+                root: u32::try_from(number).unwrap_or(u32::MAX),
+                seen: None,
+            })?;
         }
         Ok(Walk { left })
     }
 
     // The next path.
-    fn next_path(&mut self) -> Option<String> {
+    fn next_path(&mut self) -> Option<Waiting> {
         self.left.pop()
     }
 
@@ -55,19 +99,19 @@ impl Walk {
         &mut self,
         rt: &HostRuntime,
         options: &Options<'_>,
-        folder: &str,
+        folder: &Waiting,
     ) -> Result<(), AllocError> {
         let mut found = match list(rt, options, folder) {
             Ok(found) => found,
             Err(error) => {
-                noted(rt, folder, error)?;
+                noted(rt, folder.path.as_str(), error)?;
                 return Ok(());
             }
         };
-        found.sort_unstable();
+        found.sort_unstable_by(|one, other| one.path.cmp(&other.path));
         for _ in 0..found.len() {
-            if let Some(path) = found.pop() {
-                self.left.push(path)?;
+            if let Some(next) = found.pop() {
+                self.left.push(next)?;
             }
         }
         Ok(())
@@ -84,45 +128,50 @@ fn noted(rt: &HostRuntime, path: &str, error: io::Error) -> Result<(), AllocErro
 }
 
 // The files and folders of a folder.
-fn list(rt: &HostRuntime, options: &Options<'_>, folder: &str) -> io::Result<Vec<String>> {
+fn list(rt: &HostRuntime, options: &Options<'_>, folder: &Waiting) -> io::Result<Vec<Waiting>> {
     let mut found = Vec::new(rt.alloc());
-    for entry in fs::read_dir(rt, folder)? {
+    for entry in fs::read_dir(rt, folder.path.as_str())? {
         match entry {
             Ok(entry) => {
-                if let Some(path) = wanted(rt, options, folder, entry.file_name())? {
-                    found.push(path)?;
+                if let Some(next) = wanted(rt, options, folder, entry.file_name())? {
+                    found.push(next)?;
                 }
             }
-            Err(error) => noted(rt, folder, error)?,
+            Err(error) => noted(rt, folder.path.as_str(), error)?,
         }
     }
     Ok(found)
 }
 
-// The path of a name in a folder, where it is read.
+// A name in a folder, where it is read.
 fn wanted(
     rt: &HostRuntime,
     options: &Options<'_>,
-    folder: &str,
+    folder: &Waiting,
     name: &str,
-) -> io::Result<Option<String>> {
+) -> io::Result<Option<Waiting>> {
     if name.starts_with('.') && !options.has_hidden {
         return Ok(None);
     }
-    let path = joined(rt.alloc(), folder, name)?;
-    let Ok(kind) = fs::symlink_metadata(rt, path.as_str()) else {
+    let path = joined(rt.alloc(), folder.path.as_str(), name)?;
+    let Ok(found) = fs::symlink_metadata(rt, path.as_str()) else {
         note(rt, path.as_str(), "can't be looked at");
         return Ok(None);
     };
-    if kind.is_dir() || (kind.is_file() && is_named_so(options, name)) {
-        Ok(Some(path))
+    let seen = Seen::of(&found);
+    if seen.is_folder || (seen.is_file && is_named_so(options, name)) {
+        Ok(Some(Waiting {
+            path,
+            root: folder.root,
+            seen: Some(seen),
+        }))
     } else {
         Ok(None)
     }
 }
 
-// The path of a name in a folder; in the current one the name alone.
-fn joined(alloc: Global, folder: &str, name: &str) -> Result<String, AllocError> {
+/// The path of a name in a folder; in the current one the name alone.
+pub fn joined(alloc: Global, folder: &str, name: &str) -> Result<String, AllocError> {
     if folder == "." {
         return String::from_str(alloc, name);
     }
@@ -144,8 +193,10 @@ fn is_named_so(options: &Options<'_>, name: &str) -> bool {
 pub struct Found {
     /// Its path.
     pub path: String,
-    /// How many bytes it has, where that is known.
-    pub size: u64,
+    /// Which of the paths that were given it stands below.
+    pub root: u32,
+    /// What tells whether it changes, and how many bytes it has, where that is known.
+    pub stamp: FileStamp,
     /// Whether it can be read once alone, as a pipe.
     pub is_stream: bool,
 }
@@ -157,23 +208,24 @@ pub fn find_files(rt: &HostRuntime, options: &Options<'_>) -> Result<Vec<Found>,
     let mut files = Vec::new(alloc);
     let mut walk = Walk::new(alloc, &options.paths)?;
     for _ in 0..u64::MAX {
-        let Some(path) = walk.next_path() else {
+        let Some(next) = walk.next_path() else {
             break;
         };
-        match look(rt, options, path.as_str()) {
-            At::Folder => walk.enter(rt, options, path.as_str())?,
-            At::File(size) => files.push(Found {
-                path,
-                size,
-                is_stream: false,
-            })?,
-            At::Stream => files.push(Found {
-                path,
-                size: 0,
-                is_stream: true,
-            })?,
-            At::Nothing => {}
-        }
+        let (stamp, is_stream) = match look(rt, options, &next) {
+            At::Folder => {
+                walk.enter(rt, options, &next)?;
+                continue;
+            }
+            At::File(stamp) => (stamp, false),
+            At::Stream => (NO_STAMP, true),
+            At::Nothing => continue,
+        };
+        files.push(Found {
+            path: next.path,
+            root: next.root,
+            stamp,
+            is_stream,
+        })?;
     }
     Ok(files)
 }
@@ -183,8 +235,8 @@ pub fn find_files(rt: &HostRuntime, options: &Options<'_>) -> Result<Vec<Found>,
 enum At {
     // a folder
     Folder,
-    // a file of so many bytes, which can be read again
-    File(u64),
+    // a file, which can be read again
+    File(FileStamp),
     // what can be read once alone, as a pipe
     Stream,
     // nothing that is read
@@ -192,54 +244,64 @@ enum At {
 }
 
 // What stands at a path. What isn't read is noted.
-fn look(rt: &HostRuntime, options: &Options<'_>, path: &str) -> At {
+fn look(rt: &HostRuntime, options: &Options<'_>, next: &Waiting) -> At {
+    let path = next.path.as_str();
     if path == "-" {
         return At::Stream;
     }
-    let found = match fs::metadata(rt, path) {
-        Ok(found) => found,
-        Err(error) => {
-            let _ = eprintln!(rt; "birch: {path}: {error}");
-            return At::Nothing;
-        }
+    let seen = match next.seen {
+        Some(seen) => seen,
+        None => match fs::metadata(rt, path) {
+            Ok(found) => Seen::of(&found),
+            Err(error) => {
+                let _ = eprintln!(rt; "birch: {path}: {error}");
+                return At::Nothing;
+            }
+        },
     };
-    if found.is_dir() {
+    if seen.is_folder {
         return At::Folder;
     }
-    if found.len() > options.max_size {
+    if seen.stamp.size > options.max_size {
         note(rt, path, TOO_LARGE);
         return At::Nothing;
     }
-    if found.is_file() {
-        At::File(found.len())
+    if seen.is_file {
+        At::File(seen.stamp)
     } else {
         At::Stream
     }
 }
 
-/// The text of a file; none where it is binary or can't be read, which is noted.
-pub fn read_text(rt: &HostRuntime, path: &str, most: u64) -> Result<Option<String>, AllocError> {
+/// What was read of a file.
+#[derive(Drop)]
+pub enum Contents {
+    /// Its text.
+    Text(String),
+    /// Nothing, since what stands there is no text that is read; and why.
+    LeftOut(&'static str),
+    /// Nothing, since it can't be read, which is noted.
+    Unread,
+}
+
+/// The text of a file.
+pub fn read_text(rt: &HostRuntime, path: &str, most: u64) -> Result<Contents, AllocError> {
     let bytes = match read_bytes(rt, path, most) {
         Ok(bytes) => bytes,
         Err(error) => {
             noted(rt, path, error)?;
-            return Ok(None);
+            return Ok(Contents::Unread);
         }
     };
     if bytes.len() as u64 > most {
-        note(rt, path, TOO_LARGE);
-        return Ok(None);
+        return Ok(Contents::LeftOut(TOO_LARGE));
     }
     if bytes.contains(&0) {
-        note(rt, path, "left out, it is binary");
-        return Ok(None);
+        return Ok(Contents::LeftOut("left out, it is binary"));
     }
     match String::from_utf8(bytes) {
-        Ok(text) => Ok(Some(text)),
-        Err(_) => {
-            note(rt, path, "left out, it is no UTF-8");
-            Ok(None)
-        }
+        Ok(text) => Ok(Contents::Text(text)),
+        Err(_) => Ok(Contents::LeftOut("left out, it is no UTF-8")),
     }
 }
 
@@ -255,14 +317,26 @@ fn read_bytes(rt: &HostRuntime, path: &str, most: u64) -> io::Result<Vec<u8>> {
     Ok(bytes)
 }
 
-/// So many bytes of a file, from a place on. What isn't UTF-8 any more is an error.
-pub fn read_piece(rt: &HostRuntime, path: &str, start: u64, len: u64) -> io::Result<String> {
+/// So many bytes of a file, from a place on; none where it has another stamp than the one that is wanted. What isn't
+/// UTF-8 any more is an error.
+pub fn read_piece(
+    rt: &HostRuntime,
+    path: &str,
+    stamp: Option<FileStamp>,
+    start: u64,
+    len: u64,
+) -> io::Result<Option<String>> {
     let mut bytes = Vec::new(rt.alloc());
     let mut file: File = fs::open(rt, path)?;
+    if let Some(stamp) = stamp {
+        if stamp_of(&file.metadata()?) != stamp {
+            return Ok(None);
+        }
+    }
     file.seek(SeekFrom::Start(start))?;
     file.take(len).read_to_end(&mut bytes)?;
     match String::from_utf8(bytes) {
-        Ok(text) => Ok(text),
+        Ok(text) => Ok(Some(text)),
         Err(_) => Err(io::Error::from(io::ErrorKind::InvalidData)),
     }
 }

@@ -1,24 +1,14 @@
 //! The documents of all files, to be searched.
 
 use crate::files::Source;
+use crate::kept::{KeptSegments, Trouble};
 use crate::weights::{norms, weight};
 use birch_text::Clause;
+use qm_docset::DocSet;
 use qm_postings::{DocAddress, Searcher, SegmentReader};
 use qm_schema::{Field, IndexRecordOption, QueryError, Schema, Term};
+use qm_store::DocumentPlace;
 use std::alloc::Global;
-
-/// Where a document stands.
-#[derive(Clone, Copy, Debug)]
-pub struct Filed {
-    /// Its file, by number.
-    pub file: u32,
-    /// The number of its first line.
-    pub line: u32,
-    /// Its first byte.
-    pub start: u32,
-    /// How many bytes it has.
-    pub len: u32,
-}
 
 /// How much was read.
 #[derive(Clone, Copy, Debug)]
@@ -40,13 +30,41 @@ pub struct Fields {
     pub name: Field,
 }
 
+impl Fields {
+    /// The field that a clause asks for.
+    pub fn of(&self, clause: &Clause) -> Field {
+        if clause.is_of_name {
+            self.name
+        } else {
+            self.text
+        }
+    }
+}
+
 /// The schema of all documents.
 pub fn schema(alloc: Global) -> Result<(Schema, Fields), QueryError> {
-    let option = Some(IndexRecordOption::WithFreqsAndPositions);
+    schema_with(alloc, IndexRecordOption::WithFreqsAndPositions)
+}
+
+/// The schema of all documents, of whose words so much is kept.
+pub fn schema_with(
+    alloc: Global,
+    option: IndexRecordOption,
+) -> Result<(Schema, Fields), QueryError> {
+    let option = Some(option);
     let mut schema = Schema::builder(alloc);
     let text = schema.add_text_field("text", option, true)?;
     let name = schema.add_text_field("name", option, false)?;
     Ok((schema.build(), Fields { text, name }))
+}
+
+// Where the segments are, and where each of their documents stands.
+#[derive(Drop)]
+enum Origin {
+    // the segments were made in this run, and these are the places of the documents of each
+    Made(Vec<Vec<DocumentPlace>>),
+    // they are kept, and of them is read what a query wants
+    Kept(KeptSegments),
 }
 
 /// The documents of all files, to be searched.
@@ -60,8 +78,7 @@ pub struct Index {
     pub files: Vec<Source>,
     /// How much was read.
     pub tally: Tally,
-    // where each document of each segment stands
-    places: Vec<Vec<Filed>>,
+    origin: Origin,
     // the norm of each length id
     norms: [u32; 256],
 }
@@ -71,7 +88,28 @@ impl Index {
     pub fn new(
         alloc: Global,
         segments: Vec<SegmentReader>,
-        places: Vec<Vec<Filed>>,
+        places: Vec<Vec<DocumentPlace>>,
+        files: Vec<Source>,
+        tally: Tally,
+    ) -> Result<Index, QueryError> {
+        Index::of(alloc, segments, Origin::Made(places), files, tally)
+    }
+
+    /// Over segments that are kept.
+    pub fn of_kept(
+        alloc: Global,
+        kept: KeptSegments,
+        files: Vec<Source>,
+        tally: Tally,
+    ) -> Result<Index, QueryError> {
+        let none = Vec::new(alloc);
+        Index::of(alloc, none, Origin::Kept(kept), files, tally)
+    }
+
+    fn of(
+        alloc: Global,
+        segments: Vec<SegmentReader>,
+        origin: Origin,
         files: Vec<Source>,
         tally: Tally,
     ) -> Result<Index, QueryError> {
@@ -83,23 +121,41 @@ impl Index {
             fields,
             files,
             tally,
-            places,
+            origin,
             norms,
         })
     }
 
-    /// Where a document stands.
-    pub fn place(&self, address: DocAddress) -> Option<Filed> {
-        let places = self.places.get(address.segment_ord as usize)?;
-        places.get(address.doc_id as usize).copied()
+    /// The segments that are kept, where they are.
+    pub fn kept(&self) -> Option<&KeptSegments> {
+        match &self.origin {
+            Origin::Kept(kept) => Some(kept),
+            Origin::Made(_) => None,
+        }
     }
 
-    /// The field that a clause asks for.
-    pub fn field_of(&self, clause: &Clause) -> Field {
-        if clause.is_of_name {
-            self.fields.name
-        } else {
-            self.fields.text
+    /// Has the searcher all that a query of these clauses looks at.
+    pub fn want(&mut self, alloc: Global, clauses: &[Clause]) -> Result<(), Trouble> {
+        if let Origin::Kept(kept) = &self.origin {
+            self.searcher = kept.searcher(alloc, self.fields, clauses, self.norms)?;
+        }
+        Ok(())
+    }
+
+    /// Where a document stands, by the number of its file in this index.
+    pub fn place(
+        &self,
+        alloc: Global,
+        address: DocAddress,
+    ) -> Result<Option<DocumentPlace>, Trouble> {
+        match &self.origin {
+            Origin::Made(places) => {
+                let Some(places) = places.get(address.segment_ord as usize) else {
+                    return Ok(None);
+                };
+                Ok(places.get(address.doc_id as usize).copied())
+            }
+            Origin::Kept(kept) => kept.place(alloc, address),
         }
     }
 
@@ -107,9 +163,7 @@ impl Index {
     pub fn held(&self, term: &Term) -> u64 {
         let mut held: u64 = 0;
         for segment in self.searcher.segment_readers() {
-            if let Some(info) = segment.inverted_index(term.field()).get_term_info(term) {
-                held = held.saturating_add(u64::from(info.doc_freq));
-            }
+            held = held.saturating_add(u64::from(held_in(segment, term)));
         }
         held
     }
@@ -122,11 +176,11 @@ impl Index {
             let range = segment
                 .inverted_index(prefix.field())
                 .term_range(begin, None);
-            for (term, info) in range {
+            for (term, _) in range {
                 if !term.serialized_value_bytes().starts_with(begin) {
                     break;
                 }
-                held = held.saturating_add(u64::from(info.doc_freq));
+                held = held.saturating_add(u64::from(held_in(segment, term)));
             }
         }
         held
@@ -149,5 +203,23 @@ impl Index {
         let weight = weight(self.tally.documents, self.held(term));
         let weight = i64::try_from(weight).unwrap_or(i64::MAX);
         statistics.set_weight(term.clone(alloc)?, weight)
+    }
+}
+
+// How many documents of a segment hold a term. Those that are deleted have the postings that they had.
+fn held_in(segment: &SegmentReader, term: &Term) -> u32 {
+    let index = segment.inverted_index(term.field());
+    match segment.alive_bitset() {
+        None => match index.get_term_info(term) {
+            Some(info) => info.doc_freq,
+            None => 0,
+        },
+        Some(alive) => match index.read_documents(term) {
+            Some(documents) => {
+                let mut documents = documents;
+                documents.count(alive)
+            }
+            None => 0,
+        },
     }
 }

@@ -1,13 +1,14 @@
 //! The making of the index.
 
-use crate::files::{Found, Source, find_files, note, read_text};
-use crate::index::{Fields, Filed, Index, Tally, schema};
+use crate::files::{Contents, Found, Source, find_files, note, read_text};
+use crate::index::{Fields, Index, Tally, schema};
 use crate::options::Options;
 use crate::weights::length_id;
 use anyhow::Result;
 use birch_text::{Form, Passages, Place, add_passages, add_words, column_in, name_words};
 use qm_postings::{PlainDoc, SegmentBuilder, SegmentReader};
 use qm_schema::{QueryError, Schema};
+use qm_store::DocumentPlace;
 use std::alloc::Global;
 use std::mem;
 
@@ -17,12 +18,12 @@ const MOST_BYTES: usize = 128 << 20;
 const LEAST_BYTES: usize = 3 << 19;
 
 /// How many postings stand in a block that a search passes over as one.
-const BLOCK_LEN: u32 = 128;
+pub const BLOCK_LEN: u32 = 128;
 
 // A document whose words are cut.
 #[derive(Clone, Copy)]
 struct Cut {
-    filed: Filed,
+    place: DocumentPlace,
     // the first byte of its words, among the words of all
     first: usize,
     // how many bytes these have
@@ -48,7 +49,7 @@ pub struct Indexer {
     // how many bytes of words make a segment
     segment_bytes: usize,
     segments: Vec<SegmentReader>,
-    places: Vec<Vec<Filed>>,
+    places: Vec<Vec<DocumentPlace>>,
     tally: Tally,
     // how many rows of a file were left out, and the line of the first
     left_out: u32,
@@ -62,10 +63,10 @@ impl Passages for Indexer {
         if count == 0 {
             return Ok(());
         }
-        let filed = self.filed(place);
+        let place = self.document_place(place);
         let len = self.words.len().saturating_sub(first);
         self.cuts.push(Cut {
-            filed,
+            place,
             first,
             len,
             count,
@@ -133,13 +134,13 @@ impl Indexer {
     }
 
     // Where a document of the last file stands.
-    fn filed(&self, place: Place) -> Filed {
+    fn document_place(&self, place: Place) -> DocumentPlace {
         let file = self.files.len().saturating_sub(1);
-        Filed {
+        DocumentPlace {
             file: u32::try_from(file).unwrap_or(u32::MAX),
             line: place.line,
-            start: u32::try_from(place.start).unwrap_or(u32::MAX),
-            len: u32::try_from(place.len).unwrap_or(u32::MAX),
+            first_byte: u32::try_from(place.start).unwrap_or(u32::MAX),
+            byte_count: u32::try_from(place.len).unwrap_or(u32::MAX),
         }
     }
 
@@ -151,22 +152,13 @@ impl Indexer {
         path: String,
         text: String,
         is_kept: bool,
-    ) -> Result<()> {
+    ) -> Result<Gain> {
         let alloc = self.alloc;
-        let column = match form {
-            Form::Csv(name) => match column_in(alloc, text.as_str(), name)? {
-                Some(column) => column,
-                None => {
-                    note(
-                        rt,
-                        path.as_str(),
-                        "left out, its first row has no such column",
-                    );
-                    return Ok(());
-                }
-            },
-            _ => 0,
+        let Some(column) = column_of(alloc, form, text.as_str())? else {
+            let why = "left out, its first row has no such column";
+            return left_out(rt, path.as_str(), why);
         };
+        let before = self.tally;
         self.tally.bytes = self.tally.bytes.saturating_add(text.len() as u64);
         let name_words = name_words(alloc, own_name(path.as_str()))?;
         self.files.push(Source {
@@ -174,14 +166,26 @@ impl Indexer {
             name_words,
             kept: None,
             column,
+            stamp: None,
         })?;
         self.left_out = 0;
         add_passages(alloc, form, text.as_str(), self)?;
-        self.note_left_out(rt);
+        let note = self.note_left_out(rt)?;
         if is_kept {
             self.keep(text);
         }
-        Ok(())
+        Ok(self.gain_since(before, column, note))
+    }
+
+    // What the last file gave, before which so much was read.
+    fn gain_since(&self, before: Tally, column: usize, note: String) -> Gain {
+        Gain {
+            is_taken: true,
+            documents: self.tally.documents.saturating_sub(before.documents),
+            words: self.tally.words.saturating_sub(before.words),
+            column,
+            note,
+        }
     }
 
     // Keeps the text of the last file.
@@ -191,17 +195,19 @@ impl Indexer {
         }
     }
 
-    // Tells which rows of the last file are no documents.
-    fn note_left_out(&self, rt: &HostRuntime) {
+    // Tells which rows of the last file are no documents, and gives what stands behind its path there.
+    fn note_left_out(&self, rt: &HostRuntime) -> Result<String> {
         if self.left_out == 0 {
-            return;
+            return Ok(String::new(self.alloc));
         }
+        let line = self.first_left_out;
+        let rows = self.left_out;
+        let what = format!(in self.alloc; ":{line}: rows left out from here on: {rows}")?;
         if let Some(file) = self.files.last() {
             let path = file.path.as_str();
-            let line = self.first_left_out;
-            let rows = self.left_out;
-            let _ = eprintln!(rt; "birch: {path}:{line}: rows left out from here on: {rows}");
+            let _ = eprintln!(rt; "birch: {path}{what}");
         }
+        Ok(what)
     }
 
     // Makes a segment of the documents that have come, the shortest first, so that a search passes over
@@ -225,12 +231,12 @@ impl Indexer {
         &self,
         words: String,
         cuts: Vec<Cut>,
-    ) -> Result<(SegmentReader, Vec<Filed>), QueryError> {
+    ) -> Result<(SegmentReader, Vec<DocumentPlace>), QueryError> {
         let mut builder = SegmentBuilder::new(self.alloc, &self.schema, BLOCK_LEN)?;
         let mut places = Vec::with_capacity(self.alloc, cuts.len())?;
         for cut in &cuts {
             builder.add_document(self.document(words.as_str(), cut)?)?;
-            places.push(cut.filed)?;
+            places.push(cut.place)?;
         }
         // the building takes most room of all
         drop(words);
@@ -245,34 +251,91 @@ impl Indexer {
         let own = words.get(cut.first..end).unwrap_or("");
         document.add_text(self.fields.text, own)?;
         document.set_length(self.fields.text, length_id(cut.count))?;
-        if let Some(file) = self.files.get(cut.filed.file as usize) {
+        if let Some(file) = self.files.get(cut.place.file as usize) {
             document.add_text(self.fields.name, file.name_words.as_str())?;
         }
         Ok(document)
     }
 
-    /// The index of all documents.
-    pub fn finish(self) -> Result<Index, QueryError> {
+    /// What was read.
+    pub fn finish(self) -> Result<Readings, QueryError> {
         let mut indexer = self;
         indexer.end_segment()?;
         let Indexer {
-            alloc,
-            schema: _,
-            fields: _,
             files,
-            words: _,
-            room: _,
-            cuts: _,
-            left: _,
-            segment_bytes: _,
             segments,
             places,
             tally,
-            left_out: _,
-            first_left_out: _,
+            ..
         } = indexer;
+        Ok(Readings {
+            segments,
+            places,
+            files,
+            tally,
+        })
+    }
+}
+
+/// What a file gave when it was read.
+#[derive(Drop)]
+pub struct Gain {
+    /// Whether it was taken in, and not left out.
+    pub is_taken: bool,
+    /// How many documents.
+    pub documents: u64,
+    /// How many words these have.
+    pub words: u64,
+    /// Which column of a table was read.
+    pub column: usize,
+    /// What was noted behind its path, since it or some of its rows were left out; else nothing.
+    pub note: String,
+}
+
+/// What was read of files.
+#[derive(Drop)]
+pub struct Readings {
+    /// The segments of their documents.
+    pub segments: Vec<SegmentReader>,
+    /// Where the documents of each segment stand.
+    pub places: Vec<Vec<DocumentPlace>>,
+    /// The files that were taken in.
+    pub files: Vec<Source>,
+    /// How much was read.
+    pub tally: Tally,
+}
+
+impl Readings {
+    /// The index of what was read.
+    pub fn into_index(self, alloc: Global) -> Result<Index, QueryError> {
+        let Readings {
+            segments,
+            places,
+            files,
+            tally,
+        } = self;
         Index::new(alloc, segments, places, files, tally)
     }
+}
+
+// Which column of a table is read, and of another file the first; none where its first row has no such column.
+fn column_of(alloc: Global, form: Form<'_>, text: &str) -> Result<Option<usize>> {
+    match form {
+        Form::Csv(name) => column_in(alloc, text, name),
+        _ => Ok(Some(0)),
+    }
+}
+
+// What a file gives that is left out, which is noted.
+fn left_out(rt: &HostRuntime, path: &str, why: &str) -> Result<Gain> {
+    note(rt, path, why);
+    Ok(Gain {
+        is_taken: false,
+        documents: 0,
+        words: 0,
+        column: 0,
+        note: format!(in rt.alloc(); ": {why}")?,
+    })
 }
 
 // A file's own name.
@@ -287,19 +350,32 @@ fn own_name(path: &str) -> &str {
 pub fn read_all(rt: &HostRuntime, options: &Options<'_>) -> Result<Index> {
     let files = find_files(rt, options)?;
     let mut indexer = Indexer::new(rt.alloc())?;
+    read_files(rt, options, &mut indexer, files)?;
+    let readings = indexer.finish()?;
+    Ok(readings.into_index(rt.alloc())?)
+}
+
+/// Takes in these files, and gives what each of them gave; none where it can't be read, which is noted.
+pub fn read_files(
+    rt: &HostRuntime,
+    options: &Options<'_>,
+    indexer: &mut Indexer,
+    files: Vec<Found>,
+) -> Result<Vec<Option<Gain>>> {
+    let mut gains = Vec::with_capacity(rt.alloc(), files.len())?;
     let mut left: u64 = files
         .iter()
-        .fold(0, |sum, file| file.size.saturating_add(sum));
+        .fold(0, |sum, file| file.stamp.size.saturating_add(sum));
     let mut told: u64 = 0;
     for file in files {
         indexer.expect_bytes(left);
-        left = left.saturating_sub(file.size);
-        read_file(rt, options, &mut indexer, file)?;
+        left = left.saturating_sub(file.stamp.size);
+        gains.push(read_file(rt, options, indexer, file)?)?;
         if options.has_progress {
-            told = tell(rt, &indexer, told, left);
+            told = tell(rt, indexer, told, left);
         }
     }
-    Ok(indexer.finish()?)
+    Ok(gains)
 }
 
 // Takes in one file.
@@ -308,11 +384,15 @@ fn read_file(
     options: &Options<'_>,
     indexer: &mut Indexer,
     file: Found,
-) -> Result<()> {
-    match read_text(rt, file.path.as_str(), options.max_size)? {
-        Some(text) => indexer.add_file(rt, options.form, file.path, text, file.is_stream),
-        None => Ok(()),
-    }
+) -> Result<Option<Gain>> {
+    let gain = match read_text(rt, file.path.as_str(), options.max_size)? {
+        Contents::Text(text) => {
+            indexer.add_file(rt, options.form, file.path, text, file.is_stream)?
+        }
+        Contents::LeftOut(why) => left_out(rt, file.path.as_str(), why)?,
+        Contents::Unread => return Ok(None),
+    };
+    Ok(Some(gain))
 }
 
 // Tells how far the reading is, at each further ten megabytes.

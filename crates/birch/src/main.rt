@@ -7,10 +7,12 @@ mod explain;
 mod files;
 mod index;
 mod indexer;
+mod kept;
 mod options;
 mod run;
 mod searched;
 mod shown;
+mod stamps;
 mod stats;
 mod stop;
 mod weights;
@@ -26,6 +28,11 @@ fn main(rt: HostRuntime) -> ExitCode {
         Err(Stop::Closed) => ExitCode::SUCCESS,
         Err(Stop::Failed(error)) => {
             let _ = eprintln!(rt; "birch: {error:#}");
+            ExitCode::from(FAILED)
+        }
+        Err(Stop::Kept(trouble)) => {
+            let what = trouble.what();
+            let _ = eprintln!(rt; "birch: the index: {what}");
             ExitCode::from(FAILED)
         }
     }

@@ -50,6 +50,25 @@ pub struct Options<'a> {
     pub color: Color,
     /// Whether it is told how far the reading is.
     pub has_progress: bool,
+    /// What becomes of an index that is kept of the paths.
+    pub keeping: Keeping,
+    /// The folder of all indexes that are kept; none for the one of the user's cache.
+    pub index_folder: Option<&'a str>,
+}
+
+/// What becomes of an index that is kept of the paths.
+#[derive(Clone, Copy, Debug, PartialEq, Eq)]
+pub enum Keeping {
+    /// It is brought up to date and used, where there is one.
+    Use,
+    /// It is made, or brought up to date.
+    Make,
+    /// It is used as it stands, and no file is looked at.
+    Stale,
+    /// It is not used.
+    Never,
+    /// It is removed.
+    Forget,
 }
 
 /// When found words are coloured.
@@ -69,7 +88,7 @@ pub fn command<'a>(alloc: Global) -> Result<Command<'a>, AllocError> {
         .version(VERSION)
         .about("Searches text files, and lists the best paragraphs, lines or rows")
         .override_usage(
-            "birch [OPTIONS] QUERY [PATH..]\n       birch [OPTIONS] --queries FILE [PATH..]",
+            "birch [OPTIONS] QUERY [PATH..]\n       birch [OPTIONS] --queries FILE [PATH..]\n       birch [OPTIONS] --index [PATH..]\n       birch [OPTIONS] --forget [PATH..]",
         )
         .after_help(HELP)
         .arg(Arg::new(alloc, "QUERY").help(
@@ -82,6 +101,7 @@ pub fn command<'a>(alloc: Global) -> Result<Command<'a>, AllocError> {
                 .help("Files and folders; - is standard input [default: .]"),
         )?;
     let command = reading_options(alloc, command)?;
+    let command = keeping_options(alloc, command)?;
     answer_options(alloc, command)
 }
 
@@ -142,6 +162,42 @@ fn reading_options<'a>(alloc: Global, command: Command<'a>) -> Result<Command<'a
         .arg(progress)
 }
 
+// What becomes of an index that is kept.
+fn keeping_options<'a>(alloc: Global, command: Command<'a>) -> Result<Command<'a>, AllocError> {
+    let make = flag(
+        alloc,
+        "index",
+        "Keeps an index of the paths, or brings it up to date",
+    );
+    let stale = flag(
+        alloc,
+        "stale",
+        "Answers by the index as it stands, and looks at no file",
+    );
+    let never = flag(
+        alloc,
+        "no-index",
+        "Reads all files, also where an index is kept",
+    );
+    let forget = flag(alloc, "forget", "Removes the index of the paths");
+    let folder = option(
+        alloc,
+        "index-dir",
+        "FOLDER",
+        "Keeps indexes there, and not in the user's cache",
+    );
+    command
+        .arg(
+            make.conflicts_with("stale")?
+                .conflicts_with("no-index")?
+                .conflicts_with("forget")?,
+        )?
+        .arg(stale.conflicts_with("no-index")?.conflicts_with("forget")?)?
+        .arg(never.conflicts_with("forget")?)?
+        .arg(forget.conflicts_with("queries")?)?
+        .arg(folder)
+}
+
 // What is answered, and how.
 fn answer_options<'a>(alloc: Global, command: Command<'a>) -> Result<Command<'a>, AllocError> {
     let limit = option(alloc, "limit", "K", "Lists at most so many results").short('k');
@@ -200,24 +256,15 @@ fn answer_options<'a>(alloc: Global, command: Command<'a>) -> Result<Command<'a>
 /// What the words of the command line ask for.
 pub fn read_options<'a>(alloc: Global, matches: &ArgMatches<'a>) -> Result<Options<'a>> {
     let queries = matches.get_str("queries");
+    let keeping = keeping_of(matches);
     let first = matches.get_str("QUERY");
-    let mut paths = Vec::new(alloc);
-    let query = match queries {
-        // then the first word is a path too
-        Some(_) => {
-            if let Some(path) = first {
-                paths.push(path)?;
-            }
-            None
-        }
-        None => Some(first.ok_or(anyhow!("a query is wanted; --help says more"))?),
+    let has_query = queries.is_none() && keeping != Keeping::Make && keeping != Keeping::Forget;
+    let query = if has_query {
+        Some(first.ok_or(anyhow!("a query is wanted; --help says more"))?)
+    } else {
+        None
     };
-    for path in matches.get_strs("PATH").unwrap_or(&[]) {
-        paths.push(*path)?;
-    }
-    if paths.is_empty() {
-        paths.push(".")?;
-    }
+    let paths = paths(alloc, matches, if has_query { None } else { first })?;
     Ok(Options {
         query,
         paths,
@@ -233,7 +280,42 @@ pub fn read_options<'a>(alloc: Global, matches: &ArgMatches<'a>) -> Result<Optio
         max_size: size(matches.get_str("max-size").unwrap_or(DEFAULT_SIZE))?,
         color: color_of(matches.get_str("color").unwrap_or("auto")),
         has_progress: matches.get_flag("progress"),
+        keeping,
+        index_folder: matches.get_str("index-dir"),
     })
+}
+
+// What is searched; the first word is a path too where it is no query.
+fn paths<'a>(
+    alloc: Global,
+    matches: &ArgMatches<'a>,
+    first: Option<&'a str>,
+) -> Result<Vec<&'a str>, AllocError> {
+    let mut paths = Vec::new(alloc);
+    if let Some(path) = first {
+        paths.push(path)?;
+    }
+    for path in matches.get_strs("PATH").unwrap_or(&[]) {
+        paths.push(*path)?;
+    }
+    if paths.is_empty() {
+        paths.push(".")?;
+    }
+    Ok(paths)
+}
+
+fn keeping_of(matches: &ArgMatches<'_>) -> Keeping {
+    if matches.get_flag("index") {
+        Keeping::Make
+    } else if matches.get_flag("stale") {
+        Keeping::Stale
+    } else if matches.get_flag("no-index") {
+        Keeping::Never
+    } else if matches.get_flag("forget") {
+        Keeping::Forget
+    } else {
+        Keeping::Use
+    }
 }
 
 fn form<'a>(matches: &ArgMatches<'a>) -> Form<'a> {

@@ -3,7 +3,8 @@
 use crate::answer::answer;
 use crate::index::Index;
 use crate::indexer::read_all;
-use crate::options::{Color, Options, command, read_options};
+use crate::kept::{Trouble, Use, after_trouble, forget_kept, kept_index};
+use crate::options::{Color, Keeping, Options, command, read_options};
 use crate::stats::{Stopwatch, tell_read};
 use crate::stop::Stop;
 use serde_json::{Value, json};
@@ -16,6 +17,12 @@ const NOTHING_FOUND: u8 = 1;
 
 /// The exit status after an error.
 pub const FAILED: u8 = 2;
+
+/// How many bytes are many to be read at each run.
+const MANY_BYTES: u64 = 20_000_000;
+
+/// How often an index that is kept is made anew in one answer.
+const MOST_MENDED: u32 = 2;
 
 /// Reads the command line, the files and the queries, answers these, and gives the exit status.
 pub fn run(rt: &HostRuntime) -> Result<u8, Stop> {
@@ -32,10 +39,43 @@ pub fn run(rt: &HostRuntime) -> Result<u8, Stop> {
     search(rt, &options)
 }
 
-// Reads the files, answers the queries, and gives the exit status.
+// Does what is asked for, and gives the exit status.
 fn search(rt: &HostRuntime, options: &Options<'_>) -> Result<u8, Stop> {
+    match options.keeping {
+        Keeping::Forget => forget(rt, options),
+        Keeping::Make if options.queries.is_none() => keep(rt, options),
+        _ => answer_all(rt, options),
+    }
+}
+
+// Removes the index that is kept.
+fn forget(rt: &HostRuntime, options: &Options<'_>) -> Result<u8, Stop> {
+    if forget_kept(rt, options)? {
+        Ok(0)
+    } else {
+        let _ = eprintln!(rt; "birch: no index is kept of these paths");
+        Ok(NOTHING_FOUND)
+    }
+}
+
+// Makes an index, or brings it up to date.
+fn keep(rt: &HostRuntime, options: &Options<'_>) -> Result<u8, Stop> {
     let watch = Stopwatch::start(rt)?;
-    let index = read_all(rt, options)?;
+    match kept_index(rt, options)? {
+        Use::Kept(index) => {
+            if options.has_stats {
+                tell_read(rt, &index, watch)?;
+            }
+            Ok(0)
+        }
+        Use::NotThere | Use::Refused => Ok(FAILED),
+    }
+}
+
+// Reads the files, or the index that is kept of them, and answers the queries.
+fn answer_all(rt: &HostRuntime, options: &Options<'_>) -> Result<u8, Stop> {
+    let watch = Stopwatch::start(rt)?;
+    let index = index_of(rt, options)?;
     if options.has_stats {
         tell_read(rt, &index, watch)?;
     }
@@ -49,6 +89,32 @@ fn search(rt: &HostRuntime, options: &Options<'_>) -> Result<u8, Stop> {
         out,
     };
     session.answer_all()
+}
+
+// The index of what is searched: the one that is kept, where there is one, and else one of all files, read now.
+fn index_of(rt: &HostRuntime, options: &Options<'_>) -> Result<Index, Stop> {
+    if options.keeping == Keeping::Never {
+        return Ok(read_all(rt, options)?);
+    }
+    match kept_index(rt, options)? {
+        Use::Kept(index) => Ok(index),
+        Use::Refused => Ok(read_all(rt, options)?),
+        Use::NotThere => {
+            let index = read_all(rt, options)?;
+            hint(rt, index.tally.bytes);
+            Ok(index)
+        }
+    }
+}
+
+// Tells that an index may be kept, where many bytes were read.
+fn hint(rt: &HostRuntime, bytes: u64) {
+    if bytes > MANY_BYTES {
+        let megabytes = bytes / 1_000_000;
+        let _ = eprintln!(rt;
+            "birch: {megabytes} MB read; with --index an index is kept, and what changes alone is read"
+        );
+    }
 }
 
 fn is_coloured(rt: &HostRuntime, color: Color) -> bool {
@@ -96,8 +162,29 @@ impl<'a, 'o, W: Write + Drop> Session<'a, 'o, W> {
         Ok(status_of(found))
     }
 
-    // Answers one query, and gives how many results there are; none where it isn't understood.
+    // Answers one query, and gives how many results there are; none where it isn't understood. Where the index that is
+    // kept turns out to be damaged, another takes its place, at last one of all files, read now.
     fn find(&mut self, query: &str) -> Result<Option<usize>, Stop> {
+        for _ in 0..MOST_MENDED {
+            match self.find_once(query) {
+                Err(Stop::Kept(trouble)) => self.mend(trouble)?,
+                found => return found,
+            }
+        }
+        self.index = read_all(self.rt, self.options)?;
+        self.find_once(query)
+    }
+
+    // Has another index take the place of the one that is kept.
+    fn mend(&mut self, trouble: Trouble) -> Result<(), Stop> {
+        self.index = match after_trouble(self.rt, self.options, trouble)? {
+            Use::Kept(index) => index,
+            Use::NotThere | Use::Refused => read_all(self.rt, self.options)?,
+        };
+        Ok(())
+    }
+
+    fn find_once(&mut self, query: &str) -> Result<Option<usize>, Stop> {
         let Session {
             rt,
             options,

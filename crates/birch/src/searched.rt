@@ -86,7 +86,7 @@ fn terms(
     statistics: &mut Searcher,
     clause: &Clause,
 ) -> Result<Vec<Term>, QueryError> {
-    let field = index.field_of(clause);
+    let field = index.fields.of(clause);
     let mut terms = Vec::with_capacity(alloc, clause.words.len())?;
     for word in &clause.words {
         let term = Term::from_field_text(alloc, field, word.as_str())?;

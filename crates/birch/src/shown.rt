@@ -1,8 +1,8 @@
 //! A result, as it is printed.
 
-use crate::files::read_piece;
-use crate::index::{Filed, Index};
+use crate::files::{Source, read_piece};
 use birch_text::{Form, Mark, Snippet, snippet_of, text_at};
+use qm_store::DocumentPlace;
 use serde_json::{Value, json};
 use std::alloc::{AllocError, Global};
 use std::io;
@@ -28,39 +28,39 @@ pub struct Shown<'a> {
     pub snippet: Snippet,
 }
 
-/// The text of a document, read again.
+/// The text of a document, read again; none where its file has changed since an index was made that is kept.
 pub fn text_of(
     rt: &HostRuntime,
     form: Form<'_>,
-    index: &Index,
-    filed: Filed,
-) -> io::Result<String> {
+    file: &Source,
+    place: DocumentPlace,
+) -> io::Result<Option<String>> {
     let alloc = rt.alloc();
-    let Some(file) = index.files.get(filed.file as usize) else {
-        return Ok(String::new(alloc));
-    };
-    let (start, len) = (filed.start as usize, filed.len as usize);
-    let text = match &file.kept {
-        Some(text) => {
-            let piece = text.as_str().get(start..start.saturating_add(len));
-            text_at(alloc, form, file.column, piece.unwrap_or(""))?
+    let (start, len) = (place.first_byte as usize, place.byte_count as usize);
+    if let Some(text) = &file.kept {
+        let piece = text.as_str().get(start..start.saturating_add(len));
+        let text = text_at(alloc, form, file.column, piece.unwrap_or(""))?;
+        return Ok(Some(text));
+    }
+    let (start, len) = (u64::from(place.first_byte), u64::from(place.byte_count));
+    match read_piece(rt, file.path.as_str(), file.stamp, start, len)? {
+        Some(piece) => {
+            let text = text_at(alloc, form, file.column, piece.as_str())?;
+            Ok(Some(text))
         }
-        None => {
-            let piece = read_piece(
-                rt,
-                file.path.as_str(),
-                u64::from(filed.start),
-                u64::from(filed.len),
-            )?;
-            text_at(alloc, form, file.column, piece.as_str())?
-        }
-    };
-    Ok(text)
+        None => Ok(None),
+    }
 }
 
 /// The line where the first mark that is shown stands; of a row its own.
-pub fn line_of(form: Form<'_>, filed: Filed, text: &str, marks: &[Mark], snippet: Snippet) -> u64 {
-    let line = u64::from(filed.line);
+pub fn line_of(
+    form: Form<'_>,
+    place: DocumentPlace,
+    text: &str,
+    marks: &[Mark],
+    snippet: Snippet,
+) -> u64 {
+    let line = u64::from(place.line);
     if let (Form::Paragraphs, Some(mark)) = (form, marks.get(snippet.first_mark)) {
         let before = text.get(..mark.start).unwrap_or("");
         let ends = before

@@ -30,10 +30,20 @@ pub fn tell_read(rt: &HostRuntime, index: &Index, watch: Stopwatch) -> io::Resul
     let bytes = index.tally.bytes;
     let documents = index.tally.documents;
     let words = index.tally.words;
-    let segments = index.searcher.segment_readers().len();
     let took = watch.elapsed(rt)?.as_millis();
     eprintln!(rt; "birch: {files} files of {bytes} bytes: {documents} documents of {words} words")?;
-    eprintln!(rt; "birch: read into {segments} segments in {took} ms of the processor")
+    match index.kept() {
+        Some(kept) => {
+            let (segments, read) = (kept.count(), kept.read());
+            eprintln!(rt;
+                "birch: by an index of {segments} segments, for which {read} files were read, in {took} ms of the processor"
+            )
+        }
+        None => {
+            let segments = index.searcher.segment_readers().len();
+            eprintln!(rt; "birch: read into {segments} segments in {took} ms of the processor")
+        }
+    }
 }
 
 /// Tells what was found, of so many documents that match.

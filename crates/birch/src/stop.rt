@@ -1,5 +1,6 @@
 //! Why a run ends early.
 
+use crate::kept::Trouble;
 use anyhow::{Error, anyhow};
 use qm_schema::QueryError;
 use std::alloc::{AllocError, AllocFailed};
@@ -12,6 +13,17 @@ pub enum Stop {
     Closed,
     /// Something went wrong.
     Failed(Error),
+    /// Something is wrong with the index that is kept.
+    Kept(Trouble),
+}
+
+impl From<Trouble> for Stop {
+    fn from(trouble: Trouble) -> Stop {
+        match trouble {
+            Trouble::Stopped(error) => Stop::Failed(error),
+            trouble => Stop::Kept(trouble),
+        }
+    }
 }
 
 impl From<io::Error> for Stop {

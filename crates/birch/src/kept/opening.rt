@@ -1,0 +1,125 @@
+//! An index that is kept, opened.
+
+use crate::files::Source;
+use crate::index::{Index, Tally, schema};
+use crate::kept::Trouble;
+use crate::kept::catalogue::{Catalogue, Known};
+use crate::kept::home::Home;
+use crate::kept::keys::shown_path;
+use crate::kept::marks::Marks;
+use crate::kept::reading::Standing;
+use crate::kept::segment::{KeptPart, open_part};
+use crate::kept::segments::KeptSegments;
+use crate::options::Options;
+use qm_folder::KeptFile;
+use qm_store::KeptSegment;
+use std::alloc::Global;
+
+/// The index as it stands, to bring which up to date so many files were read.
+pub fn open(
+    rt: &HostRuntime,
+    options: &Options<'_>,
+    home: &Home,
+    standing: Standing,
+    read: usize,
+) -> Result<Index, Trouble> {
+    let alloc = rt.alloc();
+    let Standing {
+        segments,
+        catalogue,
+    } = standing;
+    let parts = open_parts(rt, home, &segments)?;
+    let tally = tally_of(&catalogue);
+    let numbers = numbers_of(alloc, &catalogue)?;
+    let files = sources(alloc, &options.paths, catalogue)?;
+    let kept = KeptSegments::new(alloc, parts, &numbers, read)?;
+    Ok(Index::of_kept(alloc, kept, files, tally)?)
+}
+
+fn open_parts(
+    rt: &HostRuntime,
+    home: &Home,
+    segments: &[KeptSegment],
+) -> Result<Vec<KeptPart>, Trouble> {
+    let alloc = rt.alloc();
+    let (schema, _) = schema(alloc)?;
+    let mut parts = Vec::with_capacity(alloc, segments.len())?;
+    for segment in segments {
+        parts.push(open_part(rt, home, &schema, segment)?)?;
+    }
+    Ok(parts)
+}
+
+/// How much an index is of.
+pub fn tally_of(catalogue: &Catalogue) -> Tally {
+    let mut tally = Tally {
+        documents: 0,
+        words: 0,
+        bytes: 0,
+    };
+    for (kept, known) in catalogue.kept.iter().zip(catalogue.known.iter()) {
+        tally.documents = tally.documents.saturating_add(known.documents);
+        tally.words = tally.words.saturating_add(known.words);
+        if known.number.is_some() {
+            tally.bytes = tally.bytes.saturating_add(kept.stamp.size);
+        }
+    }
+    tally
+}
+
+// The numbers of the files that were taken in.
+fn numbers_of(alloc: Global, catalogue: &Catalogue) -> Result<Vec<u32>, Trouble> {
+    let mut numbers = Vec::with_capacity(alloc, catalogue.known.len())?;
+    for known in &catalogue.known {
+        if let Some(number) = known.number {
+            numbers.push(number)?;
+        }
+    }
+    Ok(numbers)
+}
+
+// The files that were taken in, under the paths that are shown.
+fn sources(alloc: Global, paths: &[&str], catalogue: Catalogue) -> Result<Vec<Source>, Trouble> {
+    let Catalogue { kept, known, .. } = catalogue;
+    let mut files = Vec::with_capacity(alloc, known.len())?;
+    for (kept, known) in kept.iter().zip(known.iter()) {
+        if known.number.is_some() {
+            files.push(source(alloc, paths, kept, known)?)?;
+        }
+    }
+    Ok(files)
+}
+
+fn source(
+    alloc: Global,
+    paths: &[&str],
+    kept: &KeptFile,
+    known: &Known,
+) -> Result<Source, Trouble> {
+    Ok(Source {
+        path: shown_path(alloc, paths, &kept.path)?,
+        name_words: String::new(alloc),
+        kept: None,
+        column: known.column as usize,
+        stamp: Some(kept.stamp),
+    })
+}
+
+/// Tells on standard error what was noted of files when they were read, but for those at these places.
+pub fn tell_notes(
+    rt: &HostRuntime,
+    paths: &[&str],
+    catalogue: &Catalogue,
+    gone: &[usize],
+) -> Result<(), Trouble> {
+    let mut marks = Marks::new(gone);
+    let files = catalogue.kept.iter().zip(catalogue.known.iter());
+    for (place, (kept, known)) in files.enumerate() {
+        if !marks.takes(place) && !known.note.is_empty() {
+            let path = shown_path(rt.alloc(), paths, &kept.path)?;
+            let note = known.note.as_str();
+            let _ = eprintln!(rt; "birch: {path}{note}");
+        }
+    }
+    Ok(())
+}

@@ -1,0 +1,195 @@
+//! The use of an index that is kept.
+
+use crate::files::find_files;
+use crate::index::Index;
+use crate::kept::Trouble;
+use crate::kept::forgetting::forget;
+use crate::kept::home::{Home, home_of};
+use crate::kept::keys::found_files;
+use crate::kept::opening::{open, tell_notes};
+use crate::kept::reading::{Standing, is_there, read_standing};
+use crate::kept::updating::{ToKeep, bring_up_to_date, changes_of};
+use crate::options::{Keeping, Options};
+use anyhow::Result;
+use std::time::{SystemTime, UNIX_EPOCH};
+
+/// How often an index is opened that another run replaces meanwhile.
+const TRIES: u32 = 3;
+
+/// The use of an index that is kept.
+#[derive(Drop)]
+pub enum Use {
+    /// This one is used.
+    Kept(Index),
+    /// There is none.
+    NotThere,
+    /// None can be used, which was told.
+    Refused,
+}
+
+/// The index that is kept of what is searched, brought up to date. What stands in its way is told, and it is made anew
+/// where that helps.
+pub fn kept_index(rt: &HostRuntime, options: &Options<'_>) -> Result<Use> {
+    let home = match home_of(rt, options) {
+        Ok(home) => home,
+        Err(trouble) => return without_home(rt, options, trouble),
+    };
+    match tried(rt, options, &home) {
+        Ok(Some(index)) => Ok(Use::Kept(index)),
+        Ok(None) => Ok(Use::NotThere),
+        // read as if there were no index, which is not asked for
+        Err(Trouble::Stream) if options.keeping != Keeping::Make => Ok(Use::Refused),
+        Err(trouble) => mended(rt, options, &home, trouble),
+    }
+}
+
+// What is done where an index has no folder: it is told where one is asked for.
+fn without_home(rt: &HostRuntime, options: &Options<'_>, trouble: Trouble) -> Result<Use> {
+    match trouble {
+        Trouble::Stopped(error) => Err(error),
+        trouble => {
+            if options.keeping != Keeping::Use {
+                let what = trouble.what();
+                let _ = eprintln!(rt; "birch: no index is used: {what}");
+            }
+            Ok(Use::Refused)
+        }
+    }
+}
+
+/// The index of what is searched after trouble with the one that is kept, which is told.
+pub fn after_trouble(rt: &HostRuntime, options: &Options<'_>, trouble: Trouble) -> Result<Use> {
+    match home_of(rt, options) {
+        Ok(home) => mended(rt, options, &home, trouble),
+        Err(other) => without_home(rt, options, other),
+    }
+}
+
+// Tells of trouble, and makes the index anew where that helps.
+fn mended(rt: &HostRuntime, options: &Options<'_>, home: &Home, trouble: Trouble) -> Result<Use> {
+    let made = if trouble.is_mended_anew() {
+        tell(rt, home, &trouble, "it is made anew");
+        made_anew(rt, options, home)
+    } else {
+        Err(trouble)
+    };
+    match made {
+        Ok(index) => Ok(Use::Kept(index)),
+        Err(Trouble::Stopped(error)) => Err(error),
+        Err(trouble) => {
+            tell(rt, home, &trouble, "no index is used");
+            Ok(Use::Refused)
+        }
+    }
+}
+
+fn tell(rt: &HostRuntime, home: &Home, trouble: &Trouble, then: &str) {
+    let (folder, what) = (home.folder.as_str(), trouble.what());
+    let _ = eprintln!(rt; "birch: the index in {folder}: {what}; {then}");
+}
+
+// The index that is kept; none where there is none, and none is asked for. Where another run has replaced it meanwhile,
+// and removed its files, it is opened again.
+fn tried(rt: &HostRuntime, options: &Options<'_>, home: &Home) -> Result<Option<Index>, Trouble> {
+    for _ in 1..TRIES {
+        match tried_once(rt, options, home) {
+            Err(Trouble::Missing) => {}
+            done => return done,
+        }
+    }
+    tried_once(rt, options, home)
+}
+
+fn tried_once(
+    rt: &HostRuntime,
+    options: &Options<'_>,
+    home: &Home,
+) -> Result<Option<Index>, Trouble> {
+    match options.keeping {
+        Keeping::Stale => as_it_stands(rt, options, home),
+        Keeping::Make => Ok(Some(up_to_date(rt, options, home)?)),
+        Keeping::Use | Keeping::Never | Keeping::Forget => {
+            if is_there(rt, home)? {
+                Ok(Some(up_to_date(rt, options, home)?))
+            } else {
+                Ok(None)
+            }
+        }
+    }
+}
+
+// The index as it stands.
+fn as_it_stands(
+    rt: &HostRuntime,
+    options: &Options<'_>,
+    home: &Home,
+) -> Result<Option<Index>, Trouble> {
+    let Some(standing) = read_standing(rt, home)? else {
+        let _ = eprintln!(rt; "birch: no index is kept of these paths");
+        return Ok(None);
+    };
+    tell_notes(rt, &options.paths, &standing.catalogue, &[])?;
+    Ok(Some(open(rt, options, home, standing, 0)?))
+}
+
+// The index, brought up to date.
+fn up_to_date(rt: &HostRuntime, options: &Options<'_>, home: &Home) -> Result<Index, Trouble> {
+    let files = to_keep(rt, options)?;
+    if let Some(standing) = read_standing(rt, home)? {
+        if is_unchanged(rt, options, &standing, &files)? {
+            return open(rt, options, home, standing, 0);
+        }
+    }
+    let (standing, read) = bring_up_to_date(rt, options, home, files, false)?;
+    open(rt, options, home, standing, read)
+}
+
+// Whether an index is of these files as they are. What was noted of those that stay is told again.
+fn is_unchanged(
+    rt: &HostRuntime,
+    options: &Options<'_>,
+    standing: &Standing,
+    files: &ToKeep,
+) -> Result<bool, Trouble> {
+    let changes = changes_of(rt.alloc(), &standing.catalogue.kept, &files.keys)?;
+    tell_notes(rt, &options.paths, &standing.catalogue, &changes.gone)?;
+    Ok(changes.gone.is_empty() && changes.to_read.is_empty())
+}
+
+// The index, made anew of all files.
+fn made_anew(rt: &HostRuntime, options: &Options<'_>, home: &Home) -> Result<Index, Trouble> {
+    let files = to_keep(rt, options)?;
+    let (standing, read) = bring_up_to_date(rt, options, home, files, true)?;
+    open(rt, options, home, standing, read)
+}
+
+// The files that are found, each of which can be read again.
+fn to_keep(rt: &HostRuntime, options: &Options<'_>) -> Result<ToKeep, Trouble> {
+    let moment = moment(rt)?;
+    let found = find_files(rt, options)?;
+    if found.iter().any(|file| file.is_stream) {
+        return Err(Trouble::Stream);
+    }
+    let keys = found_files(rt.alloc(), &options.paths, &found)?;
+    Ok(ToKeep {
+        found,
+        keys,
+        moment,
+    })
+}
+
+// This moment, in nanoseconds since 1970.
+fn moment(rt: &HostRuntime) -> Result<u64, Trouble> {
+    let now = SystemTime::now(rt)?;
+    match now.duration_since(UNIX_EPOCH) {
+        Ok(since) => Ok(u64::try_from(since.as_nanos()).unwrap_or(0)),
+        // of a clock that stands before 1970 no file counts as settled
+        Err(_) => Ok(0),
+    }
+}
+
+/// Removes the index that is kept of what would be searched, and answers whether there was one.
+pub fn forget_kept(rt: &HostRuntime, options: &Options<'_>) -> Result<bool, Trouble> {
+    let home = home_of(rt, options)?;
+    forget(rt, &home)
+}
