@@ -198,10 +198,7 @@ LONGER = {
 }
 # What still costs more than three times as much for twice as many parts, and why. A form that no longer does fails until
 # it is taken out here.
-ONE_SEGMENT = "where more words of the open segment begin so than are allowed, it is built as one behind each document"
-STILL_SQUARE = {
-    "a document and a prefix of too many words in turn": ONE_SEGMENT,
-}
+STILL_SQUARE = {}
 # few parts, since instructions are counted one by one, and enough that what grows with the square stands out
 FORMS = [
     *(Form(name, LONGER.get(name, 1000), lines) for name, lines in lines_of_scripts().items()),

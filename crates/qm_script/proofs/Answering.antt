@@ -1,13 +1,13 @@
 -- What is answered where a query was listed, or was not.
-use Rattle.std.proofs.Common.{◌≡◌, ◌⊎◌, inl, inr, ℕ, ℤ, Bool, true, false, List, [], ◌∷◌, ◌++◌, length, arith, Option, None, Result, Ok, Err, IfOk, IfErr, OnOk}
-use Rattle.std.proofs.Common.{refl, sym, subst, ap, ◌∙◌, ◌+◌, drop, length-append}
-use Rattle.std.proofs.Math.Seq.{drop-append_seam}
-use Rattle.std.specs.List.{drop-map}
+use Rattle.std.proofs.Common.{◌≡◌, ◌⊎◌, inl, inr, ℕ, ℤ, Bool, true, List, [], ◌∷◌, ◌++◌, length, arith, Option, None, Result, Ok, Err, IfOk, IfErr, OnOk}
+use Rattle.std.proofs.Common.{refl, sym, subst, ap, ◌∙◌, ◌+◌, ◌≤◌, length-append}
+use Rattle.std.proofs.lemmas.List.{length-map}
 use Rattle.std.specs.Borrow.{Bor}
 use Rattle.std.specs.List.{range_with_len}
-use Rattle.qm_index.specs.Indexed.{AreMerged, AreSearched, all_segments, open_parts}
+use Rattle.qm_index.specs.Indexed.{AreSearched, all_segments}
 use Rattle.qm_index.specs.Parts.{segments_of}
 use Rattle.qm_postings.specs.Reading.{Reader}
+use Rattle.qm_postings.specs.Restriction.{restricted}
 use Rattle.qm_postings.specs.Statistics.{Searched}
 use Rattle.qm_query.specs.Query.{Query}
 use Rattle.qm_query.specs.declared.any_query.AnyQuery.{AnyQuery}
@@ -19,22 +19,29 @@ use Rattle.qm_schema.specs.declared.error.QueryError.TheVariants.{Memory}
 use Rattle.qm_script.specs.AllSegments.{all_listed}
 use Rattle.qm_script.specs.Answers.{AnswersQuery, IsLineRefusal, IsListingAnswer}
 use Rattle.qm_script.specs.Asked.{Builds, asked}
+use Rattle.qm_script.specs.BestListed.{best_listed}
+use Rattle.qm_script.specs.Counts.{alive_count}
 use Rattle.qm_script.specs.Found.{found_above, found_above_in_parts, found_alive, found_best}
+use Rattle.qm_script.specs.Narrowed.{AreNarrowed, narrowed}
 use Rattle.qm_script.specs.PrefixFree.{all_prefixes}
-use Rattle.qm_script.specs.Prefixes.{has_failing}
 use Rattle.qm_script.specs.ProgramNumbers.{ungiven_weight}
+use Rattle.qm_script.specs.Pruned.{all_pruned}
 use Rattle.qm_script.specs.Reached.{is_reached}
 use Rattle.qm_script.specs.Script as language
-use Rattle.qm_script.specs.ScriptSegments.{IsReachedBy, IsWhole, Script, script}
+use Rattle.qm_script.specs.ScriptSegments.{Script}
+use Rattle.qm_script.specs.Served.{AreReached, Serve}
 use Rattle.qm_script.specs.State.{State}
 use Rattle.qm_script.specs.Text.{IsListing, listing_text}
 use Rattle.qm_script.specs.Under.{IsForDocuments, IsForScores, IsScoreRefusal, tree_of}
 use Rattle.qm_script.specs.declared.answer.Answer.{Answer}
-use Rattle.qm_script.specs.declared.corpus.Corpus.{Corpus}
 use Rattle.qm_script.specs.declared.answer.Answer.TheVariants.{Refused}
+use Rattle.qm_weight.specs.Tree.{Tree}
+use Rattle.qm_script.proofs.AskedNames.{all-named}
 use Rattle.qm_script.proofs.AskedTrees.{asked-passes}
 use Rattle.qm_script.proofs.BestListings.{best-one_part, best-segments}
 use Rattle.qm_script.proofs.CountLemmas.{counted-one_part, counted-segments}
+use Rattle.qm_script.proofs.NarrowedListings.{AllName, best-narrowed, counted-narrowed, listed-narrowed, pruned-narrowed}
+use Rattle.qm_script.proofs.NarrowedScripts.{narrowed-all}
 use Rattle.qm_script.proofs.OverParts.{listed-few_parts, listed-one_part, listed-parts, listed-segments}
 use Rattle.qm_script.proofs.PrunedParts.{pruned-segments}
 
@@ -96,57 +103,73 @@ behind_nothing (b ∷ text) more empty = absurd (omega (arith, empty))
 ended-length : (s : Script) (ended : ℕ) → length (all_segments s) ≡ ended + 1 → ended ≡ length s.ended
 ended-length s ended number = let whole = length-append s.ended (s.current ∷ []) in omega (arith, number)
 
--- ---- over the parts of the open segment
+-- ---- over what serves a query
 
--- the open segment is in one part, or no prefix of a query begins more terms of its parts than it is expanded to
-abbrev pub IsExpanded : language.Query → Script → List Reader → Type 0
-IsExpanded q s readers = AreMerged s readers ⊎ (has_failing (is_reached (segments_of (drop (length s.ended) readers))) q ≡ false)
+searched-within : (s : Script) (readers : List Reader) → AreSearched s readers → length s.ended ≤ length readers
+searched-within s readers are =
+    omega (arith, length-map readers (λ (r : Reader). r.segment), ap length are.all, length-append s.ended are.parts)
 
--- so it is where a corpus was built for the query
-pub expanded-built : (q : language.Query) (s : Script) (corpus : Corpus) (readers : List Reader) → script corpus ≡ s →
-    (IsWhole corpus → AreMerged (script corpus) readers) → segments_of (drop (length (script corpus).ended) readers) ≡ open_parts corpus.index →
-    IsWhole corpus ⊎ IsReachedBy q corpus → IsExpanded q s readers
-expanded-built q s corpus readers same whole parts (inl one) = inl (subst (λ t. AreMerged t readers) same (whole one))
-expanded-built q s corpus readers same whole parts (inr reached) =
-    let known = ap (λ (t : Script). segments_of (drop (length t.ended) readers)) (sym same) ∙ parts in
-    inr (ap (λ ps. has_failing (is_reached ps) q) known ∙ reached)
+-- the segments that were ended are among what serves it
+pub ended-served : (q : language.Query) (s : Script) (readers : List Reader) → Serve q s readers → (ended : ℕ) →
+    length (all_segments s) ≡ ended + 1 → ended ≤ length readers
+ended-served q s readers (inl one) ended number = omega (arith, ended-length s ended number, searched-within s readers one.searched)
+ended-served q s readers (inr (inl are)) ended number = omega (arith, ended-length s ended number, searched-within s readers are.searched)
+ended-served q s readers (inr (inr are)) ended number = omega (
+  arith,
+  ended-length s ended number,
+  length-map s.ended (restricted are.wanted),
+  searched-within (narrowed are.wanted s) readers are.merged.searched,
+)
 
--- the parts are the segments behind those that were ended
-parts-behind : (s : Script) (readers : List Reader) (are : AreSearched s readers) → segments_of (drop (length s.ended) readers) ≡ are.parts
-parts-behind s readers are =
-    sym (drop-map (λ (r : Reader). r.segment) (length s.ended) readers) ∙ ap (drop (length s.ended)) are.all ∙ drop-append_seam s.ended are.parts
+module _ (enable : EnableScoring Searched) (s : Script) (q : language.Query) (query : Query) (readers : List Reader) (built : asked q ≡ Ok query) where
+  abbrev own : Tree
+  own = tree_of enable query
 
-module _ (enable : EnableScoring Searched) (s : Script) (q : language.Query) (query : Query) (readers : List Reader) (built : asked q ≡ Ok query)
-    (are : AreSearched s readers) where
-  -- then the prefixes of its tree are expanded to all terms of the parts
-  all-expanded : has_failing (is_reached (segments_of (drop (length s.ended) readers))) q ≡ false →
-      all_prefixes (is_reached are.parts) (tree_of enable query) ≡ true
-  all-expanded pass =
-      let same = ap (λ ps. has_failing (is_reached ps) q) (sym (parts-behind s readers are)) ∙ pass in
-      subst (λ r. IfOk r (λ p. all_prefixes (is_reached are.parts) (tree_of enable p) ≡ true)) built (asked-passes (is_reached are.parts) enable q same)
+  -- the prefixes of its tree are expanded to all terms of the parts
+  all-expanded : (are : AreReached q s readers) → all_prefixes (is_reached are.searched.parts) own ≡ true
+  all-expanded are = subst (λ r. IfOk r (λ p. all_prefixes (is_reached are.searched.parts) (tree_of enable p) ≡ true)) built
+      (asked-passes (is_reached are.searched.parts) enable q are.reached)
 
-  pub parts-same : (scored : Bool) → IsExpanded q s readers →
-      all_listed scored (tree_of enable query) (segments_of readers) ≡ all_listed scored (tree_of enable query) (all_segments s)
-  parts-same scored (inl one) = listed-one_part (tree_of enable query) scored s readers one
-  parts-same scored (inr pass) = listed-segments (tree_of enable query) scored s readers are (all-expanded pass)
+  -- or it names wanted terms alone
+  names-all : (are : AreNarrowed q s readers) → AllName own are.wanted (all_segments s)
+  names-all are = all-named are.wanted enable q query built (all_segments s) are.asked
+
+  pub parts-same : (scored : Bool) → Serve q s readers → all_listed scored own (segments_of readers) ≡ all_listed scored own (all_segments s)
+  parts-same scored (inl one) = listed-one_part own scored s readers one
+  parts-same scored (inr (inl are)) = listed-segments own scored s readers are.searched (all-expanded are)
+  parts-same scored (inr (inr are)) =
+      listed-one_part own scored (narrowed are.wanted s) readers are.merged
+      ∙ ap (all_listed scored own) (narrowed-all are.wanted s) ∙ listed-narrowed own are.wanted (all_segments s) (names-all are) scored
 
   -- a pruned run
-  pub above-same : (threshold : ℤ) (ended : ℕ) → length (all_segments s) ≡ ended + 1 → IsExpanded q s readers →
+  pub above-same : (threshold : ℤ) (ended : ℕ) → length (all_segments s) ≡ ended + 1 → Serve q s readers →
       found_above_in_parts threshold enable query ended (segments_of readers) ≡ found_above threshold enable query (all_segments s)
   above-same threshold ended number (inl one) =
-      pruned-segments (tree_of enable query) threshold s readers one.searched
-      (listed-few_parts (tree_of enable query) true s.current one.searched.parts one.one one.searched.of_current) ended (ended-length s ended number)
-  above-same threshold ended number (inr pass) =
-      pruned-segments (tree_of enable query) threshold s readers are
-      (listed-parts (tree_of enable query) true s.current are.parts (all-expanded pass) are.of_current) ended (ended-length s ended number)
+      pruned-segments own threshold s readers one.searched
+      (listed-few_parts own true s.current one.searched.parts one.one one.searched.of_current) ended (ended-length s ended number)
+  above-same threshold ended number (inr (inl are)) =
+      pruned-segments own threshold s readers are.searched
+      (listed-parts own true s.current are.searched.parts (all-expanded are) are.searched.of_current) ended (ended-length s ended number)
+  above-same threshold ended number (inr (inr are)) =
+      let t = narrowed are.wanted s in
+      let one = are.merged in
+      let same : ended ≡ length t.ended = ended-length s ended number ∙ sym (length-map s.ended (restricted are.wanted)) in
+      pruned-segments own threshold t readers one.searched
+      (listed-few_parts own true t.current one.searched.parts one.one one.searched.of_current) ended same
+      ∙ ap (all_pruned threshold own) (narrowed-all are.wanted s) ∙ pruned-narrowed own are.wanted threshold (all_segments s) (names-all are)
 
   -- a count
-  pub counted-same : IsExpanded q s readers → found_alive enable query (segments_of readers) ≡ found_alive enable query (all_segments s)
-  counted-same (inl one) = counted-one_part (tree_of enable query) s readers one
-  counted-same (inr pass) = counted-segments (tree_of enable query) s readers are (all-expanded pass)
+  pub counted-same : Serve q s readers → found_alive enable query (segments_of readers) ≡ found_alive enable query (all_segments s)
+  counted-same (inl one) = counted-one_part own s readers one
+  counted-same (inr (inl are)) = counted-segments own s readers are.searched (all-expanded are)
+  counted-same (inr (inr are)) =
+      counted-one_part own (narrowed are.wanted s) readers are.merged
+      ∙ ap (alive_count own) (narrowed-all are.wanted s) ∙ counted-narrowed own are.wanted (all_segments s) (names-all are)
 
   -- the best
-  pub best-same : (count : ℕ) → IsExpanded q s readers →
-      found_best count enable query (segments_of readers) ≡ found_best count enable query (all_segments s)
-  best-same count (inl one) = best-one_part (tree_of enable query) count s readers one
-  best-same count (inr pass) = best-segments (tree_of enable query) count s readers are (all-expanded pass)
+  pub best-same : (count : ℕ) → Serve q s readers → found_best count enable query (segments_of readers) ≡ found_best count enable query (all_segments s)
+  best-same count (inl one) = best-one_part own count s readers one
+  best-same count (inr (inl are)) = best-segments own count s readers are.searched (all-expanded are)
+  best-same count (inr (inr are)) =
+      best-one_part own count (narrowed are.wanted s) readers are.merged
+      ∙ ap (best_listed count own) (narrowed-all are.wanted s) ∙ best-narrowed own are.wanted (all_segments s) (names-all are) count

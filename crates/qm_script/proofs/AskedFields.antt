@@ -1,6 +1,6 @@
 -- The field of a script's documents serves every query that a line asks: so of what may be refused where it is
 -- listed, memory aside, its scores alone are left.
-use Rattle.std.proofs.Common.{◌≡◌, ◌<◌, ◌⊎◌, arith, inl, inr, ℕ, zero, suc, ◌+◌, ◌==◌, ◌&&◌, Bool, true, false, if◌then◌else◌, nat_lt, is_none}
+use Rattle.std.proofs.Common.{◌≡◌, ◌⊎◌, arith, inl, inr, ℕ, zero, suc, ◌+◌, ◌==◌, ◌&&◌, Bool, true, false, if◌then◌else◌, nat_lt, is_none}
 use Rattle.std.proofs.Common.{List, [], ◌∷◌, Option, None, Some, Ok}
 use Rattle.std.proofs.Common.{IfOk, length, map, refl, ap, sym, subst}
 use Rattle.std.proofs.lemmas.Bool.{false≢true}

@@ -122,7 +122,7 @@ module _ (tree : Tree) where
 -- ---- over the parts of the open segment
 
 -- whether a document is alive, its number and its score
-abbrev scored_flag : Tree → ℕ → Segment → ℕ → Bool × (ℕ × ℤ)
+abbrev pub scored_flag : Tree → ℕ → Segment → ℕ → Bool × (ℕ × ℤ)
 scored_flag tree n s d = (is_alive s d, (n, pos (score tree 1 s d)))
 
 abbrev flagged : List (Bool × (ℕ × ℤ)) → List (Bool × (ℕ × ℤ))
@@ -131,7 +131,7 @@ flagged xs = filter (λ x. x.0) xs
 abbrev found : List (Bool × (ℕ × ℤ)) → List (ℕ × ℤ)
 found xs = map (λ x. x.1) xs
 
-abbrev picked : List (Bool × (ℕ × ℤ)) → List (ℕ × ℤ)
+abbrev pub picked : List (Bool × (ℕ × ℤ)) → List (ℕ × ℤ)
 picked xs = found (flagged xs)
 
 picked-map : (p : ℕ → Bool) (f : ℕ → ℕ × ℤ) (ds : List ℕ) → map f (filter p ds) ≡ picked (map (λ d. (p d, f d)) ds)
@@ -147,7 +147,7 @@ picked-append : (xs ys : List (Bool × (ℕ × ℤ))) → picked (xs ++ ys) ≡ 
 picked-append xs ys = ap found (filter-append (λ x. x.0) xs ys) ∙ map-append (λ x. x.1) (flagged xs) (flagged ys)
 
 module _ (tree : Tree) where
-  listed-picked : (first : ℕ) (segments : List Segment) → alive_listed_from tree first segments ≡ picked (items_from tree (scored_flag tree) first segments)
+  pub listed-picked : (first : ℕ) (segments : List Segment) → alive_listed_from tree first segments ≡ picked (items_from tree (scored_flag tree) first segments)
   listed-picked first [] = refl
   listed-picked first (s ∷ segments) =
       let next = first + length s.documents in

@@ -16,11 +16,11 @@ use Rattle.qm_weight.specs.Tree.{Tree, matching}
 use Rattle.qm_script.proofs.PartListings.{items, items-few_segments, items-segments, items_from}
 
 -- whether a document is alive
-abbrev flag : ℕ → Segment → ℕ → Bool
+abbrev pub flag : ℕ → Segment → ℕ → Bool
 flag n s d = is_alive s d
 
 -- how many are true
-abbrev trues : List Bool → ℕ
+abbrev pub trues : List Bool → ℕ
 trues bs = length (filter (λ b. b) bs)
 
 trues-filter : (p : ℕ → Bool) (ds : List ℕ) → length (filter p ds) ≡ trues (map p ds)
@@ -32,7 +32,7 @@ trues-filter p (d ∷ ds) =
     ]
 
 module _ (tree : Tree) where
-  counted-items : (first : ℕ) (segments : List Segment) → alive_count tree segments ≡ trues (items_from tree flag first segments)
+  pub counted-items : (first : ℕ) (segments : List Segment) → alive_count tree segments ≡ trues (items_from tree flag first segments)
   counted-items first [] = refl
   counted-items first (s ∷ segments) =
       let here : one.alive_count tree s ≡ trues (items tree flag first s) = trues-filter (is_alive s) (matching tree s) in

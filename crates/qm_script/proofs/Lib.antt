@@ -25,6 +25,17 @@ mod ListedSegments
 mod Answering
 mod SpelledForms
 mod LastWords
+mod FoundRows
+mod WantedRows
+mod RestrictedJoin
+mod JoinedParts
+mod PartExpansions
+mod AskedPushes
+mod SortedTerms
+mod AskedNames
+mod NarrowedScripts
+mod CountedSegments
+mod NarrowedListings
 mod CountLemmas
 mod BestListings
 mod PrunedParts

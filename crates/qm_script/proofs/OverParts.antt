@@ -19,10 +19,10 @@ use Rattle.qm_script.proofs.TreeParts.{score-same}
 
 module _ (tree : Tree) where
   -- a document's number over all segments, and its score
-  abbrev numbered_item : Bool → ℕ → Segment → ℕ → ℕ × Option ℤ
+  abbrev pub numbered_item : Bool → ℕ → Segment → ℕ → ℕ × Option ℤ
   numbered_item scored n s d = (n, wanted_score scored tree s d)
 
-  listed-items : (scored : Bool) (first : ℕ) (segments : List Segment) →
+  pub listed-items : (scored : Bool) (first : ℕ) (segments : List Segment) →
       listed_from scored tree first segments ≡ items_from tree (numbered_item scored) first segments
   listed-items scored first [] = refl
   listed-items scored first (s ∷ segments) = ap (λ l. listed scored tree first s ++ l) (listed-items scored (first + length s.documents) segments)

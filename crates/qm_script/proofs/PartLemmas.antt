@@ -13,7 +13,7 @@ use Rattle.qm_script.specs.Parts.{document_count}
 abbrev documents_of : List Segment → List Document
 documents_of segments = flat_map (λ s. s.documents) segments
 
-count-append : (xs ys : List Segment) → document_count (xs ++ ys) ≡ document_count xs + document_count ys
+pub count-append : (xs ys : List Segment) → document_count (xs ++ ys) ≡ document_count xs + document_count ys
 count-append xs ys = ap length (flat_map-append (λ s. s.documents) xs ys) ∙ length-append (documents_of xs) (documents_of ys)
 
 pub count-push : (readers : List Reader) (last : Reader) →

@@ -1,8 +1,8 @@
 -- A phrase prefix that is expanded to all terms that begin with it says of a document what stands in that document.
-use Rattle.std.proofs.Common.{◌≡◌, ℕ, ◌+◌, ◌-◌, ◌≤◌, Bool, true, false, ◌&&◌, ◌||◌, if◌then◌else◌, nat_lt, min, List, [], ◌∷◌, length, map, filter, take, get_or, zero, suc}
+use Rattle.std.proofs.Common.{◌≡◌, ℕ, ◌+◌, ◌-◌, ◌≤◌, Bool, true, false, ◌&&◌, ◌||◌, if◌then◌else◌, nat_lt, min, List, [], ◌∷◌, length, map, filter, get_or, zero, suc}
 use Rattle.std.proofs.Common.{Option, None, Some, refl, ap, sym, ◌∙◌, arith, inl, inr}
 use Rattle.std.specs.FinMap.{get, get-empty}
-use Rattle.std.specs.List.{count_by, list_any, sum, sum_by}
+use Rattle.std.specs.List.{count_by, list_any, sum}
 use Rattle.std.specs.Option.{option_map_or}
 use Rattle.std.specs.Prelude.{is_some}
 use Rattle.std.proofs.lemmas.Bool.{cases_Bool, false≢true}
@@ -14,8 +14,8 @@ use Rattle.qm_schema.specs.Term.{TermKey, term_cmp, term_cmp_antisymmetric, term
 use Rattle.qm_schema.specs.declared.schema.option.IndexRecordOption.TheVariants.{WithFreqsAndPositions}
 use Rattle.qm_postings.specs.Positions.{is_in, shifted}
 use Rattle.qm_postings.specs.Segment.{Document, Occurrences, Segment, holds, no_document, positions, reads_positions, occurrences}
-use Rattle.qm_weight.specs.Tree.{Placed, begins_with, followed, full_places, greatest_offset, held_terms, places, prefix_matches}
-use Rattle.qm_weight.proofs.HeldTerms.{among-filter, among-held, is_among, is_held, sorted-filter, sorted-held}
+use Rattle.qm_weight.specs.Tree.{Placed, begins_with, followed, full_places, greatest_offset, held_terms, prefix_matches}
+use Rattle.qm_weight.proofs.HeldTerms.{among-filter, among-held, is_held, sorted-filter, sorted-held}
 use Rattle.qm_script.specs.Reached.{prefixed}
 
 -- document d, and nothing where there is none

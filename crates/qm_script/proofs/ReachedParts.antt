@@ -1,5 +1,5 @@
 -- Prefixes that are expanded to all terms of the parts of a segment are expanded to all of its own.
-use Rattle.std.proofs.Common.{◌≡◌, ℕ, ◌+◌, ◌≤◌, Bool, true, false, ◌&&◌, ◌||◌, List, [], ◌∷◌, ◌++◌, length, map, drop, take, refl, ap, sym, ◌∙◌, arith, leb-true, inl, inr, Some, if◌then◌else◌}
+use Rattle.std.proofs.Common.{◌≡◌, ℕ, ◌+◌, ◌≤◌, Bool, true, false, ◌&&◌, ◌||◌, List, [], ◌∷◌, ◌++◌, length, map, drop, refl, ap, sym, ◌∙◌, arith, leb-true, inl, inr, Some, if◌then◌else◌}
 use Rattle.std.specs.FinMap.{get}
 use Rattle.std.specs.List.{AllByRecursion, flat_map, list_any, sum_by}
 use Rattle.std.specs.Map.{lookup}
@@ -17,7 +17,7 @@ use Rattle.qm_schema.specs.Term.{TermKey, term_cmp, term_eq_laws}
 use Rattle.qm_index.specs.Parts.{AreParts, ArePartsFrom}
 use Rattle.qm_postings.specs.Segment.{Document, Segment}
 use Rattle.qm_weight.specs.Tree.{begins_with, held_terms}
-use Rattle.qm_weight.proofs.HeldTerms.{among-filter, among-held, is_among, is_held, sorted-filter, sorted-held}
+use Rattle.qm_weight.proofs.HeldTerms.{among-filter, among-held, is_among, sorted-filter, sorted-held}
 use Rattle.qm_script.specs.PrefixFree.{PrefixTest}
 use Rattle.qm_script.specs.Reached.{Reaches, is_reached, prefixed}
 
@@ -25,7 +25,7 @@ abbrev all_documents : List Segment → List Document
 all_documents parts = flat_map (λ p. p.documents) parts
 
 -- the parts have the documents of the whole
-documents-parts : (whole : Segment) (first : ℕ) (parts : List Segment) → ArePartsFrom first whole parts →
+pub documents-parts : (whole : Segment) (first : ℕ) (parts : List Segment) → ArePartsFrom first whole parts →
     drop first whole.documents ≡ all_documents parts
 documents-parts whole first [] are = drop_all first whole.documents (omega (arith, are))
 documents-parts whole first (p ∷ parts) are =
@@ -54,11 +54,11 @@ parts-reach parts = each-reaches (is_reached parts) parts (λ prefix most passes
 
 -- ---- the terms of the whole are those of its parts
 
-both-left : (a b : Bool) → (a && b) ≡ true → a ≡ true
+pub both-left : (a b : Bool) → (a && b) ≡ true → a ≡ true
 both-left true b h = refl
 both-left false b h = h
 
-both-right : (a b : Bool) → (a && b) ≡ true → b ≡ true
+pub both-right : (a b : Bool) → (a && b) ≡ true → b ≡ true
 both-right true b h = h
 both-right false b h = absurd (false≢true h)
 
@@ -75,7 +75,7 @@ found-key q (k ∷ ks) found =
           ∙ found-key q ks (sym (ap (λ b. b || list_any (eq_by_cmp term_cmp q) ks) other) ∙ found)
     ]
 
-among-parts : (prefix q : TermKey) (parts : List Segment) → begins_with prefix q ≡ true →
+pub among-parts : (prefix q : TermKey) (parts : List Segment) → begins_with prefix q ≡ true →
     list_any (λ document. is_some (get document.terms q)) (all_documents parts) ≡ true → is_among q (flat_map (λ p. prefixed p prefix) parts) ≡ true
 among-parts prefix q [] begins held = absurd (false≢true held)
 among-parts prefix q (p ∷ parts) begins held =

@@ -26,3 +26,8 @@ pub mod Cursor
 pub mod Counts
 pub mod Pruned
 pub mod BestListed
+pub mod Wanted
+pub mod AskedTerms
+pub mod RowPlaces
+pub mod Narrowed
+pub mod Served

@@ -140,10 +140,11 @@ fn list_documents(
 {
     match build_query(alloc, spelled) {
         Ok(query) => {
-            corpus.build_segments(alloc, spelled)?;
+            let narrowed = corpus.build_segments(alloc, spelled)?;
             let searcher = corpus.searcher();
+            let searched = corpus.searched(&narrowed);
             let enable = EnableScoring::disabled_from_searcher(searcher);
-            let written = write_matches(alloc, searcher.segment_readers(), enable, &query, text);
+            let written = write_matches(alloc, searched.segment_readers(), enable, &query, text);
             Ok(answer_listing(written))
         }
         Err(error) => Ok(Answer::Refused(error.number())),
@@ -164,8 +165,9 @@ fn count_matches(
 {
     match build_query(alloc, spelled) {
         Ok(query) => {
-            corpus.build_segments(alloc, spelled)?;
-            let written = write_count(alloc, corpus.searcher(), &query, text);
+            let narrowed = corpus.build_segments(alloc, spelled)?;
+            let searched = corpus.searched(&narrowed);
+            let written = write_count(alloc, searched, &query, text);
             Ok(answer_listing(written))
         }
         Err(error) => Ok(Answer::Refused(error.number())),
@@ -186,10 +188,11 @@ fn list_scores(
 {
     match build_query(alloc, spelled) {
         Ok(query) => {
-            corpus.build_segments(alloc, spelled)?;
+            let narrowed = corpus.build_segments(alloc, spelled)?;
             let searcher = corpus.searcher();
+            let searched = corpus.searched(&narrowed);
             let enable = EnableScoring::enabled_from_searcher(searcher);
-            let written = write_matches(alloc, searcher.segment_readers(), enable, &query, text);
+            let written = write_matches(alloc, searched.segment_readers(), enable, &query, text);
             Ok(answer_listing(written))
         }
         Err(error) => Ok(Answer::Refused(error.number())),
@@ -211,11 +214,12 @@ fn list_above(
 {
     match build_query(alloc, spelled) {
         Ok(query) => {
-            corpus.build_segments(alloc, spelled)?;
+            let narrowed = corpus.build_segments(alloc, spelled)?;
             let searcher = corpus.searcher();
+            let searched = corpus.searched(&narrowed);
             let written = write_pruned(
                 alloc,
-                searcher.segment_readers(),
+                searched.segment_readers(),
                 corpus.ended(),
                 EnableScoring::enabled_from_searcher(searcher),
                 &query,
@@ -243,8 +247,10 @@ fn list_best(
 {
     match build_query(alloc, spelled) {
         Ok(query) => {
-            corpus.build_segments(alloc, spelled)?;
-            let written = write_best(alloc, corpus.searcher(), &query, count, text);
+            let narrowed = corpus.build_segments(alloc, spelled)?;
+            let searcher = corpus.searcher();
+            let searched = corpus.searched(&narrowed);
+            let written = write_best(alloc, searched, searcher, &query, count, text);
             Ok(answer_listing(written))
         }
         Err(error) => Ok(Answer::Refused(error.number())),

@@ -3,7 +3,7 @@
 ghost use Rattle.std.specs.Prelude.{◌≡◌, ◌<◌, ◌≤◌, ◌*◌, All, IfErr, IfOk, IsOkUnless, OnOk, length, map, string_bytes};
 ghost use Rattle.qm_docset.specs.declared.numbers.TheConstants.{TERMINATED};
 ghost use Rattle.qm_query.specs.Query.{query_of};
-ghost use Rattle.qm_query.specs.Searches.{with_scores};
+ghost use Rattle.qm_query.specs.Searches.{scoring_by};
 ghost use Rattle.qm_script.specs.BestListed.{firsts_from, found_item};
 ghost use Rattle.qm_index.specs.Parts.{segments_of};
 ghost use Rattle.qm_script.specs.Found.{found_best};
@@ -21,26 +21,29 @@ use qm_schema::QueryError;
 use std::alloc::{AllocError, Global};
 
 /// Writes the best documents of the searcher's segments that the query matches and that weren't deleted,
-/// at most so many, joined by one space and numbered over all segments; each with its score.
+/// at most so many, joined by one space and numbered over all segments; each with its score, by what another searcher says
+/// that words weigh.
 ///
 /// Refused as the search for them is. What a refused call has written is of no use.
 pub(crate) fn write_best(
     alloc: Global,
     searcher: &Searcher,
+    weights: &Searcher,
     query: &AnyQuery,
     count: u32,
     text: &mut String,
 ) -> Result<(), QueryError>
     requires few { document_count (segments_of searcher.now.segments) ≤ most_segments * TERMINATED }
     requires empty { length (string_bytes text.old) ≡ 0 }
-    ensures listed { WritesListing result (found_best count (with_scores searcher.now) (query_of query.now) (segments_of searcher.now.segments)) text.new }
-    ensures within { OnOk result (IsWithinBest count (with_scores searcher.now) (query_of query.now)) }
-    ensures refused { IfErr result (IsBestRefusal count (with_scores searcher.now) (query_of query.now)) }
+    ensures listed { WritesListing result (found_best count (scoring_by weights.now searcher.now) (query_of query.now) (segments_of searcher.now.segments)) text.new }
+    ensures within { OnOk result (IsWithinBest count (scoring_by weights.now searcher.now) (query_of query.now)) }
+    ensures refused { IfErr result (IsBestRefusal count (scoring_by weights.now searcher.now) (query_of query.now)) }
 {
-    let found = TopDocs::with_limit(count as usize).search(alloc, query, searcher)?;
+    let best = TopDocs::with_limit(count as usize);
+    let found = best.search_counted(alloc, query, searcher, weights)?;
     let firsts = first_numbers(alloc, searcher.segment_readers())?;
     let mut writer = ItemWriter::new(alloc, text);
-    write_found(&mut writer, firsts.as_slice(), found.as_slice())?;
+    write_found(&mut writer, firsts.as_slice(), found.documents.as_slice())?;
     writer.finish(text)
 }
 

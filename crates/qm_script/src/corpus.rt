@@ -14,6 +14,7 @@ ghost use Rattle.qm_script.specs.TextSegments.{IsTextRefusal};
 ghost use Rattle.qm_script.specs.Weights.{IsWeighedBy};
 
 use crate::has_cut::has_cut;
+use crate::narrowed::narrowed;
 use crate::non_negative_score::NonNegativeScore;
 use crate::spelled_query::SpelledQuery;
 use crate::terms::{body, word_term};
@@ -39,10 +40,11 @@ pub(crate) struct Corpus {
 }
 
 impl Corpus {
-    ghost use Rattle.qm_index.specs.Indexed.{AreMerged, AreSearched, Deletes, all_segments, open_parts, with_segment_ended};
-    ghost use Rattle.qm_index.specs.Parts.{segments_of};
+    ghost use Rattle.qm_index.specs.Indexed.{Deletes, all_segments, with_segment_ended};
     ghost use Rattle.qm_script.specs.Answers.{IsLastSegment, IsNotRefused};
-    ghost use Rattle.qm_script.specs.ScriptSegments.{IsBuilt, IsReachedBy, IsWhole, script, with_document_of};
+    ghost use Rattle.qm_script.specs.Script.{Query};
+    ghost use Rattle.qm_script.specs.Served.{IsServed, Serve};
+    ghost use Rattle.qm_script.specs.ScriptSegments.{IsBuilt, IsWhole, script, with_document_of};
     ghost use Rattle.qm_script.specs.Spelled.{query_of};
     ghost use Rattle.qm_script.specs.Start.{start_script};
 
@@ -111,45 +113,58 @@ impl Corpus {
     }
 
     /// Builds what is to be searched of all documents for a query, for [`Corpus::searcher`]. Costs what the documents do
-    /// that came since the last time; and all documents of the open segment, which is built as one, where a prefix in
-    /// the query begins more terms of its parts than it may be expanded to. Its only error is the want of memory.
+    /// that came since the last time. Where a prefix in the query begins more terms of the parts of the open segment than
+    /// it may be expanded to, it answers what is to be searched in place of that: the terms alone that the query asks for,
+    /// which costs what their rows do, and a copy of all length ids. Its only error is the want of memory.
     pub(crate) fn build_segments(
         &mut self,
         alloc: Global,
         query: &SpelledQuery,
-    ) -> Result<(), AllocError>
+    ) -> Result<Option<Searcher>, AllocError>
         ensures script { script self.new ≡ script self.old }
         ensures weights { statistics self.new.index ≡ statistics self.old.index }
         ensures built { OnOk result (IsBuilt self.new) }
-        ensures expanded { OnOk result (IsWhole self.new ⊎ IsReachedBy (query_of query.now) self.new) }
+        ensures served { IfOk result (IsServed (query_of query.now) self.new) }
     {
         match self.index.refresh(alloc) {
             Ok(()) => {}
             Err(_) => return Err(AllocError),
         }
+        let searcher = self.index.searcher();
         let ended = self.index.ended();
-        let parts = &self.index.searcher().segment_readers()[ended..];
-        if !has_cut(query, parts) {
-            return Ok(());
+        let parts = &searcher.segment_readers()[ended..];
+        if parts.len() < 2 || !has_cut(query, parts) {
+            return Ok(None);
         }
-        match self.index.merge(alloc) {
-            Ok(()) => Ok(()),
+        match narrowed(alloc, searcher, ended, query) {
+            Ok(narrowed) => Ok(Some(narrowed)),
             Err(_) => Err(AllocError),
         }
     }
 
-    /// What is searched, where [`Corpus::build_segments`] was called after the last document. Constant
+    /// What says how much words weigh, where [`Corpus::build_segments`] was called after the last document. Constant
     /// time.
     pub(crate) fn searcher(&self) -> &Searcher
         requires built { IsBuilt self.now }
-        ensures segments { AreSearched (script self.now) result.now.segments }
-        ensures whole { IsWhole self.now → AreMerged (script self.now) result.now.segments }
-        ensures parts { segments_of (drop (length (script self.now).ended) result.now.segments) ≡ open_parts self.now.index }
-        ensures few { document_count (map (λ r. r.segment) result.now.segments) ≤ most_segments * TERMINATED }
         ensures weights { IsWeighedBy (statistics self.now.index).weights result.now }
         ensures fields { result.now.schema ≡ (script self.now).current.schema }
     {
         self.index.searcher()
+    }
+
+    /// What is searched for a query, where [`Corpus::build_segments`] answered this for it after the last document.
+    /// Constant time.
+    pub(crate) fn searched<'a>(&'a self, narrowed: &'a Option<Searcher>) -> &'a Searcher
+        requires built { IsBuilt self.now }
+        ensures serve { (q : Query) → IsServed q self.now narrowed.now → Serve q (script self.now) result.now.segments }
+        ensures few { (q : Query) → IsServed q self.now narrowed.now → document_count (map (λ r. r.segment) result.now.segments) ≤ most_segments * TERMINATED }
+        ensures fields { (q : Query) → IsServed q self.now narrowed.now → result.now.schema ≡ (script self.now).current.schema }
+    {
+        let searcher = self.index.searcher();
+        match narrowed {
+            Some(narrowed) => narrowed,
+            None => searcher,
+        }
     }
 
     /// How many segments were ended: those of the searcher behind them are the parts of the open one.

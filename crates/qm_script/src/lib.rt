@@ -6,6 +6,7 @@
 #![tactic(auto)]
 
 mod answer;
+mod asked_terms;
 mod best;
 mod build_query;
 mod corpus;
@@ -16,13 +17,16 @@ mod has_cut;
 mod item_writer;
 mod lines;
 mod listing;
+mod narrowed;
 mod non_negative_score;
 mod parse;
 mod pruning;
 mod read_query;
+mod row_places;
 mod runner;
 mod spelled_query;
 mod terms;
+mod terms_alone;
 mod unparsed;
 mod words;
 

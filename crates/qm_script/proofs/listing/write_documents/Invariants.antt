@@ -1,4 +1,4 @@
-use Rattle.std.proofs.Common.{ℕ, ℤ, List, ◌++◌, map, take, string_bytes, Option, None}
+use Rattle.std.proofs.Common.{ℕ, ℤ, List, ◌++◌, map, take, Option, None}
 use Rattle.qm_script.specs.Text.{numbered}
 use Rattle.qm_script.specs.Written.{HasListed}
 use Rattle.qm_script.proofs.listing.write_documents.Given as goal

@@ -1,4 +1,4 @@
-use Rattle.std.proofs.Common.{◌≡◌, ◌+◌, ℕ, ℤ, List, ◌++◌, drop, map, string_bytes, Option}
+use Rattle.std.proofs.Common.{◌≡◌, ◌+◌, ℕ, ℤ, List, ◌++◌, drop, map, Option}
 use Rattle.qm_script.specs.AllSegments.{all_listed, listed_from}
 use Rattle.qm_script.specs.Parts.{document_count}
 use Rattle.qm_script.specs.Written.{HasListed}

@@ -1,6 +1,6 @@
 -- What was written, and what the run still calls with, is all that the weight lists, unless memory was
 -- refused.
-use Rattle.std.proofs.Common.{◌≡◌, ◌+◌, ◌++◌, ◌∷◌, [], List, Some, false, true, append_assoc, append-nil, ap, sym, ◌∙◌, refl, rules, map, subst, string_bytes}
+use Rattle.std.proofs.Common.{◌≡◌, ◌+◌, ◌++◌, ◌∷◌, [], List, Some, false, true, append_assoc, append-nil, ap, sym, ◌∙◌, refl, rules, map, subst}
 use Rattle.std.proofs.Common.{pos}
 use Rattle.std.proofs.lemmas.Result.{on_ok_weaker}
 use Rattle.qm_docset.specs.Entry.{Entry}

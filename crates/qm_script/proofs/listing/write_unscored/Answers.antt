@@ -1,6 +1,6 @@
 -- What was written, and the slices that are still to come, are all documents that the weight lists,
 -- unless memory was refused.
-use Rattle.std.proofs.Common.{◌≡◌, ◌++◌, [], ℕ, List, false, append_assoc, append-nil, sym, ◌∙◌, refl, rules, map, subst, string_bytes}
+use Rattle.std.proofs.Common.{◌≡◌, ◌++◌, [], ℕ, List, false, append_assoc, append-nil, sym, ◌∙◌, refl, rules, map, subst}
 use Rattle.std.specs.List.{concat}
 use Rattle.std.proofs.lemmas.Result.{on_ok_weaker}
 use Rattle.qm_script.specs.AllSegments.{listed}
