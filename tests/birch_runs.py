@@ -16,14 +16,14 @@ import tempfile
 sys.dont_write_bytecode = True
 
 # this folder has the package of the same name
-from birch_runs import answers, kept, kept_faults, random_queries, refused_memory
+from birch_runs import answers, beginnings, cut_words, fields, kept, kept_faults, listing, random_queries, reading, refused_memory
 from birch_runs.command import Command
 from program_runs.program import build_library
 from program_runs.report import Report
 
 HERE = os.path.dirname(os.path.abspath(__file__))
 BUILT = os.path.join(HERE, "..", "crates", "birch", "out", "birch")
-CHECKS = [answers, random_queries, refused_memory, kept, kept_faults]
+CHECKS = [answers, beginnings, cut_words, fields, listing, random_queries, reading, refused_memory, kept, kept_faults]
 
 
 def main():

@@ -7,7 +7,7 @@ and the trait's, in the file of the implementation.
 
 import re
 
-FUNCTION = r"^ *(?:pub(?:\([^)]*\))? )?(?:const )?fn {}\b"
+FUNCTION = r"^ *(?:pub(?:\([^)]*\))? )?(?:const )?(?:extern \"C\" )?fn {}\b"
 TYPE = re.compile(r"^ *(?:pub(?:\([^)]*\))? )?(?:struct|enum|trait) (\w+)", re.M)
 IMPLEMENTED = re.compile(r"^impl(?:<.*?>)? (?:\w+::)*(\w+)(?:<.*?>)? for ", re.M)
 
@@ -22,5 +22,10 @@ def what_lacks(crate, path):
     text = crate.read(file)
     if kind is None:
         return None if re.search(FUNCTION.format(name), text, re.M) else f"no function {name} in {file}"
-    named = TYPE.findall(text) + IMPLEMENTED.findall(text)
+    types = TYPE.findall(text)
+    if kind in types:
+        # its methods may stand in other files
+        is_there = any(re.search(FUNCTION.format(name), crate.read(it), re.M) for it in crate.files())
+        return None if is_there else f"no function {name} of {kind}"
+    named = types + IMPLEMENTED.findall(text)
     return None if any(it in kind for it in named) else f"no type {kind} in {file}"

@@ -32,6 +32,9 @@ NOT_RUN = {
     "python3 tests/documented_commands.py": "it is this",
     "python3 tests/definitions.py": "it writes; the gate and quick.py run it with --check",
     "python3 tests/layers.py": "it writes; the gate and quick.py run it with --check",
+    "python3 tests/limits.py": "quick.py and the gate run it",
+    "python3 tests/using_runs.py": "quick.py and the gate run it",
+    "python3 tests/api.py": "it needs python3-markdown; tests/api_runs.py makes the pages",
     "python3 tests/cases.py": "quick.py and the gate run it; with other seeds it takes as long as one likes",
     "python3 tests/wrong_bodies.py": "the gate runs it; it takes proofs",
     "python3 examples/measure_": "a measurement: it takes minutes, some of them a proof or valgrind",
@@ -41,9 +44,10 @@ NOT_RUN = {
     "./birch --proved": "it proves, for an hour; tests/installed_runs.py runs it over a stand-in",
     "make install": "tests/installed_runs.py runs it, into a folder of its own",
     "make uninstall": "tests/installed_runs.py runs it",
+    "pip install": "tests/library_runs.py runs it, into a folder of its own",
     "cd crates/": "it proves, or compiles, for minutes; the gate proves and runs all programs",
 }
-NAMED = re.compile(r"`((?:crates|tests|docs|examples|cases|packaging)/[\w./+-]+|[A-Z]+\.md|crates\.txt|\.ci/run)`")
+NAMED = re.compile(r"`((?:bindings|crates|tests|docs|examples|cases|packaging)/[\w./+-]+|[A-Z]+\.md|crates\.txt|\.ci/run)`")
 COMMAND = re.compile(r"`((?:(?:python3|cd|out/|\./birch)[ \w]|make \w)[^`]*)`")
 STOOD_FOR = re.compile(r"(?<![A-Z])(CRATE|FILE|FOLDER|NAME|PATH|PROGRAM|TOPIC)(?![A-Z])")
 PROGRAM = "out/qm_search"

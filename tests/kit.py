@@ -16,11 +16,12 @@ HOME = os.path.dirname(os.path.dirname(os.path.realpath(shutil.which("rt") or ""
 
 
 class Crate:
-    """A library of the repository: its line in crates.txt, its folder, and the crates that it uses."""
+    """A crate of the repository: its line in crates.txt, its folder, and the crates that it uses."""
 
     def __init__(self, root, line, known):
         head, _, uses = line.partition(":")
-        self.line, self.name = line, head.split()[0]
+        self.line, (self.name, *kind) = line, head.split()
+        self.is_static = "staticlib" in kind
         self.folder = f"{root}/crates/{self.name}"
         self.rlib = f"{self.folder}/out/rlib/{self.name}.rlib"
         uses = uses.replace(",", " ").split()
@@ -124,6 +125,7 @@ def check(crate, folder, kept, paths, jobs):
     command's status, and the lines that it wrote."""
     root = "src/main.rt" if os.path.isfile(f"{folder}/src/main.rt") else "src/lib.rt"
     words = [f"{HOME}/bin/rattle", "check", "--crate-name", crate.name, root]
+    words += ["--crate-type", "staticlib"] * crate.is_static
     for name in crate.of_kit:
         words += ["--extern", f"{name}={HOME}/rlibs/{name}.rlib"]
     for dep in crate.deps:

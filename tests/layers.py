@@ -19,6 +19,7 @@ MADE = "docs/layers.svg"
 # by how its name begins, what a crate is, and its colour
 KINDS = [
     ("qm_", "the library, and the program of scripts", "#dbe9f6"),
+    ("birchagain", "the library for other languages", "#e6def2"),
     ("birch", "the search command", "#d9f0d3"),
     ("example", "examples", "#fdf3c8"),
     ("cases", "what plays the cases", "#eeeeee"),

@@ -5,7 +5,7 @@
 
 Public calls are read from the sources: functions of a crate, of its types, and of its traits for each type
 that has them, whose answer is a `Result` of `QueryError`, `AllocError`, `RowsError`, `MergeError`, `RunError`,
-`StoreError`, `FolderError` or `ParseError`. tests/refused_calls.txt says by which words rows name each. So with the types
+`StoreError`, `FolderError`, `ParseError` or `Unparsed`. tests/refused_calls.txt says by which words rows name each. So with the types
 that have the traits of ROWS, whose calls can't be refused. A call or a type that is not there, a name there that no call or type
 has, and a call without such a row are printed; the exit status is 1 where there is one.
 """
@@ -16,6 +16,8 @@ import sys
 
 ROOT = os.path.realpath(os.path.join(os.path.dirname(os.path.abspath(__file__)), ".."))
 TABLE = "tests/refused_calls.txt"
+# the program in C each of whose requests is refused in turn
+REFUSED = "bindings/c/tests/refused.c"
 CRATES = (
     "qm_docset qm_schema qm_postings qm_index qm_store qm_merge qm_folder qm_combine qm_term qm_phrase qm_scorer "
     "qm_weight qm_query qm_script qm_parser"
@@ -29,7 +31,7 @@ ROWS = {
     "ExclusionSet": "contains",
     "HasLen": "len is_empty",
 }
-FAILS = re.compile(r"-> Result<.*\b(QueryError|AllocError|RowsError|MergeError|RunError|StoreError|FolderError|ParseError)>")
+FAILS = re.compile(r"-> Result<.*\b(QueryError|AllocError|RowsError|MergeError|RunError|StoreError|FolderError|ParseError|Unparsed)>")
 ALLOCATOR = re.compile(r"\w: Global\b")
 GENERICS = r"(?:<(?:[^<>]|<[^<>]*>)*>)?"
 BLOCK = re.compile(rf"(?:pub )?(impl|trait)\b{GENERICS} (?:(\w+){GENERICS} for )?(\w+)({GENERICS})")
@@ -201,6 +203,8 @@ def type_faults(table):
 def main():
     rows, table = all_rows(), list(read_table())
     calls, faults, listed, shown = public_calls(), [*type_faults(table)], set(), 0
+    with open(f"{ROOT}/{REFUSED}", encoding="utf-8") as it:
+        refused = set(re.findall(r"\bbirchagain_\w+(?=\()", it.read()))
     for how, call, patterns in table:
         if how == "type":
             continue
@@ -215,6 +219,10 @@ def main():
             if how == "bare" and calls.get(call):
                 faults.append(f"{call}: it is handed an allocator")
         if how == "bare":
+            continue
+        if how == "export":
+            shown += len(patterns)
+            faults += [f"{call}: {REFUSED} doesn't call {it}" for it in patterns if it not in refused]
             continue
         if not patterns:
             faults.append(f"{call}: the table doesn't say by which words rows name it")

@@ -19,7 +19,7 @@ from same_body import says_the_same
 
 # what an edit is refused by that the compiler does not take, before the error's code
 COMPILER = "the compiler, "
-HEAD = re.compile(r"^ *(?:pub(?:\([^)]*\))? )?(?:const )?fn (\w+)", re.M)
+HEAD = re.compile(r"^ *(?:pub(?:\([^)]*\))? )?(?:const )?(?:extern \"C\" )?fn (\w+)", re.M)
 # an item at the left margin that has no body of a function in it
 BARE = re.compile(r"(?:pub(?:\([^)]*\))? )?(?:struct|enum|static|type|use|mod|ghost|const(?! fn))\b")
 

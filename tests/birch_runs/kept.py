@@ -3,13 +3,14 @@
 import json
 import os
 import random
+import shutil
 import time
 
 SEED = 11
 TURNS = 40
 WORDS = "fox dog owl bird tree apple quick brown lazy nest foxes dogs".split()
 PATHS = [*(f"some/f{number}.txt" for number in range(8)), "some/in/g1.txt", "some/in/g2.txt", "some/in-x.txt"]
-QUERIES = ["fox", "+fox -dog", "fo*", '"quick brown"~2', '"lazy fo*"', "name:g1", "zebra", "fox dog owl", "-fox"]
+QUERIES = ["fox", "+fox -dog", "fo*", '"quick brown"~2', '"lazy fo"*', "fox AND (dog OR -bird)", "-(fox -dog)", "name:g1", "zebra", "fox dog owl", "-fox"]
 # by these words documents are read otherwise
 FORMS = [[], ["--lines"], ["--csv", "text"], ["--json-key", "text"]]
 # a file that has stood for so long is believed when it is as it was
@@ -33,11 +34,12 @@ class Kept:
         (name,) = os.listdir(f"{self.indexes}/birch")
         return f"{self.indexes}/birch/{name}"
 
-    def answers(self, query, *words):
-        """What is answered by an index and without one, to be compared: ties stand in any order."""
-        asked = ["--json", "-k", "10000", *words]
-        kept = self.run(*asked, "--", query, "some")
-        fresh = self.run(*asked, "--no-index", "--", query, "some")
+    def answers(self, query, *words, path="some"):
+        """What is answered by an index and without one, to be compared: ties stand in any order, so that of documents
+        of one text another may be the first."""
+        asked = ["--json", "--repeats", "-k", "10000", *words]
+        kept = self.run(*asked, "--", query, path)
+        fresh = self.run(*asked, "--no-index", "--", query, path)
         return compared(fresh), compared(kept)
 
 
@@ -70,8 +72,9 @@ def check_changes(kept, report, chance, form):
         if turn == TURNS // 2:
             time.sleep(SETTLING)
         query = chance.choice(QUERIES)
-        wanted, got = kept.answers(query, *form)
-        report.expect_same(f"turn {turn}, {query} {form}", wanted, got)
+        path = chance.choice(["some", "some", "some/in", "some/in/", "some/in/../in", chance.choice(PATHS)])
+        wanted, got = kept.answers(query, *form, path=path)
+        report.expect_same(f"turn {turn}, {query} {form} in {path}", wanted, got)
     segments = [it for it in os.listdir(kept.index_folder()) if it.endswith(".seg")]
     report.expect_same(f"that small segments were joined: {segments}", True, len(segments) < 8)
 
@@ -98,8 +101,11 @@ def write_file(folder, path, chance, form):
         lines = [json.dumps({"text": text}) for text in texts] + ["no json"]
     else:
         lines = [text + "\n" * chance.randrange(2) for text in texts]
-    with open(f"{folder}/{path}", "w", encoding="utf-8") as it:
-        it.write("".join(line + "\n" for line in lines))
+    encoding = chance.choice(["utf-8", "utf-8", "utf-8", "utf-8-sig", "utf-16"])
+    with open(f"{folder}/{path}", "wb") as it:
+        it.write("".join(line + "\n" for line in lines).encode(encoding))
+        if encoding == "utf-8" and chance.random() < 0.2:
+            it.write(b"fox \xff dog\n")
 
 
 def check_options(kept, report, chance):
@@ -116,8 +122,10 @@ def check_options(kept, report, chance):
     write_file(kept.folder, PATHS[0], chance, [])
     report.expect_same("one file is", True, "for which 1 files were read" in told(kept, "fox", "some"))
     report.expect_same("other options have none", True, "read into" in told(kept, "--lines", "fox", "some"))
-    report.expect_same("nor have other paths", True, "read into" in told(kept, "fox", "some/in"))
+    check_above(kept, report)
     check_stale(kept, report)
+    check_session(kept, report)
+    check_within(kept, report)
     elsewhere = ["--index-dir", f"{kept.folder}/elsewhere"]
     kept.run("--index", *elsewhere, "some")
     report.expect_same("an index elsewhere", True, "by an index" in told(kept, *elsewhere, "fox", "some"))
@@ -130,18 +138,60 @@ def told(kept, *words):
     return kept.run("--stats", *words).told
 
 
+def check_above(kept, report):
+    """A path below uses the index of the folder above, where that is not read otherwise."""
+    below = ["fox", "some/in"]
+    report.expect_same("a folder below", True, "by an index" in told(kept, *below))
+    report.expect_same("a file below", True, "by an index" in told(kept, "fox", "some/in/g1.txt"))
+    report.expect_same("as it stands", True, "by an index" in told(kept, "--stale", *below))
+    for words in (["--lines", *below], ["--glob", "*.txt", *below], ["-t", "txt", *below], [*below, "some/in-x.txt"], ["fox", "."]):
+        report.expect_same(f"others have none: {words}", True, "read into" in told(kept, *words))
+    os.makedirs(f"{kept.folder}/some/.hidden")
+    write_file(kept.folder, "some/.hidden/x.txt", random.Random(SEED), [])
+    report.expect_same("nor has what is left out", True, "read into" in told(kept, "fox", "some/.hidden"))
+    shutil.rmtree(f"{kept.folder}/some/.hidden")
+    for place in ("some", "some/in"):
+        with open(f"{kept.folder}/{place}/.ignore", "w", encoding="utf-8") as it:
+            it.write("g1.txt\n")
+        wanted, got = kept.answers("fox", path="some/in")
+        report.expect_same(f"ignored in {place}", wanted, got)
+        os.remove(f"{kept.folder}/{place}/.ignore")
+    kept.run("--index", "some")
+    report.expect_same("no other index was made", 1, len(os.listdir(f"{kept.indexes}/birch")))
+
+
+def check_session(kept, report):
+    """Many queries of one run, some before all rows are read and most behind that."""
+    given = "".join(f"{query}\n" for query in QUERIES * 20).encode()
+    asked = ["--queries", "-", "--json", "--repeats", "-k", "10000", "some"]
+    wanted, got = (kept.run(*asked, *words, given=given) for words in (["--no-index"], []))
+    compared_lines = [sorted(it.text.splitlines()) for it in (wanted, got)]
+    report.expect_same("many queries", *compared_lines)
+
+
+def check_within(kept, report):
+    """An index that lies in the folder that is searched is no part of it."""
+    within = ["--index-dir", f"{kept.folder}/some/deep/own"]
+    wanted, _ = kept.answers("fox")
+    time.sleep(SETTLING)
+    kept.run("--index", *within, "some")
+    report.expect_same("the index is not read", True, "for which 0 files were read" in told(kept, *within, "fox", "some"))
+    report.expect_same("nor told", wanted, compared(kept.run("--json", "--repeats", "-k", "10000", *within, "fox", "some")))
+    shutil.rmtree(f"{kept.folder}/some/deep")
+
+
 def check_stale(kept, report):
     """What was there is answered, and a file that has changed since gives no text."""
-    before = kept.run("--json", "--stale", "name:g1", "some")
+    before = kept.run("--json", "--repeats", "--stale", "name:g1", "some")
     with open(f"{kept.folder}/some/in/g1.txt", "a", encoding="utf-8") as it:
         it.write("\nunheard\n")
-    stale = kept.run("--json", "--stale", "name:g1", "some")
+    stale = kept.run("--json", "--repeats", "--stale", "name:g1", "some")
     count = len(before.text.splitlines())
     report.expect_same("as many stale results", count, len(stale.text.splitlines()))
     report.expect_same("which are told", count, stale.told.count("has changed since it was read"))
     report.expect_same("nothing new", 1, kept.run("--stale", "unheard", "some").status)
     report.expect_same("the new word else", 0, kept.run("unheard", "some").status)
-    report.expect_same("without an index", True, "no index is kept" in told(kept, "--stale", "fox", "some/in"))
+    report.expect_same("without an index", True, "no index is kept" in told(kept, "--stale", "fox", "indexes"))
 
 
 def check_in_the_way(kept, report):
@@ -158,7 +208,7 @@ def check_in_the_way(kept, report):
     ]:
         with open(manifest, "wb") as it:
             it.write(bytes_)
-        got = kept.run("--json", "-k", "10000", "--", "fox", "some")
+        got = kept.run("--json", "--repeats", "-k", "10000", "--", "fox", "some")
         report.expect_same(name, wanted[:3], compared(got)[:3])
         report.expect_same(f"{name} is told", (True, True), (said in got.told, "made anew" in got.told))
         report.expect_same(f"{name} is mended", wanted, kept.answers("fox")[1])

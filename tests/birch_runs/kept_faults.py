@@ -14,8 +14,10 @@ from .kept import PATHS, SETTLING, Kept, compared, write_file
 SEED = 13
 # of the bytes of all files so many are turned
 TURNED = 100
+# no small index has as many
+MANY_BYTES = 5000
 QUERY = 'fox "quick brown"~2 do* name:g1'
-ASKED = ["--json", "-k", "10000", QUERY, "some"]
+ASKED = ["--json", "--repeats", "-k", "10000", QUERY, "some"]
 LIBRARY = os.path.join(os.path.dirname(os.path.abspath(__file__)), "..", "faulty_files.c")
 # no run makes so many calls on the files of such a small index
 MANY = 300
@@ -33,17 +35,30 @@ def check(command, report, room):
     kept.run("fox", "some")
     wanted = compared(kept.run(*ASKED))
     report.expect_same("a run without an index", compared(kept.run("--no-index", *ASKED)), wanted)
-    check_turned(kept, report, chance, wanted)
+    check_turned(kept, report, chance, wanted, TURNED)
+    check_small(command, report, chance, room)
     check_locked(kept, report, chance)
     check_faults(kept, report, chance, room)
 
 
-def check_turned(kept, report, chance, wanted):
-    """Some bytes of each file are turned, one in each run."""
+def check_small(command, report, chance, room):
+    """Of an index of two files and one that was left out each byte is turned."""
+    kept = Kept(command, f"{room}/small")
+    for name, content in (("a.txt", b"quick brown fox\n\ndog\n"), ("b.txt", b"fox g1\n"), ("c.bin", b"fox\0")):
+        os.makedirs(f"{kept.folder}/some", exist_ok=True)
+        with open(f"{kept.folder}/some/{name}", "wb") as it:
+            it.write(content)
+    time.sleep(SETTLING)
+    kept.run("--index", "some")
+    check_turned(kept, report, chance, compared(kept.run("--no-index", *ASKED)), MANY_BYTES)
+
+
+def check_turned(kept, report, chance, wanted, most):
+    """So many bytes of all files at most are turned, one in each run; then each file is missing."""
     index = kept.index_folder()
     shutil.copytree(index, f"{kept.folder}/good")
     places = [(name, at) for name in sorted(os.listdir(index)) for at in range(os.path.getsize(f"{index}/{name}"))]
-    for name, at in chance.sample(places, min(TURNED, len(places))):
+    for name, at in chance.sample(places, min(most, len(places))):
         with open(f"{index}/{name}", "r+b") as it:
             it.seek(at)
             (byte,) = it.read(1)

@@ -22,32 +22,36 @@ PARTS = [
 ]
 
 
+NAMES = ["", "", "", "t:", "t.u:"]
+OPERANDS = ["a", "b", "\\+c", "é", "d*", '"a b"', '"a b"~3', '"a b"*', '""', "x-y"]
+
+
 def by_parts(chance):
     """Anything at all, of the signs and words of the language."""
     return "".join(chance.choice(PARTS) for _ in range(chance.randrange(1, 14)))
 
 
-def by_grammar(chance, depth=3):
-    """A text of the language."""
+def by_grammar(chance, depth=3, names=NAMES, operands=OPERANDS):
+    """A text of the language, of these names and operands."""
     clauses = []
     for number in range(chance.randrange(1, 5)):
         operator = chance.choice(["", "", "AND ", "OR "]) if number else ""
         sign = chance.choice(["", "", "", "+", "-", "NOT "])
-        name = chance.choice(["", "", "", "t:", "t.u:"])
+        name = chance.choice(names)
         boost = chance.choice(["", "", "", "^2", "^0"])
         if depth and chance.random() < 0.3:
-            operand = f"({by_grammar(chance, depth - 1)})"
+            operand = f"({by_grammar(chance, depth - 1, names, operands)})"
         else:
-            operand = chance.choice(["a", "b", "\\+c", "é", "d*", '"a b"', '"a b"~3', '"a b"*', '""', "x-y"])
+            operand = chance.choice(operands)
             if not name:
                 operand = chance.choice([operand, operand, operand, "*", "()"])
         clauses.append(operator + sign + name + operand + boost)
     return " ".join(clauses)
 
 
-def changed(chance):
+def changed(chance, names=NAMES, operands=OPERANDS):
     """A text of the language in which one letter is gone, another, or new."""
-    text = by_grammar(chance)
+    text = by_grammar(chance, names=names, operands=operands)
     at = chance.randrange(len(text) + 1)
     return text[:at] + chance.choice(["", *PARTS]) + text[at + chance.randrange(2) :]
 

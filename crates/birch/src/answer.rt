@@ -1,78 +1,76 @@
 //! The answer to one query.
 
-use crate::explain::{write_explanation, write_weights};
-use crate::files::{Source, note};
+use crate::explain::{Explained, write_explanation};
 use crate::index::Index;
-use crate::kept::Trouble;
+use crate::left_out::note;
+use crate::listing::{Hit, Listing};
 use crate::options::Options;
 use crate::searched::{Searched, build};
 use crate::shown::{Shown, line_of, shown_part, text_of, write_json, write_plain};
 use crate::stats::{Stopwatch, tell_found, tell_scored};
 use crate::stop::Stop;
 use anyhow::anyhow;
-use birch_text::{Clause, Marker, QueryFault, read_query};
+use birch_text::{Clause, Cleaned, Fault, Marker, QueryFault, QueryTree, Scope, read_query};
 use qm_postings::DocAddress;
-use qm_query::{EnableScoring, Query, TopDocs};
+use qm_query::{Query, TopDocs};
 use qm_schema::QueryError;
 use qm_store::DocumentPlace;
-use qm_term::Explanation;
-use qm_weight::Weight;
+use std::alloc::AllocError;
 use std::io;
 use std::io::Write;
+use std::time::Duration;
 
-/// Answers a query: writes what it finds, and answers how many results there are. None where it isn't
-/// understood, which is told on standard error.
+/// What a query asks for; none where it isn't understood, which is told on standard error.
+pub fn understand(
+    rt: &HostRuntime,
+    options: &Options<'_>,
+    text: &str,
+) -> Result<Option<QueryTree>, Stop> {
+    match read_query(rt.alloc(), options.accents, options.form.fields(), text) {
+        Ok(tree) => Ok(Some(tree)),
+        Err(QueryFault::Memory) => Err(Stop::from(AllocError)),
+        Err(QueryFault::NotUnderstood { fault, place }) => {
+            explain_fault(rt, text, fault, place);
+            Ok(None)
+        }
+    }
+}
+
+// Shows where a query is not understood.
+fn explain_fault(rt: &HostRuntime, text: &str, fault: Fault, place: usize) {
+    let letters = text.get(..place).unwrap_or("").chars().count();
+    let text = Cleaned(text);
+    let _ = eprintln!(rt; "birch: {fault}");
+    let _ = eprintln!(rt; "  {text}");
+    let _ = eprint!(rt; "  ");
+    for _ in 0..letters {
+        let _ = eprint!(rt; " ");
+    }
+    let _ = eprintln!(rt; "^");
+}
+
+/// Answers a query: writes what it finds, and answers how many results there are.
 pub fn answer<W: Write>(
     rt: &HostRuntime,
     options: &Options<'_>,
     index: &mut Index,
-    text: &str,
-    is_coloured: bool,
-    out: &mut W,
-) -> Result<Option<usize>, Stop> {
-    let clauses = match read_query(rt.alloc(), text) {
-        Ok(clauses) => clauses,
-        Err(fault) => {
-            explain_fault(rt, text, fault);
-            return Ok(None);
-        }
-    };
-    let found = answer_clauses(rt, options, index, &clauses, is_coloured, out)?;
-    Ok(Some(found))
-}
-
-// Shows where a query is not understood.
-fn explain_fault(rt: &HostRuntime, text: &str, fault: QueryFault) {
-    let _ = eprintln!(rt; "birch: {fault}");
-    if let QueryFault::NotUnderstood { place, .. } = fault {
-        let letters = text.get(..place).unwrap_or("").chars().count();
-        let _ = eprintln!(rt; "  {text}");
-        let _ = eprint!(rt; "  ");
-        for _ in 0..letters {
-            let _ = eprint!(rt; " ");
-        }
-        let _ = eprintln!(rt; "^");
-    }
-}
-
-// Answers the query of these clauses.
-fn answer_clauses<W: Write>(
-    rt: &HostRuntime,
-    options: &Options<'_>,
-    index: &mut Index,
-    clauses: &[Clause],
+    tree: &QueryTree,
     is_coloured: bool,
     out: &mut W,
 ) -> Result<usize, Stop> {
     let watch = Stopwatch::start(rt)?;
-    index.want(rt.alloc(), clauses)?;
+    let clauses = tree.clauses(rt.alloc())?;
+    index.want(rt.alloc(), &clauses)?;
     let index: &Index = index;
-    let searched = build(rt.alloc(), index, clauses)?;
+    let searched = build(rt.alloc(), index, tree)?;
+    note_unknown(rt, index, &clauses)?;
+    let clauses = tree.wanted(rt.alloc())?;
     let asked = Asked {
         rt,
         options,
         index,
-        clauses,
+        tree,
+        clauses: clauses.as_slice(),
         searched: &searched,
         is_coloured,
     };
@@ -83,15 +81,37 @@ fn answer_clauses<W: Write>(
     }
 }
 
+// Tells which fields that are asked for no document has.
+fn note_unknown(rt: &HostRuntime, index: &Index, clauses: &[&Clause]) -> Result<(), QueryError> {
+    for clause in clauses {
+        if let Scope::Field(name) = &clause.scope {
+            let any = index.fields.term(rt.alloc(), clause, "")?;
+            if index.held(&any) == 0 {
+                let _ = eprintln!(rt; "birch: no document has a field {name}");
+            }
+        }
+    }
+    Ok(())
+}
+
 // A query of an index, and how it is answered.
 #[derive(Clone, Copy)]
 struct Asked<'a, 'o> {
     rt: &'a HostRuntime,
     options: &'a Options<'o>,
     index: &'a Index,
-    clauses: &'a [Clause],
+    tree: &'a QueryTree,
+    clauses: &'a [&'a Clause],
     searched: &'a Searched,
     is_coloured: bool,
+}
+
+// What it took to find the results.
+#[derive(Clone, Copy, Default)]
+struct Effort {
+    // how many documents were scored, where they were looked for last
+    scored: u64,
+    took: Duration,
 }
 
 impl<'a, 'o> Asked<'a, 'o> {
@@ -105,53 +125,95 @@ impl<'a, 'o> Asked<'a, 'o> {
         Ok(count)
     }
 
-    // Writes the best documents.
+    // Writes the best results.
     fn search<W: Write>(&self, watch: Stopwatch, out: &mut W) -> Result<usize, Stop> {
-        let alloc = self.rt.alloc();
-        let limit = self.options.limit.max(self.options.explained.unwrap_or(0));
-        let Searched { query, statistics } = self.searched;
-        let best = TopDocs::with_limit(limit);
-        let found = best.search_counted(alloc, query, &self.index.searcher, statistics)?;
-        let listed = found.documents.len();
-        if self.options.has_stats {
-            self.tell(listed, found.scored, watch)?;
+        let options = self.options;
+        let last = options.skipped.saturating_add(options.limit);
+        let wanted = last.max(options.explained.unwrap_or(0));
+        let mut listing = Listing::new(self.rt.alloc(), options.unit, wanted);
+        let effort = self.fill(&mut listing, watch)?;
+        let hits = listing.into_hits();
+        let listed = match options.explained {
+            Some(_) => hits.len(),
+            None => hits.len().saturating_sub(options.skipped),
+        };
+        if options.has_stats {
+            self.tell(listed, effort)?;
         }
-        match self.options.explained {
-            Some(number) => self.explain(&found.documents, number, out)?,
-            None => self.list(&found.documents, out)?,
+        match options.explained {
+            Some(number) => self.explain(hits, number, out)?,
+            None => self.list(hits, out)?,
         }
         Ok(listed)
     }
 
+    // Finds the results. Where several documents are one, more of them are looked for, each time twice as many.
+    fn fill(&self, listing: &mut Listing, watch: Stopwatch) -> Result<Effort, Stop> {
+        let alloc = self.rt.alloc();
+        let Searched { query, statistics } = self.searched;
+        let mut most = listing.first_limit();
+        let mut taken = 0;
+        let mut effort = Effort::default();
+        // the first documents, as many as are taken, were entered
+        for _ in 0..usize::BITS {
+            let best = TopDocs::with_limit(most);
+            let found = best.search_counted(alloc, query, &self.index.searcher, statistics)?;
+            effort.scored = found.scored;
+            effort.took = watch.elapsed(self.rt)?;
+            let documents = found.documents.get(taken..).unwrap_or(&[]);
+            let is_done = self.enter(listing, documents)?;
+            if is_done || found.documents.len() < most {
+                break;
+            }
+            taken = found.documents.len();
+            most = most.saturating_mul(2);
+        }
+        Ok(effort)
+    }
+
+    // Enters documents in their order, and answers whether no others are wanted. All is looked for before the first
+    // result is written, so that where this can't be told an answer can still be found in another way.
+    fn enter(&self, listing: &mut Listing, found: &[(i64, DocAddress)]) -> Result<bool, Stop> {
+        for (score, address) in found {
+            if listing.is_behind(*score) {
+                return Ok(true);
+            }
+            if let Some(place) = self.index.place(self.rt.alloc(), *address)? {
+                let text = if listing.wants_text() {
+                    Some(self.text(place)?)
+                } else {
+                    None
+                };
+                listing.add(Hit {
+                    score: *score,
+                    address: *address,
+                    place,
+                    text,
+                    more: 0,
+                })?;
+            }
+        }
+        Ok(listing.is_enough())
+    }
+
     // Tells how many documents match, how long it took to find the best, and how many were scored.
-    fn tell(&self, listed: usize, scored: u64, watch: Stopwatch) -> Result<(), Stop> {
-        let took = watch.elapsed(self.rt)?;
+    fn tell(&self, listed: usize, effort: Effort) -> Result<(), Stop> {
         let alloc = self.rt.alloc();
         let matching = self.searched.query.count(alloc, &self.index.searcher)?;
-        tell_found(self.rt, listed, matching, took)?;
-        tell_scored(self.rt, matching, scored)?;
+        tell_found(self.rt, listed, matching, effort.took)?;
+        tell_scored(self.rt, matching, effort.scored)?;
         Ok(())
     }
 
-    // Writes all results. Each is looked for before the first is written, so that where this can't be told an answer
-    // can still be found in another way.
-    fn list<W: Write>(&self, found: &[(i64, DocAddress)], out: &mut W) -> Result<(), Stop> {
-        let marker = Marker::new(self.rt.alloc(), self.clauses)?;
-        let places = self.places(found)?;
-        for (number, ((score, _), place)) in found.iter().zip(places.iter()).enumerate() {
-            self.write(&marker, number.saturating_add(1), *score, *place, out)?;
+    // Writes all results but the first, which are skipped.
+    fn list<W: Write>(&self, hits: Vec<Hit>, out: &mut W) -> Result<(), Stop> {
+        let marker = Marker::new(self.rt.alloc(), self.options.accents, self.clauses)?;
+        for (before, hit) in hits.into_iter().enumerate() {
+            if before >= self.options.skipped {
+                self.write(&marker, before.saturating_add(1), hit, out)?;
+            }
         }
         Ok(())
-    }
-
-    // Where each of these documents stands.
-    fn places(&self, found: &[(i64, DocAddress)]) -> Result<Vec<Option<DocumentPlace>>, Trouble> {
-        let alloc = self.rt.alloc();
-        let mut places = Vec::with_capacity(alloc, found.len())?;
-        for (_, address) in found {
-            places.push(self.index.place(alloc, *address)?)?;
-        }
-        Ok(places)
     }
 
     // Writes one result.
@@ -159,11 +221,10 @@ impl<'a, 'o> Asked<'a, 'o> {
         &self,
         marker: &Marker<'_>,
         number: usize,
-        score: i64,
-        place: Option<DocumentPlace>,
+        hit: Hit,
         out: &mut W,
     ) -> Result<(), Stop> {
-        let Some(shown) = self.shown(marker, score, place)? else {
+        let Some(shown) = self.shown(marker, hit)? else {
             return Ok(());
         };
         if self.options.is_json {
@@ -175,23 +236,21 @@ impl<'a, 'o> Asked<'a, 'o> {
     }
 
     // A result with its text.
-    fn shown(
-        &self,
-        marker: &Marker<'_>,
-        score: i64,
-        place: Option<DocumentPlace>,
-    ) -> Result<Option<Shown<'a>>, Stop> {
-        let Some(place) = place else {
-            return Ok(None);
-        };
+    fn shown(&self, marker: &Marker<'_>, hit: Hit) -> Result<Option<Shown<'a>>, Stop> {
+        let Hit {
+            score,
+            place,
+            text,
+            more,
+            ..
+        } = hit;
         let Some(file) = self.index.files.get(place.file as usize) else {
             return Ok(None);
         };
-        let form = self.options.form;
-        let text = self.text(file, place)?;
+        let text = self.text_read(text, place)?;
         let marks = marker.marks(self.rt.alloc(), text.as_str())?;
         let snippet = shown_part(text.as_str(), &marks);
-        let line = line_of(form, place, text.as_str(), &marks, snippet);
+        let line = line_of(self.options.form, place, text.as_str(), &marks, snippet);
         Ok(Some(Shown {
             path: file.path.as_str(),
             line,
@@ -199,60 +258,61 @@ impl<'a, 'o> Asked<'a, 'o> {
             text,
             marks,
             snippet,
+            more,
         }))
     }
 
+    // The text of a document, where it was read, and else read now.
+    fn text_read(&self, text: Option<String>, place: DocumentPlace) -> Result<String, Stop> {
+        match text {
+            Some(text) => Ok(text),
+            None => self.text(place),
+        }
+    }
+
     // The text of a document; a file that can't be read any more, or has changed, is noted, and gives none.
-    fn text(&self, file: &Source, place: DocumentPlace) -> Result<String, Stop> {
+    fn text(&self, place: DocumentPlace) -> Result<String, Stop> {
+        let nothing = String::new(self.rt.alloc());
+        let Some(file) = self.index.files.get(place.file as usize) else {
+            return Ok(nothing);
+        };
         let path = file.path.as_str();
-        match text_of(self.rt, self.options.form, file, place) {
+        match text_of(self.rt, self.options, file, place) {
             Ok(Some(text)) => return Ok(text),
             Ok(None) => note(self.rt, path, "has changed since it was read"),
             Err(error) if error.kind() == io::ErrorKind::OutOfMemory => {
                 return Err(Stop::from(error));
             }
             Err(error) => {
+                let path = Cleaned(path);
                 let _ = eprintln!(self.rt; "birch: {path}: {error}");
             }
         }
-        Ok(String::new(self.rt.alloc()))
+        Ok(nothing)
     }
 
     // Writes one result, and why it scores what it does.
-    fn explain<W: Write>(
-        &self,
-        found: &[(i64, DocAddress)],
-        number: usize,
-        out: &mut W,
-    ) -> Result<(), Stop> {
-        let count = found.len();
-        let Some((score, address)) = found.get(number.saturating_sub(1)) else {
+    fn explain<W: Write>(&self, hits: Vec<Hit>, number: usize, out: &mut W) -> Result<(), Stop> {
+        let count = hits.len();
+        let Some(hit) = hits.into_iter().nth(number.saturating_sub(1)) else {
             if count > 0 {
                 let what = anyhow!("there are {count} results, and none has the number {number}");
                 return Err(Stop::Failed(what));
             }
             return Ok(());
         };
-        let marker = Marker::new(self.rt.alloc(), self.clauses)?;
         let alloc = self.rt.alloc();
-        let place = self.index.place(alloc, *address)?;
-        self.write(&marker, number, *score, place, out)?;
-        let explanation = self.explanation(*address)?;
-        write_weights(alloc, out, self.index, self.clauses)?;
+        let explained = Explained {
+            alloc,
+            index: self.index,
+            address: hit.address,
+        };
+        let marker = Marker::new(alloc, self.options.accents, self.clauses)?;
+        self.write(&marker, number, hit, out)?;
+        let Searched { query, statistics } = self.searched;
+        let explanation = explained.explanation(query, statistics)?;
+        explained.write_weights(out, self.tree)?;
         write_explanation(alloc, out, &explanation)?;
         Ok(())
-    }
-
-    // Why a document scores what it does, by what the query's words weigh.
-    fn explanation(&self, address: DocAddress) -> Result<Explanation, QueryError> {
-        let alloc = self.rt.alloc();
-        let Searched { query, statistics } = self.searched;
-        let searcher = &self.index.searcher;
-        let scoring = EnableScoring::enabled_from_statistics_provider(statistics, searcher);
-        let weight = query.weight(alloc, scoring)?;
-        let Some(reader) = searcher.segment_reader(address.segment_ord) else {
-            return Err(QueryError::NoSuchSegment(address.segment_ord));
-        };
-        weight.explain(alloc, reader, address.doc_id)
     }
 }

@@ -2,8 +2,9 @@
 
 use crate::files::Source;
 use crate::kept::{KeptSegments, Trouble};
-use crate::weights::{norms, weight};
-use birch_text::Clause;
+use crate::lengths::norms;
+use birch_text::{Clause, Scope, named_word};
+use birchagain::rarity;
 use qm_docset::DocSet;
 use qm_postings::{DocAddress, Searcher, SegmentReader};
 use qm_schema::{Field, IndexRecordOption, QueryError, Schema, Term};
@@ -28,15 +29,20 @@ pub struct Fields {
     pub text: Field,
     /// The name of its file.
     pub name: Field,
+    /// The words of its own fields, each with its field's name before it.
+    pub named: Field,
 }
 
 impl Fields {
-    /// The field that a clause asks for.
-    pub fn of(&self, clause: &Clause) -> Field {
-        if clause.is_of_name {
-            self.name
-        } else {
-            self.text
+    /// The term of a word that a clause asks for.
+    pub fn term(&self, alloc: Global, clause: &Clause, word: &str) -> Result<Term, QueryError> {
+        match &clause.scope {
+            Scope::Text => Term::from_field_text(alloc, self.text, word),
+            Scope::FileName => Term::from_field_text(alloc, self.name, word),
+            Scope::Field(name) => {
+                let word = named_word(alloc, name.as_str(), word)?;
+                Term::from_field_text(alloc, self.named, word.as_str())
+            }
         }
     }
 }
@@ -55,7 +61,8 @@ pub fn schema_with(
     let mut schema = Schema::builder(alloc);
     let text = schema.add_text_field("text", option, true)?;
     let name = schema.add_text_field("name", option, false)?;
-    Ok((schema.build(), Fields { text, name }))
+    let named = schema.add_text_field("named", option, true)?;
+    Ok((schema.build(), Fields { text, name, named }))
 }
 
 // Where the segments are, and where each of their documents stands.
@@ -135,9 +142,11 @@ impl Index {
     }
 
     /// Has the searcher all that a query of these clauses looks at.
-    pub fn want(&mut self, alloc: Global, clauses: &[Clause]) -> Result<(), Trouble> {
-        if let Origin::Kept(kept) = &self.origin {
-            self.searcher = kept.searcher(alloc, self.fields, clauses, self.norms)?;
+    pub fn want(&mut self, alloc: Global, clauses: &[&Clause]) -> Result<(), Trouble> {
+        if let Origin::Kept(kept) = &mut self.origin {
+            if let Some(searcher) = kept.searcher(alloc, self.fields, clauses, self.norms)? {
+                self.searcher = searcher;
+            }
         }
         Ok(())
     }
@@ -168,24 +177,6 @@ impl Index {
         held
     }
 
-    /// How many documents hold a term that begins so: each as often as it holds different ones.
-    pub fn held_by_prefix(&self, prefix: &Term) -> u64 {
-        let begin = prefix.serialized_value_bytes();
-        let mut held: u64 = 0;
-        for segment in self.searcher.segment_readers() {
-            let range = segment
-                .inverted_index(prefix.field())
-                .term_range(begin, None);
-            for (term, _) in range {
-                if !term.serialized_value_bytes().starts_with(begin) {
-                    break;
-                }
-                held = held.saturating_add(u64::from(held_in(segment, term)));
-            }
-        }
-        held
-    }
-
     /// What words weigh, by which a query is scored: none weighs anything yet.
     pub fn statistics(&self, alloc: Global) -> Result<Searcher, QueryError> {
         let (schema, _) = schema(alloc)?;
@@ -200,14 +191,14 @@ impl Index {
         statistics: &mut Searcher,
         term: &Term,
     ) -> Result<(), QueryError> {
-        let weight = weight(self.tally.documents, self.held(term));
+        let weight = rarity(self.tally.documents, self.held(term));
         let weight = i64::try_from(weight).unwrap_or(i64::MAX);
         statistics.set_weight(term.clone(alloc)?, weight)
     }
 }
 
-// How many documents of a segment hold a term. Those that are deleted have the postings that they had.
-fn held_in(segment: &SegmentReader, term: &Term) -> u32 {
+/// How many documents of a segment hold a term. Those that are deleted have the postings that they had.
+pub fn held_in(segment: &SegmentReader, term: &Term) -> u32 {
     let index = segment.inverted_index(term.field());
     match segment.alive_bitset() {
         None => match index.get_term_info(term) {

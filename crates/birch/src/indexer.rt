@@ -1,11 +1,16 @@
 //! The making of the index.
 
-use crate::files::{Contents, Found, Source, find_files, note, read_text};
+use crate::files::{Contents, Source, Text, read_text};
 use crate::index::{Fields, Index, Tally, schema};
+use crate::left_out::LeftOut;
+use crate::lengths::length_id;
 use crate::options::Options;
-use crate::weights::length_id;
+use crate::walk::{Found, find_files, own_name};
 use anyhow::Result;
-use birch_text::{Form, Passages, Place, add_passages, add_words, column_in, name_words};
+use birch_text::{
+    Accents, FIELD_END, Form, Passages, Place, Row, WordReader, add_named_words, add_passages,
+    column_in,
+};
 use qm_postings::{PlainDoc, SegmentBuilder, SegmentReader};
 use qm_schema::{QueryError, Schema};
 use qm_store::DocumentPlace;
@@ -28,6 +33,9 @@ struct Cut {
     first: usize,
     // how many bytes these have
     len: usize,
+    // the first byte of those that have a field's name before them, and how many bytes these have
+    first_named: usize,
+    named_len: usize,
     // how many words it has
     count: u32,
 }
@@ -41,8 +49,9 @@ pub struct Indexer {
     files: Vec<Source>,
     // the words of the documents that aren't in a segment yet, folded, each with a space behind it
     words: String,
-    // room for a text while it is cut
-    room: String,
+    // the same of those that have a field's name before them
+    named: String,
+    reader: WordReader,
     cuts: Vec<Cut>,
     // how many bytes of files are still to come
     left: u64,
@@ -58,25 +67,19 @@ pub struct Indexer {
 
 impl Passages for Indexer {
     fn add(&mut self, text: &str, place: Place) -> Result<()> {
-        let first = self.words.len();
-        let count = add_words(&mut self.words, &mut self.room, text)?;
-        if count == 0 {
-            return Ok(());
+        let start = self.start();
+        let count = self.reader.add_words(&mut self.words, text)?;
+        self.add_cut(place, start, count)
+    }
+
+    fn add_row(&mut self, row: &Row, place: Place) -> Result<()> {
+        let start = self.start();
+        let mut count: u32 = 0;
+        for field in &row.fields {
+            let text = row.text.get(field.start..field.end).unwrap_or("");
+            count = count.saturating_add(self.add_field(field.name.as_str(), text)?);
         }
-        let place = self.document_place(place);
-        let len = self.words.len().saturating_sub(first);
-        self.cuts.push(Cut {
-            place,
-            first,
-            len,
-            count,
-        })?;
-        self.tally.documents = self.tally.documents.saturating_add(1);
-        self.tally.words = self.tally.words.saturating_add(u64::from(count));
-        if self.words.len() >= self.segment_bytes {
-            self.end_segment()?;
-        }
-        Ok(())
+        self.add_cut(place, start, count)
     }
 
     fn leave_out(&mut self, line: u32) {
@@ -88,8 +91,8 @@ impl Passages for Indexer {
 }
 
 impl Indexer {
-    /// With no document yet.
-    pub fn new(alloc: Global) -> Result<Indexer, QueryError> {
+    /// With no document yet; accents count in its words or don't.
+    pub fn new(alloc: Global, accents: Accents) -> Result<Indexer, QueryError> {
         let (schema, fields) = schema(alloc)?;
         Ok(Indexer {
             alloc,
@@ -97,7 +100,8 @@ impl Indexer {
             fields,
             files: Vec::new(alloc),
             words: String::new(alloc),
-            room: String::new(alloc),
+            named: String::new(alloc),
+            reader: WordReader::new(alloc, accents),
             cuts: Vec::new(alloc),
             left: 0,
             segment_bytes: MOST_BYTES,
@@ -119,6 +123,46 @@ impl Indexer {
         if self.words.is_empty() {
             self.begin_segment();
         }
+    }
+
+    // Where the words of the next document begin, and those with a field's name.
+    fn start(&self) -> (usize, usize) {
+        (self.words.len(), self.named.len())
+    }
+
+    // Adds the words of a field, where it has some, and answers how many.
+    fn add_field(&mut self, name: &str, text: &str) -> Result<u32> {
+        let first = self.words.len();
+        let count = self.reader.add_words(&mut self.words, text)?;
+        if count > 0 {
+            let words = self.words.get(first..).unwrap_or("");
+            add_named_words(&mut self.named, name, words)?;
+            self.words.push_str(FIELD_END)?;
+        }
+        Ok(count)
+    }
+
+    // Adds a document of so many words, which begin there, where it has some.
+    fn add_cut(&mut self, place: Place, start: (usize, usize), count: u32) -> Result<()> {
+        if count == 0 {
+            return Ok(());
+        }
+        let place = self.document_place(place);
+        let (first, first_named) = start;
+        self.cuts.push(Cut {
+            place,
+            first,
+            len: self.words.len().saturating_sub(first),
+            first_named,
+            named_len: self.named.len().saturating_sub(first_named),
+            count,
+        })?;
+        self.tally.documents = self.tally.documents.saturating_add(1);
+        self.tally.words = self.tally.words.saturating_add(u64::from(count));
+        if self.words.len().saturating_add(self.named.len()) >= self.segment_bytes {
+            self.end_segment()?;
+        }
+        Ok(())
     }
 
     // A segment takes in half of what is left, so that the making of the last ones, beside all that stands,
@@ -148,44 +192,46 @@ impl Indexer {
     pub fn add_file(
         &mut self,
         rt: &HostRuntime,
-        form: Form<'_>,
+        options: &Options<'_>,
         path: String,
-        text: String,
-        is_kept: bool,
+        text: Text,
     ) -> Result<Gain> {
         let alloc = self.alloc;
-        let Some(column) = column_of(alloc, form, text.as_str())? else {
-            let why = "left out, its first row has no such column";
-            return left_out(rt, path.as_str(), why);
+        let Text {
+            text,
+            is_converted,
+            stamp,
+        } = text;
+        let Some(column) = column_of(alloc, options.form, text.as_str())? else {
+            return Ok(left_out(rt, options, path.as_str(), LeftOut::NoColumn));
         };
         let before = self.tally;
         self.tally.bytes = self.tally.bytes.saturating_add(text.len() as u64);
-        let name_words = name_words(alloc, own_name(path.as_str()))?;
+        let mut name_words = String::new(alloc);
+        self.reader
+            .add_words(&mut name_words, own_name(path.as_str()))?;
         self.files.push(Source {
             path,
             name_words,
             kept: None,
             column,
-            stamp: None,
+            is_converted,
+            stamp,
         })?;
         self.left_out = 0;
-        add_passages(alloc, form, text.as_str(), self)?;
-        let note = self.note_left_out(rt)?;
-        if is_kept {
+        add_passages(alloc, options.form, text.as_str(), self)?;
+        let left_out = self.note_left_out(rt, options);
+        if stamp.is_none() {
             self.keep(text);
         }
-        Ok(self.gain_since(before, column, note))
-    }
-
-    // What the last file gave, before which so much was read.
-    fn gain_since(&self, before: Tally, column: usize, note: String) -> Gain {
-        Gain {
+        Ok(Gain {
             is_taken: true,
             documents: self.tally.documents.saturating_sub(before.documents),
             words: self.tally.words.saturating_sub(before.words),
             column,
-            note,
-        }
+            is_converted,
+            left_out,
+        })
     }
 
     // Keeps the text of the last file.
@@ -195,19 +241,19 @@ impl Indexer {
         }
     }
 
-    // Tells which rows of the last file are no documents, and gives what stands behind its path there.
-    fn note_left_out(&self, rt: &HostRuntime) -> Result<String> {
+    // Notes which rows of the last file are no documents.
+    fn note_left_out(&self, rt: &HostRuntime, options: &Options<'_>) -> Option<LeftOut> {
         if self.left_out == 0 {
-            return Ok(String::new(self.alloc));
+            return None;
         }
-        let line = self.first_left_out;
-        let rows = self.left_out;
-        let what = format!(in self.alloc; ":{line}: rows left out from here on: {rows}")?;
+        let rows = LeftOut::Rows {
+            line: self.first_left_out,
+            count: self.left_out,
+        };
         if let Some(file) = self.files.last() {
-            let path = file.path.as_str();
-            let _ = eprintln!(rt; "birch: {path}{what}");
+            options.notes.add(rt, file.path.as_str(), rows);
         }
-        Ok(what)
+        Some(rows)
     }
 
     // Makes a segment of the documents that have come, the shortest first, so that a search passes over
@@ -218,8 +264,9 @@ impl Indexer {
         }
         self.cuts.sort_by_key(|cut| cut.count)?;
         let words = mem::replace(&mut self.words, String::new(self.alloc));
+        let named = mem::replace(&mut self.named, String::new(self.alloc));
         let cuts = mem::replace(&mut self.cuts, Vec::new(self.alloc));
-        let (segment, places) = self.build_segment(words, cuts)?;
+        let (segment, places) = self.build_segment(words, named, cuts)?;
         self.segments.push(segment)?;
         self.places.push(places)?;
         self.begin_segment();
@@ -230,27 +277,35 @@ impl Indexer {
     fn build_segment(
         &self,
         words: String,
+        named: String,
         cuts: Vec<Cut>,
     ) -> Result<(SegmentReader, Vec<DocumentPlace>), QueryError> {
         let mut builder = SegmentBuilder::new(self.alloc, &self.schema, BLOCK_LEN)?;
         let mut places = Vec::with_capacity(self.alloc, cuts.len())?;
         for cut in &cuts {
-            builder.add_document(self.document(words.as_str(), cut)?)?;
+            builder.add_document(self.document(words.as_str(), named.as_str(), cut)?)?;
             places.push(cut.place)?;
         }
         // the building takes most room of all
         drop(words);
+        drop(named);
         drop(cuts);
         Ok((builder.build(self.alloc)?, places))
     }
 
-    // A document with its words and those of its file's name.
-    fn document(&self, words: &str, cut: &Cut) -> Result<PlainDoc, QueryError> {
+    // A document with its words, those of its fields, and those of its file's name.
+    fn document(&self, words: &str, named: &str, cut: &Cut) -> Result<PlainDoc, QueryError> {
         let mut document = PlainDoc::new(self.alloc);
         let end = cut.first.saturating_add(cut.len);
         let own = words.get(cut.first..end).unwrap_or("");
         document.add_text(self.fields.text, own)?;
         document.set_length(self.fields.text, length_id(cut.count))?;
+        if cut.named_len > 0 {
+            let end = cut.first_named.saturating_add(cut.named_len);
+            let own = named.get(cut.first_named..end).unwrap_or("");
+            document.add_text(self.fields.named, own)?;
+            document.set_length(self.fields.named, length_id(cut.count))?;
+        }
         if let Some(file) = self.files.get(cut.place.file as usize) {
             document.add_text(self.fields.name, file.name_words.as_str())?;
         }
@@ -278,7 +333,7 @@ impl Indexer {
 }
 
 /// What a file gave when it was read.
-#[derive(Drop)]
+#[derive(Clone, Copy, Debug)]
 pub struct Gain {
     /// Whether it was taken in, and not left out.
     pub is_taken: bool,
@@ -288,8 +343,10 @@ pub struct Gain {
     pub words: u64,
     /// Which column of a table was read.
     pub column: usize,
-    /// What was noted behind its path, since it or some of its rows were left out; else nothing.
-    pub note: String,
+    /// Whether its text is its bytes written in another way.
+    pub is_converted: bool,
+    /// Why it, or some of its rows, were left out.
+    pub left_out: Option<LeftOut>,
 }
 
 /// What was read of files.
@@ -327,29 +384,22 @@ fn column_of(alloc: Global, form: Form<'_>, text: &str) -> Result<Option<usize>>
 }
 
 // What a file gives that is left out, which is noted.
-fn left_out(rt: &HostRuntime, path: &str, why: &str) -> Result<Gain> {
-    note(rt, path, why);
-    Ok(Gain {
+fn left_out(rt: &HostRuntime, options: &Options<'_>, path: &str, why: LeftOut) -> Gain {
+    options.notes.add(rt, path, why);
+    Gain {
         is_taken: false,
         documents: 0,
         words: 0,
         column: 0,
-        note: format!(in rt.alloc(); ": {why}")?,
-    })
-}
-
-// A file's own name.
-fn own_name(path: &str) -> &str {
-    match path.rsplit_once('/') {
-        Some((_, name)) => name,
-        None => path,
+        is_converted: false,
+        left_out: Some(why),
     }
 }
 
 /// Reads all files of the paths.
 pub fn read_all(rt: &HostRuntime, options: &Options<'_>) -> Result<Index> {
-    let files = find_files(rt, options)?;
-    let mut indexer = Indexer::new(rt.alloc())?;
+    let files = find_files(rt, options, &options.paths)?;
+    let mut indexer = Indexer::new(rt.alloc(), options.accents)?;
     read_files(rt, options, &mut indexer, files)?;
     let readings = indexer.finish()?;
     Ok(readings.into_index(rt.alloc())?)
@@ -385,11 +435,9 @@ fn read_file(
     indexer: &mut Indexer,
     file: Found,
 ) -> Result<Option<Gain>> {
-    let gain = match read_text(rt, file.path.as_str(), options.max_size)? {
-        Contents::Text(text) => {
-            indexer.add_file(rt, options.form, file.path, text, file.is_stream)?
-        }
-        Contents::LeftOut(why) => left_out(rt, file.path.as_str(), why)?,
+    let gain = match read_text(rt, options, file.path.as_str())? {
+        Contents::Text(text) => indexer.add_file(rt, options, file.path, text)?,
+        Contents::LeftOut(why) => left_out(rt, options, file.path.as_str(), why),
         Contents::Unread => return Ok(None),
     };
     Ok(Some(gain))

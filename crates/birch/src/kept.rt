@@ -1,5 +1,6 @@
 //! An index of files that is kept between runs, so that a search reads anew only what has changed.
 
+mod above;
 mod all_places;
 mod catalogue;
 mod catalogue_bytes;
@@ -24,6 +25,7 @@ mod updating;
 mod using;
 mod writing;
 
+pub use home::folder_of_indexes;
 pub use segments::KeptSegments;
 pub use trouble::Trouble;
 pub use using::{Use, after_trouble, forget_kept, kept_index};

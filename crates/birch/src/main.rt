@@ -3,11 +3,17 @@
 #![tactic(auto)]
 
 mod answer;
+mod beginnings;
+mod environment;
 mod explain;
 mod files;
+mod ignoring;
 mod index;
 mod indexer;
 mod kept;
+mod left_out;
+mod lengths;
+mod listing;
 mod options;
 mod run;
 mod searched;
@@ -15,8 +21,10 @@ mod shown;
 mod stamps;
 mod stats;
 mod stop;
-mod weights;
+mod walk;
 
+use anyhow::Error;
+use birch_text::Cleaned;
 use run::FAILED;
 use std::process::ExitCode;
 use stop::Stop;
@@ -27,13 +35,26 @@ fn main(rt: HostRuntime) -> ExitCode {
         // whoever reads the results has read enough
         Err(Stop::Closed) => ExitCode::SUCCESS,
         Err(Stop::Failed(error)) => {
-            let _ = eprintln!(rt; "birch: {error:#}");
+            tell_error(&rt, &error);
             ExitCode::from(FAILED)
         }
         Err(Stop::Kept(trouble)) => {
             let what = trouble.what();
             let _ = eprintln!(rt; "birch: the index: {what}");
             ExitCode::from(FAILED)
+        }
+    }
+}
+
+// Tells of an error, which may have words of the command line in it.
+fn tell_error(rt: &HostRuntime, error: &Error) {
+    match format!(in rt.alloc(); "{error:#}") {
+        Ok(text) => {
+            let text = Cleaned(text.as_str());
+            let _ = eprintln!(rt; "birch: {text}");
+        }
+        Err(_) => {
+            let _ = eprintln!(rt; "birch: out of memory");
         }
     }
 }

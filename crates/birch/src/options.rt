@@ -1,7 +1,9 @@
 //! What the command is asked for.
 
-use anyhow::{Result, anyhow, bail};
-use birch_text::Form;
+use crate::left_out::Notes;
+use crate::listing::Unit;
+use anyhow::{Error, Result, anyhow, bail};
+use birch_text::{Accents, FILE_TYPES, Form, PathRules, PatternError};
 use clap::{Arg, ArgAction, ArgMatches, Command, value_parser};
 use std::alloc::{AllocError, Global};
 
@@ -16,7 +18,9 @@ const DEFAULT_SIZE: &str = "64M";
 
 const HELP: &str = "\
 A query is words, and for each: +must be there, -must not, \"a phrase\", \"a phrase\"~2 whose words stand up
-to 2 places apart, begin* for words that begin so, name:word for a word of the file's own name.
+to 2 places apart, begin* for words that begin so, word^3 for three times the weight, name:word for a word of
+the file's own name, or with --csv-fields and --json-fields of the field with that name; joined by AND, OR, NOT
+and parentheses. A \\ makes a letter of a sign.
 Status: 0 if something was found, 1 if nothing was, 2 after an error.";
 
 /// What the command is asked for.
@@ -30,8 +34,14 @@ pub struct Options<'a> {
     pub queries: Option<&'a str>,
     /// What of a file is a document.
     pub form: Form<'a>,
+    /// Whether accents count in words.
+    pub accents: Accents,
+    /// Which documents are one result together.
+    pub unit: Unit,
     /// How many results are listed.
     pub limit: usize,
+    /// How many of the first results aren't.
+    pub skipped: usize,
     /// Whether the number of documents alone is wanted.
     pub is_count: bool,
     /// Whether results are lines of JSON.
@@ -42,10 +52,18 @@ pub struct Options<'a> {
     pub has_stats: bool,
     /// Whether names that begin with a dot are read.
     pub has_hidden: bool,
-    /// Patterns of which one has to fit a file's name; none where any name will do.
+    /// Whether files are read that ignore files name.
+    pub has_ignored: bool,
+    /// Patterns of the paths that are read, and with a `!` of those that aren't.
     pub globs: Vec<&'a str>,
+    /// The same ones.
+    pub glob_rules: PathRules,
+    /// Kinds of files of which one is read; none where any is.
+    pub types: Vec<&'a str>,
     /// How many bytes a file may have.
     pub max_size: u64,
+    /// What is left out.
+    pub notes: Notes,
     /// When found words are coloured.
     pub color: Color,
     /// Whether it is told how far the reading is.
@@ -100,6 +118,8 @@ pub fn command<'a>(alloc: Global) -> Result<Command<'a>, AllocError> {
                 .action(ArgAction::Append)
                 .help("Files and folders; - is standard input [default: .]"),
         )?;
+    let command = form_options(alloc, command)?;
+    let command = field_options(alloc, command)?;
     let command = reading_options(alloc, command)?;
     let command = keeping_options(alloc, command)?;
     answer_options(alloc, command)
@@ -119,8 +139,8 @@ fn option<'a>(alloc: Global, name: &'a str, value: &'a str, help: &'a str) -> Ar
         .help(help)
 }
 
-// Which files are read, and what of them is a document.
-fn reading_options<'a>(alloc: Global, command: Command<'a>) -> Result<Command<'a>, AllocError> {
+// What of a file is a document.
+fn form_options<'a>(alloc: Global, command: Command<'a>) -> Result<Command<'a>, AllocError> {
     let lines = flag(alloc, "lines", "A document is a line, and not a paragraph");
     let csv = option(
         alloc,
@@ -134,32 +154,100 @@ fn reading_options<'a>(alloc: Global, command: Command<'a>) -> Result<Command<'a
         "KEY",
         "A document is the text under that key of a line of JSON",
     );
-    let hidden = flag(alloc, "hidden", "Reads names that begin with a dot too");
-    let glob = option(
+    command
+        .arg(lines.conflicts_with("csv")?.conflicts_with("json-key")?)?
+        .arg(csv.conflicts_with("json-key")?)?
+        .arg(json)
+}
+
+// The same of documents that have fields.
+fn field_options<'a>(alloc: Global, command: Command<'a>) -> Result<Command<'a>, AllocError> {
+    let csv = flag(
         alloc,
-        "glob",
-        "PATTERN",
-        "Reads only files whose name fits, as *.md; may be repeated",
+        "csv-fields",
+        "A document is a row of a CSV file, and title:fox asks its column title",
     );
-    let size = option(
+    let json = flag(
         alloc,
-        "max-size",
-        "BYTES",
-        "Leaves out larger files; 10K, 10M and 1G are understood",
+        "json-fields",
+        "A document is a line of JSON, and meta.title:fox asks title in meta",
+    );
+    command
+        .arg(
+            csv.conflicts_with("lines")?
+                .conflicts_with("csv")?
+                .conflicts_with("json-key")?,
+        )?
+        .arg(
+            json.conflicts_with("lines")?
+                .conflicts_with("csv")?
+                .conflicts_with("json-key")?
+                .conflicts_with("csv-fields")?,
+        )
+}
+
+// How files are read, and which.
+fn reading_options<'a>(alloc: Global, command: Command<'a>) -> Result<Command<'a>, AllocError> {
+    let accents = flag(
+        alloc,
+        "accents",
+        "Has accents count, so that cafe finds no café",
     );
     let progress = flag(
         alloc,
         "progress",
         "Tells on standard error how far the reading is",
     );
+    let command = command.arg(accents)?;
+    choosing_options(alloc, command)?.arg(progress)
+}
+
+// Which files are read.
+fn choosing_options<'a>(alloc: Global, command: Command<'a>) -> Result<Command<'a>, AllocError> {
+    let hidden = flag(
+        alloc,
+        "hidden",
+        "Reads names that begin with a dot too, and what ignore files name",
+    );
+    let ignored = flag(
+        alloc,
+        "no-ignore",
+        "Reads what .gitignore and .ignore name too",
+    );
+    let glob = option(
+        alloc,
+        "glob",
+        "PATTERN",
+        "Reads only what fits, as *.md or doc/**, or with ! in front what doesn't; may be repeated",
+    );
+    let kind = option(
+        alloc,
+        "type",
+        "TYPE",
+        "Reads only files of a kind, as md or py; may be repeated",
+    )
+    .short('t');
+    let size = option(
+        alloc,
+        "max-size",
+        "BYTES",
+        "Leaves out larger files; 10K, 10M and 1G are understood",
+    );
+    let notes = flag(
+        alloc,
+        "notes",
+        "Lists on standard error what is left out, and why",
+    );
     command
-        .arg(lines.conflicts_with("csv")?.conflicts_with("json-key")?)?
-        .arg(csv.conflicts_with("json-key")?)?
-        .arg(json)?
         .arg(hidden)?
+        .arg(ignored)?
         .arg(glob.action(ArgAction::Append))?
+        .arg(
+            kind.action(ArgAction::Append)
+                .value_parser(FILE_TYPES.as_slice()),
+        )?
         .arg(size.default_value(DEFAULT_SIZE))?
-        .arg(progress)
+        .arg(notes)
 }
 
 // What becomes of an index that is kept.
@@ -198,9 +286,41 @@ fn keeping_options<'a>(alloc: Global, command: Command<'a>) -> Result<Command<'a
         .arg(folder)
 }
 
+// What is listed.
+fn listing_options<'a>(alloc: Global, command: Command<'a>) -> Result<Command<'a>, AllocError> {
+    let limit = option(alloc, "limit", "K", "Lists at most so many results").short('k');
+    let skip = option(
+        alloc,
+        "skip",
+        "N",
+        "Leaves out the first N results, as if they stood on pages before",
+    );
+    let files = flag(
+        alloc,
+        "files",
+        "Lists each file once, by the best that stands in it",
+    );
+    let repeats = flag(
+        alloc,
+        "repeats",
+        "Lists each document, also where several have the same text",
+    );
+    command
+        .arg(
+            limit
+                .value_parser(value_parser!(u32))
+                .default_value(DEFAULT_LIMIT),
+        )?
+        .arg(
+            skip.value_parser(value_parser!(u32))
+                .conflicts_with("explain")?,
+        )?
+        .arg(files.conflicts_with("repeats")?)?
+        .arg(repeats)
+}
+
 // What is answered, and how.
 fn answer_options<'a>(alloc: Global, command: Command<'a>) -> Result<Command<'a>, AllocError> {
-    let limit = option(alloc, "limit", "K", "Lists at most so many results").short('k');
     let count = flag(
         alloc,
         "count",
@@ -231,12 +351,7 @@ fn answer_options<'a>(alloc: Global, command: Command<'a>) -> Result<Command<'a>
         "WHEN",
         "Colours found words: never, auto or always",
     );
-    command
-        .arg(
-            limit
-                .value_parser(value_parser!(u32))
-                .default_value(DEFAULT_LIMIT),
-        )?
+    listing_options(alloc, command)?
         .arg(count)?
         .arg(json)?
         .arg(
@@ -265,19 +380,28 @@ pub fn read_options<'a>(alloc: Global, matches: &ArgMatches<'a>) -> Result<Optio
         None
     };
     let paths = paths(alloc, matches, if has_query { None } else { first })?;
+    let globs = texts(alloc, matches, "glob")?;
+    let has_hidden = matches.get_flag("hidden");
     Ok(Options {
         query,
         paths,
         queries,
         form: form(matches),
+        accents: accents(matches),
+        unit: unit(matches),
         limit: matches.get_one::<u32>("limit").unwrap_or(10) as usize,
+        skipped: matches.get_one::<u32>("skip").unwrap_or(0) as usize,
         is_count: matches.get_flag("count"),
         is_json: matches.get_flag("json"),
         explained: explained(matches)?,
         has_stats: matches.get_flag("stats"),
-        has_hidden: matches.get_flag("hidden"),
-        globs: globs(alloc, matches)?,
+        has_hidden,
+        has_ignored: has_hidden || matches.get_flag("no-ignore"),
+        glob_rules: glob_rules(alloc, &globs)?,
+        globs,
+        types: texts(alloc, matches, "type")?,
         max_size: size(matches.get_str("max-size").unwrap_or(DEFAULT_SIZE))?,
+        notes: Notes::new(matches.get_flag("notes")),
         color: color_of(matches.get_str("color").unwrap_or("auto")),
         has_progress: matches.get_flag("progress"),
         keeping,
@@ -325,10 +449,34 @@ fn form<'a>(matches: &ArgMatches<'a>) -> Form<'a> {
     if let Some(key) = matches.get_str("json-key") {
         return Form::Json(key);
     }
+    if matches.get_flag("csv-fields") {
+        return Form::CsvFields;
+    }
+    if matches.get_flag("json-fields") {
+        return Form::JsonFields;
+    }
     if matches.get_flag("lines") {
         Form::Lines
     } else {
         Form::Paragraphs
+    }
+}
+
+fn accents(matches: &ArgMatches<'_>) -> Accents {
+    if matches.get_flag("accents") {
+        Accents::Kept
+    } else {
+        Accents::Folded
+    }
+}
+
+fn unit(matches: &ArgMatches<'_>) -> Unit {
+    if matches.get_flag("files") {
+        Unit::File
+    } else if matches.get_flag("repeats") {
+        Unit::Document
+    } else {
+        Unit::Text
     }
 }
 
@@ -340,12 +488,32 @@ fn explained(matches: &ArgMatches<'_>) -> Result<Option<usize>> {
     }
 }
 
-fn globs<'a>(alloc: Global, matches: &ArgMatches<'a>) -> Result<Vec<&'a str>, AllocError> {
-    let mut globs = Vec::new(alloc);
-    for glob in matches.get_strs("glob").unwrap_or(&[]) {
-        globs.push(*glob)?;
+// What an option says that may be repeated.
+fn texts<'a>(
+    alloc: Global,
+    matches: &ArgMatches<'a>,
+    name: &str,
+) -> Result<Vec<&'a str>, AllocError> {
+    let mut texts = Vec::new(alloc);
+    for text in matches.get_strs(name).unwrap_or(&[]) {
+        texts.push(*text)?;
     }
-    Ok(globs)
+    Ok(texts)
+}
+
+// The patterns of paths.
+fn glob_rules(alloc: Global, globs: &[&str]) -> Result<PathRules> {
+    let mut rules = PathRules::new(alloc);
+    for glob in globs {
+        match rules.add_with_braces(alloc, glob) {
+            Ok(()) => {}
+            Err(PatternError::TooMany) => {
+                bail!("the braces of --glob {glob} stand for more than a thousand patterns")
+            }
+            Err(PatternError::Memory) => return Err(Error::from(AllocError)),
+        }
+    }
+    Ok(rules)
 }
 
 fn color_of(text: &str) -> Color {

@@ -1,12 +1,15 @@
 //! A run of the command.
 
-use crate::answer::answer;
+use crate::answer::{answer, understand};
+use crate::environment::variable;
 use crate::index::Index;
 use crate::indexer::read_all;
 use crate::kept::{Trouble, Use, after_trouble, forget_kept, kept_index};
 use crate::options::{Color, Keeping, Options, command, read_options};
 use crate::stats::{Stopwatch, tell_read};
 use crate::stop::Stop;
+use anyhow::anyhow;
+use birch_text::{Cleaned, EscapedJson, QueryTree};
 use serde_json::{Value, json};
 use std::alloc::{AllocError, Global};
 use std::io::{BufRead, BufReader, BufWriter, IsTerminal, Write};
@@ -27,7 +30,7 @@ const MOST_MENDED: u32 = 2;
 /// Reads the command line, the files and the queries, answers these, and gives the exit status.
 pub fn run(rt: &HostRuntime) -> Result<u8, Stop> {
     let alloc = rt.alloc();
-    let words: Vec<String> = std::env::args(rt)?.collect(alloc)?;
+    let words = words_of_command(rt)?;
     let matches = match command(alloc)?.try_get_matches_from(words.as_slice()) {
         Ok(matches) => matches,
         Err(error) => {
@@ -39,13 +42,30 @@ pub fn run(rt: &HostRuntime) -> Result<u8, Stop> {
     search(rt, &options)
 }
 
-// Does what is asked for, and gives the exit status.
-fn search(rt: &HostRuntime, options: &Options<'_>) -> Result<u8, Stop> {
-    match options.keeping {
-        Keeping::Forget => forget(rt, options),
-        Keeping::Make if options.queries.is_none() => keep(rt, options),
-        _ => answer_all(rt, options),
+// The words of the command line.
+fn words_of_command(rt: &HostRuntime) -> Result<Vec<String>, Stop> {
+    match std::env::args(rt) {
+        Ok(words) => Ok(words.collect(rt.alloc())?),
+        Err(error) if error.kind() == io::ErrorKind::InvalidData => {
+            let what = anyhow!("a word of the command line is no UTF-8");
+            Err(Stop::Failed(what))
+        }
+        Err(error) => Err(Stop::from(error)),
     }
+}
+
+// Does what is asked for, and gives the exit status: an error where a path of the command line couldn't be read.
+fn search(rt: &HostRuntime, options: &Options<'_>) -> Result<u8, Stop> {
+    let status = match options.keeping {
+        Keeping::Forget => forget(rt, options)?,
+        Keeping::Make if options.queries.is_none() => keep(rt, options)?,
+        _ => answer_all(rt, options)?,
+    };
+    Ok(if options.notes.has_failed() {
+        FAILED
+    } else {
+        status
+    })
 }
 
 // Removes the index that is kept.
@@ -63,6 +83,7 @@ fn keep(rt: &HostRuntime, options: &Options<'_>) -> Result<u8, Stop> {
     let watch = Stopwatch::start(rt)?;
     match kept_index(rt, options)? {
         Use::Kept(index) => {
+            options.notes.tell(rt);
             if options.has_stats {
                 tell_read(rt, &index, watch)?;
             }
@@ -72,15 +93,24 @@ fn keep(rt: &HostRuntime, options: &Options<'_>) -> Result<u8, Stop> {
     }
 }
 
-// Reads the files, or the index that is kept of them, and answers the queries.
+// Reads the query of the command line, where there is one, then the files, or the index that is kept of them, and
+// answers the queries.
 fn answer_all(rt: &HostRuntime, options: &Options<'_>) -> Result<u8, Stop> {
+    let first = match options.query {
+        None => None,
+        Some(query) => match understand(rt, options, query)? {
+            Some(tree) => Some(tree),
+            None => return Ok(FAILED),
+        },
+    };
     let watch = Stopwatch::start(rt)?;
     let index = index_of(rt, options)?;
+    options.notes.tell(rt);
     if options.has_stats {
         tell_read(rt, &index, watch)?;
     }
     let out = BufWriter::new(rt.alloc(), io::writer(rt))?;
-    let is_coloured = is_coloured(rt, options.color);
+    let is_coloured = is_coloured(rt, options.color)?;
     let mut session = Session {
         rt,
         options,
@@ -88,7 +118,7 @@ fn answer_all(rt: &HostRuntime, options: &Options<'_>) -> Result<u8, Stop> {
         is_coloured,
         out,
     };
-    session.answer_all()
+    session.answer_all(first)
 }
 
 // The index of what is searched: the one that is kept, where there is one, and else one of all files, read now.
@@ -117,11 +147,12 @@ fn hint(rt: &HostRuntime, bytes: u64) {
     }
 }
 
-fn is_coloured(rt: &HostRuntime, color: Color) -> bool {
+// Whether found words are coloured: where nothing else is said, on a terminal, unless NO_COLOR says otherwise.
+fn is_coloured(rt: &HostRuntime, color: Color) -> Result<bool, AllocError> {
     match color {
-        Color::Always => true,
-        Color::Never => false,
-        Color::Auto => rt.stdout().is_terminal(),
+        Color::Always => Ok(true),
+        Color::Never => Ok(false),
+        Color::Auto => Ok(rt.stdout().is_terminal() && variable(rt, "NO_COLOR")?.is_none()),
     }
 }
 
@@ -137,9 +168,11 @@ struct Session<'a, 'o, W: Write + Drop> {
 
 impl<'a, 'o, W: Write + Drop> Session<'a, 'o, W> {
     // Answers the query of the command line, or those that are read, and gives the exit status.
-    fn answer_all(&mut self) -> Result<u8, Stop> {
-        if let Some(query) = self.options.query {
-            return self.answer(query);
+    fn answer_all(&mut self, first: Option<QueryTree>) -> Result<u8, Stop> {
+        if let Some(tree) = first {
+            let found = self.answer(&tree)?;
+            self.out.flush()?;
+            return Ok(status_of(Some(found)));
         }
         match self.options.queries {
             None => Ok(NOTHING_FOUND),
@@ -155,24 +188,25 @@ impl<'a, 'o, W: Write + Drop> Session<'a, 'o, W> {
         }
     }
 
-    // Answers one query, all of which is written then, and gives the exit status.
-    fn answer(&mut self, query: &str) -> Result<u8, Stop> {
-        let found = self.find(query)?;
-        self.out.flush()?;
-        Ok(status_of(found))
+    // Answers one query, and gives how many results there are; none where it isn't understood.
+    fn find(&mut self, query: &str) -> Result<Option<usize>, Stop> {
+        match understand(self.rt, self.options, query)? {
+            Some(tree) => Ok(Some(self.answer(&tree)?)),
+            None => Ok(None),
+        }
     }
 
-    // Answers one query, and gives how many results there are; none where it isn't understood. Where the index that is
-    // kept turns out to be damaged, another takes its place, at last one of all files, read now.
-    fn find(&mut self, query: &str) -> Result<Option<usize>, Stop> {
+    // Answers one query, and gives how many results there are. Where the index that is kept turns out to be damaged,
+    // another takes its place, at last one of all files, read now.
+    fn answer(&mut self, tree: &QueryTree) -> Result<usize, Stop> {
         for _ in 0..MOST_MENDED {
-            match self.find_once(query) {
+            match self.answer_once(tree) {
                 Err(Stop::Kept(trouble)) => self.mend(trouble)?,
                 found => return found,
             }
         }
         self.index = read_all(self.rt, self.options)?;
-        self.find_once(query)
+        self.answer_once(tree)
     }
 
     // Has another index take the place of the one that is kept.
@@ -184,7 +218,7 @@ impl<'a, 'o, W: Write + Drop> Session<'a, 'o, W> {
         Ok(())
     }
 
-    fn find_once(&mut self, query: &str) -> Result<Option<usize>, Stop> {
+    fn answer_once(&mut self, tree: &QueryTree) -> Result<usize, Stop> {
         let Session {
             rt,
             options,
@@ -192,7 +226,7 @@ impl<'a, 'o, W: Write + Drop> Session<'a, 'o, W> {
             is_coloured,
             out,
         } = self;
-        answer(rt, options, index, query, *is_coloured, out)
+        answer(rt, options, index, tree, *is_coloured, out)
     }
 
     // Answers each line before the next one is waited for. The status is that of an error where there
@@ -213,27 +247,43 @@ impl<'a, 'o, W: Write + Drop> Session<'a, 'o, W> {
     // Answers one line, and shows where the answer ends: in lines for people it has the query above it and
     // an empty line below, and of JSON a line below with the query and how many results there are.
     fn answer_line(&mut self, line: &[u8]) -> Result<u8, Stop> {
-        let Ok(line) = str::from_utf8(line) else {
-            let _ = eprintln!(self.rt; "birch: a query is no UTF-8");
-            return Ok(FAILED);
-        };
-        let query = line.trim();
-        if query.is_empty() {
-            return Ok(NOTHING_FOUND);
-        }
-        let is_json = self.options.is_json;
-        if !is_json && !self.options.is_count {
+        let text = String::from_utf8_lossy(self.rt.alloc(), line)?;
+        let query = text.as_str().trim();
+        let Options {
+            is_json,
+            is_count,
+            ..
+        } = *self.options;
+        if !is_json && !is_count {
+            let query = Cleaned(query);
             writeln!(self.out, "== {query}")?;
         }
-        let found = self.find(query)?;
+        let found = if str::from_utf8(line).is_ok() {
+            self.find_line(query)?
+        } else {
+            let _ = eprintln!(self.rt; "birch: a query is no UTF-8");
+            None
+        };
         if is_json {
             let end = json_end(self.rt.alloc(), query, found)?;
+            let end = EscapedJson(end.as_str());
             writeln!(self.out, "{end}")?;
-        } else if !self.options.is_count || found.is_none() {
+        } else if !is_count || found.is_none() {
             writeln!(self.out)?;
         }
         self.out.flush()?;
         Ok(status_of(found))
+    }
+
+    // Answers the query of a line, and gives how many results there are; an empty one has none.
+    fn find_line(&mut self, query: &str) -> Result<Option<usize>, Stop> {
+        if !query.is_empty() {
+            return self.find(query);
+        }
+        if self.options.is_count {
+            writeln!(self.out, "0")?;
+        }
+        Ok(Some(0))
     }
 }
 

@@ -1,11 +1,14 @@
 //! A query of the library, out of what a person wrote.
 
+use crate::beginnings::{MOST_WORDS, commonest_words};
 use crate::index::Index;
-use crate::weights::weight;
-use birch_text::{Clause, Sign};
+use birch_text::{Clause, QueryTree};
+use birchagain::rarity;
+use qm_parser::Sign;
 use qm_postings::Searcher;
 use qm_query::{
-    AllQuery, AnyQuery, BooleanQuery, BoostQuery, PhrasePrefixQuery, PhraseQuery, TermQuery,
+    AllQuery, AnyQuery, BooleanQuery, BoostQuery, DisjunctionMaxQuery, EmptyQuery,
+    PhrasePrefixQuery, PhraseQuery, Query, TermQuery,
 };
 use qm_schema::{IndexRecordOption, Occur, QueryError, Term};
 use std::alloc::Global;
@@ -19,42 +22,51 @@ pub struct Searched {
     pub statistics: Searcher,
 }
 
-/// The query that these clauses ask for. Where nothing is asked for but what may not be there, all else is found.
-pub fn build(alloc: Global, index: &Index, clauses: &[Clause]) -> Result<Searched, QueryError> {
+/// The query that asks an index for what a person wants.
+pub fn build(alloc: Global, index: &Index, tree: &QueryTree) -> Result<Searched, QueryError> {
     let mut statistics = index.statistics(alloc)?;
-    let query = query_of(alloc, index, &mut statistics, clauses)?;
+    let query = query_of(alloc, index, &mut statistics, tree)?;
     Ok(Searched { query, statistics })
 }
 
-// The query of several clauses, whose words get their weights.
+// The query of a part of a tree, whose words get their weights.
 fn query_of(
     alloc: Global,
     index: &Index,
     statistics: &mut Searcher,
-    clauses: &[Clause],
+    tree: &QueryTree,
 ) -> Result<AnyQuery, QueryError> {
-    if let [clause] = clauses {
-        if clause.sign != Sign::Not {
-            return leaf(alloc, index, statistics, clause);
+    match tree {
+        QueryTree::Nothing => Ok(AnyQuery::Empty(EmptyQuery)),
+        QueryTree::All(score) => boosted(alloc, AnyQuery::All(AllQuery), u64::from(*score)),
+        QueryTree::Clause(clause) => leaf(alloc, index, statistics, clause),
+        QueryTree::Several(parts) => {
+            let mut built = Vec::new(alloc);
+            for (sign, part) in parts {
+                let query = query_of(alloc, index, statistics, part)?;
+                built.push((occur_of(*sign), Box::new(alloc, query)?))?;
+            }
+            Ok(AnyQuery::Boolean(BooleanQuery::new(built)))
         }
     }
-    let mut built = Vec::with_capacity(alloc, clauses.len())?;
-    let mut only_not = true;
-    for clause in clauses {
-        let occur = match clause.sign {
-            Sign::May => Occur::Should,
-            Sign::Must => Occur::Must,
-            Sign::Not => Occur::MustNot,
-        };
-        only_not = only_not && occur == Occur::MustNot;
-        let query = Box::new(alloc, leaf(alloc, index, statistics, clause)?)?;
-        built.push((occur, query))?;
+}
+
+fn occur_of(sign: Sign) -> Occur {
+    match sign {
+        Sign::Should => Occur::Should,
+        Sign::Must => Occur::Must,
+        Sign::MustNot => Occur::MustNot,
     }
-    if only_not {
-        let all = Box::new(alloc, AnyQuery::All(AllQuery))?;
-        built.push((Occur::Must, all))?;
+}
+
+// The query with scores that are so many times as high.
+fn boosted(alloc: Global, query: AnyQuery, boost: u64) -> Result<AnyQuery, QueryError> {
+    if boost == 1 {
+        return Ok(query);
     }
-    Ok(AnyQuery::Boolean(BooleanQuery::new(built)))
+    let query = Box::new(alloc, query)?;
+    let boost = i64::try_from(boost).unwrap_or(i64::MAX);
+    Ok(AnyQuery::Boost(BoostQuery::new(query, boost)))
 }
 
 // The query of one clause.
@@ -64,10 +76,43 @@ fn leaf(
     statistics: &mut Searcher,
     clause: &Clause,
 ) -> Result<AnyQuery, QueryError> {
-    let terms = terms(alloc, index, statistics, clause)?;
-    if clause.is_prefix {
-        return prefix(alloc, index, terms);
+    let boost = u64::from(clause.boost);
+    let terms = terms_of(alloc, index, clause)?;
+    if !clause.is_prefix {
+        weigh_all(alloc, index, statistics, &terms)?;
+        return boosted(alloc, whole(alloc, terms, clause.slop)?, boost);
     }
+    if terms.len() == 1 {
+        return beginning(alloc, index, terms, boost);
+    }
+    let query = begun_phrase(alloc, index, statistics, terms)?;
+    boosted(alloc, query, boost)
+}
+
+/// The terms of a clause, in its order.
+pub fn terms_of(alloc: Global, index: &Index, clause: &Clause) -> Result<Vec<Term>, QueryError> {
+    let mut terms = Vec::with_capacity(alloc, clause.words.len())?;
+    for word in &clause.words {
+        terms.push(index.fields.term(alloc, clause, word.as_str())?)?;
+    }
+    Ok(terms)
+}
+
+// Has terms weigh what their rarity says.
+fn weigh_all(
+    alloc: Global,
+    index: &Index,
+    statistics: &mut Searcher,
+    terms: &[Term],
+) -> Result<(), QueryError> {
+    for term in terms {
+        index.weigh(alloc, statistics, term)?;
+    }
+    Ok(())
+}
+
+/// The query of full words, which stand together.
+pub fn whole(alloc: Global, terms: Vec<Term>, slop: u32) -> Result<AnyQuery, QueryError> {
     let mut terms = terms;
     if terms.len() == 1 {
         if let Some(term) = terms.pop() {
@@ -75,42 +120,87 @@ fn leaf(
         }
     }
     let mut phrase = PhraseQuery::new(alloc, terms)?;
-    phrase.set_slop(clause.slop);
+    phrase.set_slop(slop);
     Ok(AnyQuery::Phrase(phrase))
 }
 
-// The terms of a clause, which weigh what their rarity says.
-fn terms(
+/// What words behind one another find of which the last is the beginning of one, whatever it goes on to.
+pub fn begun(alloc: Global, terms: Vec<Term>) -> Result<AnyQuery, QueryError> {
+    let mut query = PhrasePrefixQuery::new(alloc, terms)?;
+    query.set_max_expansions(u32::MAX);
+    Ok(AnyQuery::PhrasePrefix(query))
+}
+
+/// What the beginning of a word weighs: what a word does that as many documents hold as hold any that begins so; and
+/// how many that are.
+pub fn weight_of_beginning(
+    alloc: Global,
+    index: &Index,
+    query: &AnyQuery,
+) -> Result<(u64, u64), QueryError> {
+    let held = query.count(alloc, &index.searcher)? as u64;
+    Ok((rarity(index.tally.documents, held), held))
+}
+
+// The beginning of a word alone, which scores half of what it weighs.
+fn beginning(
+    alloc: Global,
+    index: &Index,
+    terms: Vec<Term>,
+    boost: u64,
+) -> Result<AnyQuery, QueryError> {
+    let query = begun(alloc, terms)?;
+    let (weight, _) = weight_of_beginning(alloc, index, &query)?;
+    boosted(alloc, query, (weight / 2).saturating_mul(boost))
+}
+
+// Words behind one another of which the last is the beginning of one. A document scores as the best of the phrases
+// that it goes on to. Where it goes on to more words than are tried, it finds with the others what scores 0.
+fn begun_phrase(
     alloc: Global,
     index: &Index,
     statistics: &mut Searcher,
-    clause: &Clause,
-) -> Result<Vec<Term>, QueryError> {
-    let field = index.fields.of(clause);
-    let mut terms = Vec::with_capacity(alloc, clause.words.len())?;
-    for word in &clause.words {
-        let term = Term::from_field_text(alloc, field, word.as_str())?;
-        index.weigh(alloc, statistics, &term)?;
-        terms.push(term)?;
+    terms: Vec<Term>,
+) -> Result<AnyQuery, QueryError> {
+    let (full, words) = ends_of(alloc, index, &terms)?;
+    weigh_all(alloc, index, statistics, full)?;
+    weigh_all(alloc, index, statistics, &words)?;
+    let mut disjuncts = Vec::with_capacity(alloc, words.len())?;
+    for word in &words {
+        let phrase = whole(alloc, with_last(alloc, full, word)?, 0)?;
+        disjuncts.push(Box::new(alloc, phrase)?)?;
     }
-    Ok(terms)
+    if words.len() == MOST_WORDS {
+        let others = boosted(alloc, begun(alloc, terms)?, 0)?;
+        disjuncts.push(Box::new(alloc, others)?)?;
+    }
+    Ok(AnyQuery::DisjunctionMax(DisjunctionMaxQuery::new(disjuncts)))
 }
 
-// Words of which the last is the beginning of one. Alone, such a word scores half of what a word would
-// weigh that stands in as many documents.
-fn prefix(alloc: Global, index: &Index, terms: Vec<Term>) -> Result<AnyQuery, QueryError> {
-    let alone = terms.len() == 1;
-    let held = match terms.last() {
-        Some(last) if alone => index.held_by_prefix(last),
-        _ => 0,
-    };
-    let mut query = PhrasePrefixQuery::new(alloc, terms)?;
-    query.set_max_expansions(u32::MAX);
-    let query = AnyQuery::PhrasePrefix(query);
-    if !alone {
-        return Ok(query);
+/// The full words of some of which the last is the beginning of one, and what this goes on to.
+pub fn ends_of<'a>(
+    alloc: Global,
+    index: &Index,
+    terms: &'a [Term],
+) -> Result<(&'a [Term], Vec<Term>), QueryError> {
+    match terms.split_last() {
+        Some((beginning, full)) => Ok((full, commonest_words(alloc, index, beginning)?)),
+        None => Ok((terms, Vec::new(alloc))),
     }
-    let half = weight(index.tally.documents, held) / 2;
-    let boost = i64::try_from(half).unwrap_or(i64::MAX);
-    Ok(AnyQuery::Boost(BoostQuery::new(Box::new(alloc, query)?, boost)))
+}
+
+/// A copy of these terms.
+pub fn copied(alloc: Global, terms: &[Term]) -> Result<Vec<Term>, QueryError> {
+    let mut copies = Vec::with_capacity(alloc, terms.len())?;
+    for term in terms {
+        copies.push(term.clone(alloc)?)?;
+    }
+    Ok(copies)
+}
+
+/// A copy of these terms, and behind them of one more.
+pub fn with_last(alloc: Global, terms: &[Term], last: &Term) -> Result<Vec<Term>, QueryError> {
+    let mut all = copied(alloc, terms)?;
+    all.push(last.clone(alloc)?)?;
+    Ok(all)
 }

@@ -1,7 +1,8 @@
 //! A result, as it is printed.
 
 use crate::files::{Source, read_piece};
-use birch_text::{Form, Mark, Snippet, snippet_of, text_at};
+use crate::options::Options;
+use birch_text::{Cleaned, EscapedJson, Form, Mark, Snippet, is_steering, snippet_of, text_at};
 use qm_store::DocumentPlace;
 use serde_json::{Value, json};
 use std::alloc::{AllocError, Global};
@@ -26,16 +27,18 @@ pub struct Shown<'a> {
     pub marks: Vec<Mark>,
     /// What of it is shown.
     pub snippet: Snippet,
+    /// How many more documents have the same text, and aren't listed.
+    pub more: u64,
 }
 
-/// The text of a document, read again; none where its file has changed since an index was made that is kept.
+/// The text of a document, read again; none where its file has changed since it was read.
 pub fn text_of(
     rt: &HostRuntime,
-    form: Form<'_>,
+    options: &Options<'_>,
     file: &Source,
     place: DocumentPlace,
 ) -> io::Result<Option<String>> {
-    let alloc = rt.alloc();
+    let (alloc, form) = (rt.alloc(), options.form);
     let (start, len) = (place.first_byte as usize, place.byte_count as usize);
     if let Some(text) = &file.kept {
         let piece = text.as_str().get(start..start.saturating_add(len));
@@ -43,7 +46,7 @@ pub fn text_of(
         return Ok(Some(text));
     }
     let (start, len) = (u64::from(place.first_byte), u64::from(place.byte_count));
-    match read_piece(rt, file.path.as_str(), file.stamp, start, len)? {
+    match read_piece(rt, options, file, start, len)? {
         Some(piece) => {
             let text = text_at(alloc, form, file.column, piece.as_str())?;
             Ok(Some(text))
@@ -91,6 +94,7 @@ pub fn write_plain<W: Write>(
         score,
         ..
     } = shown;
+    let path = Cleaned(path);
     if is_coloured {
         writeln!(
             out,
@@ -99,7 +103,12 @@ pub fn write_plain<W: Write>(
     } else {
         writeln!(out, "{number}. {path}:{line}  {score}")?;
     }
-    write_snippet(out, shown, is_coloured)
+    write_snippet(out, shown, is_coloured)?;
+    if shown.more > 0 {
+        let more = shown.more;
+        writeln!(out, "    and {more} more of the same text")?;
+    }
+    Ok(())
 }
 
 // Writes what is shown of a text, in one line, with the found words marked.
@@ -140,7 +149,7 @@ fn write_flow<W: Write>(out: &mut W, text: &str) -> io::Result<()> {
             if !in_space {
                 out.write_all(b" ")?;
             }
-        } else if letter.is_control() {
+        } else if is_steering(letter) {
             out.write_all(b"?")?;
         } else {
             write!(out, "{letter}")?;
@@ -154,6 +163,7 @@ fn write_flow<W: Write>(out: &mut W, text: &str) -> io::Result<()> {
 /// letters of the text from where and up to where it stands.
 pub fn write_json<W: Write>(alloc: Global, out: &mut W, shown: &Shown<'_>) -> io::Result<()> {
     let text = json_line(alloc, shown)?;
+    let text = EscapedJson(text.as_str());
     writeln!(out, "{text}")
 }
 
@@ -164,12 +174,14 @@ fn json_line(alloc: Global, shown: &Shown<'_>) -> Result<String, AllocError> {
         line,
         score,
         text,
+        more,
         ..
     } = shown;
-    let (path, line, score, text) = (*path, *line, *score, text.as_str());
-    json!(in alloc; {"path": path, "line": line, "score": score, "text": text, "found": marks})?.to_string(
-        alloc,
-    )
+    let (path, line, score, text, more) = (*path, *line, *score, text.as_str(), *more);
+    let told = json!(in alloc; {
+        "path": path, "line": line, "score": score, "text": text, "found": marks, "more": more
+    })?;
+    told.to_string(alloc)
 }
 
 // Each mark as two numbers of letters.

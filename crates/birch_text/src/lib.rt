@@ -2,22 +2,41 @@
 //! document has, and what a person asks for.
 #![tactic(auto)]
 
+mod accents;
 mod clause;
+mod cleaned;
+mod decoded;
+mod file_types;
 mod glob;
 mod lines;
 mod marks;
+mod named_words;
+mod part_places;
 mod passage;
+mod path_rules;
 mod query;
+mod query_fault;
+mod query_tree;
+mod row_places;
+mod rows;
 mod snippet;
 mod tables;
 mod words;
 
-pub use clause::{Clause, Sign};
-pub use glob::is_glob_match;
+pub use accents::Accents;
+pub use clause::{Clause, Scope};
+pub use cleaned::{Cleaned, EscapedJson, is_steering};
+pub use decoded::{Decoded, decode};
+pub use file_types::{FILE_TYPES, is_of_type};
 pub use lines::{add_lines, add_paragraphs};
 pub use marks::{Mark, Marker};
+pub use named_words::{FIELD_END, add_named_words, named_word, split_named};
 pub use passage::{Form, Passages, Place, add_passages, text_at};
-pub use query::{QueryFault, read_query};
+pub use path_rules::{PathRules, PatternError, Sense};
+pub use query::{QueryFields, read_query};
+pub use query_fault::{Fault, QueryFault};
+pub use query_tree::QueryTree;
+pub use rows::{Row, RowField};
 pub use snippet::{Snippet, snippet_of};
 pub use tables::column_in;
-pub use words::{add_words, name_words};
+pub use words::WordReader;

@@ -1,7 +1,8 @@
 //! Which words of a text were asked for.
 
-use crate::clause::{Clause, Sign};
-use crate::words::fold;
+use crate::accents::Accents;
+use crate::clause::{Clause, Scope};
+use crate::words::{WordReader, is_between};
 use std::alloc::{AllocError, Global};
 use unicode_segmentation::UnicodeSegmentation;
 
@@ -17,24 +18,35 @@ pub struct Mark {
 /// Finds the words that a query asks for.
 #[derive(Drop)]
 pub struct Marker<'a> {
+    accents: Accents,
+    // in order
     words: Vec<&'a str>,
+    // in order, and none begins with another
     beginnings: Vec<&'a str>,
 }
 
 impl<'a> Marker<'a> {
-    /// Of the words of all clauses that a document may or must have.
+    /// Of the words of these clauses, but those of files' names. Those of a field are marked in all of the text. Costs what
+    /// it takes to sort them.
     ///
     /// Refused for want of memory alone.
-    pub fn new(alloc: Global, clauses: &'a [Clause]) -> Result<Marker<'a>, AllocError> {
+    pub fn new(
+        alloc: Global,
+        accents: Accents,
+        clauses: &[&'a Clause],
+    ) -> Result<Marker<'a>, AllocError> {
         let mut marker = Marker {
+            accents,
             words: Vec::new(alloc),
             beginnings: Vec::new(alloc),
         };
         for clause in clauses {
-            if clause.sign != Sign::Not && !clause.is_of_name {
-                marker.add(clause)?;
+            match clause.scope {
+                Scope::FileName => {}
+                Scope::Text | Scope::Field(_) => marker.add(clause)?,
             }
         }
+        marker.put_in_order();
         Ok(marker)
     }
 
@@ -51,29 +63,52 @@ impl<'a> Marker<'a> {
         Ok(())
     }
 
-    /// The words of a text that were asked for, in order. Costs the text's length times the number of
-    /// words.
+    // Puts the words in order, and leaves out each beginning that begins with another.
+    fn put_in_order(&mut self) {
+        self.words.sort_unstable();
+        self.beginnings.sort_unstable();
+        let mut last: Option<&'a str> = None;
+        self.beginnings.retain(|begin| match last {
+            Some(other) if begin.starts_with(other) => false,
+            _ => {
+                last = Some(*begin);
+                true
+            }
+        });
+    }
+
+    /// The words of a text that were asked for, in order. Costs the text's length times the logarithm of how many words
+    /// were.
     ///
     /// Refused for want of memory alone.
     pub fn marks(&self, alloc: Global, text: &str) -> Result<Vec<Mark>, AllocError> {
         let mut marks = Vec::new(alloc);
+        let mut reader = WordReader::new(alloc, self.accents);
         let mut folded = String::new(alloc);
-        for (start, word) in text.unicode_word_indices() {
-            fold(&mut folded, word)?;
-            if self.is_wanted(folded.as_str()) {
-                let end = start.saturating_add(word.len());
-                marks.push(Mark { start, end })?;
+        for (first, word) in text.unicode_word_indices() {
+            let mut start = first;
+            for part in word.split_inclusive(is_between) {
+                let piece = part.trim_end_matches(is_between);
+                reader.fold(&mut folded, piece)?;
+                if self.is_wanted(folded.as_str()) {
+                    let end = start.saturating_add(piece.len());
+                    marks.push(Mark { start, end })?;
+                }
+                start = start.saturating_add(part.len());
             }
         }
         Ok(marks)
     }
 
-    // Whether a folded word was asked for.
+    // Whether a folded word was asked for. If it begins with one of the beginnings, that is the last one that doesn't
+    // come behind it: one between the two would begin so too.
     fn is_wanted(&self, folded: &str) -> bool {
-        self.words.iter().any(|word| *word == folded)
+        let before = self.beginnings.partition_point(|begin| *begin <= folded);
+        let last = self.beginnings.get(before.saturating_sub(1));
+        last.is_some_and(|begin| folded.starts_with(*begin))
             || self
-                .beginnings
-                .iter()
-                .any(|begin| folded.starts_with(*begin))
+                .words
+                .binary_search_by(|word| (*word).cmp(folded))
+                .is_ok()
     }
 }

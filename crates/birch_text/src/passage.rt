@@ -1,6 +1,8 @@
 //! Documents as they stand in a file.
 
 use crate::lines::{add_lines, add_paragraphs};
+use crate::query::QueryFields;
+use crate::rows::{Row, add_csv_rows, add_json_rows, csv_row_text, json_row_text};
 use crate::tables::{add_csv, add_json, csv_text, json_text};
 use anyhow::Result;
 use std::alloc::{AllocError, Global};
@@ -16,6 +18,20 @@ pub enum Form<'a> {
     Csv(&'a str),
     /// The text under this key, in each line.
     Json(&'a str),
+    /// Each row of a table, with its columns as fields.
+    CsvFields,
+    /// Each line of JSON, with what stands in it as fields.
+    JsonFields,
+}
+
+impl<'a> Form<'a> {
+    /// Which fields a query may name.
+    pub fn fields(&self) -> QueryFields {
+        match self {
+            Form::CsvFields | Form::JsonFields => QueryFields::Any,
+            _ => QueryFields::FileName,
+        }
+    }
 }
 
 /// Where a document stands in its file.
@@ -34,13 +50,16 @@ pub trait Passages {
     /// Takes a document: its text, and where it stands.
     fn add(&mut self, text: &str, place: Place) -> Result<()>;
 
+    /// Takes a document of several fields, and where it stands.
+    fn add_row(&mut self, row: &Row, place: Place) -> Result<()>;
+
     /// Hears of a row that is none, as of a line that is no JSON.
     fn leave_out(&mut self, line: u32);
 }
 
 /// Hands over all documents of a file's text.
 ///
-/// Refused as a call of [`Passages::add`] is, for want of memory, and where a table has no such column.
+/// Refused as a call of [`Passages::add`] or [`Passages::add_row`] is, for want of memory, and where a table has no such column.
 pub fn add_passages<P: Passages>(
     alloc: Global,
     form: Form<'_>,
@@ -52,6 +71,8 @@ pub fn add_passages<P: Passages>(
         Form::Lines => add_lines(text, passages),
         Form::Csv(column) => add_csv(alloc, column, text, passages),
         Form::Json(key) => add_json(alloc, key, text, passages),
+        Form::CsvFields => add_csv_rows(alloc, text, passages),
+        Form::JsonFields => add_json_rows(alloc, text, passages),
     }
 }
 
@@ -69,5 +90,7 @@ pub fn text_at(
         Form::Paragraphs | Form::Lines => String::from_str(alloc, piece),
         Form::Csv(_) => csv_text(alloc, column, piece),
         Form::Json(key) => json_text(alloc, key, piece),
+        Form::CsvFields => csv_row_text(alloc, piece),
+        Form::JsonFields => json_row_text(alloc, piece),
     }
 }

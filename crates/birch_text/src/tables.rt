@@ -2,6 +2,8 @@
 
 use crate::lines::line_at;
 use crate::passage::{Passages, Place};
+use crate::row_places::RowPlaces;
+use crate::rows::is_memory;
 use anyhow::{Result, anyhow, bail};
 use csv::{ReaderBuilder, StringRecord};
 use serde_json::Value;
@@ -26,27 +28,28 @@ pub(crate) fn add_csv<P: Passages>(
     let Some(column) = column_in(alloc, text, column)? else {
         bail!("no column is called {column}");
     };
+    let mut places = RowPlaces::new(text);
     for turn in 0..u64::MAX {
-        let from = reader.position();
+        let from = reader.position().byte();
         let found = reader.read_record(&mut row);
-        let start = usize::try_from(from.byte())?;
-        let end = usize::try_from(reader.position().byte())?;
-        let line = u32::try_from(from.line()).unwrap_or(u32::MAX);
-        let len = end.saturating_sub(start);
+        let place = places.next_place(from, reader.position().byte())?;
         match found {
             Ok(false) => return Ok(()),
             Ok(true) if turn == 0 => {}
             Ok(true) => match row.get(column) {
-                Some(field) => passages.add(field, Place { line, start, len })?,
-                None => passages.leave_out(line),
+                Some(field) => passages.add(field, place)?,
+                None => passages.leave_out(place.line),
             },
-            Err(_) => passages.leave_out(line),
+            Err(error) if is_memory(&error) => return Err(AllocError.into()),
+            Err(_) => passages.leave_out(place.line),
         }
     }
     Ok(())
 }
 
 /// Which column of a table's head has that name.
+///
+/// Refused where the head can't be read, and for want of memory.
 pub fn column_in(alloc: Global, text: &str, name: &str) -> Result<Option<usize>> {
     let mut reader = ReaderBuilder::new()
         .flexible(true)
@@ -55,6 +58,7 @@ pub fn column_in(alloc: Global, text: &str, name: &str) -> Result<Option<usize>>
     let mut row = StringRecord::new(alloc);
     match reader.read_record(&mut row) {
         Ok(_) => Ok(row.iter().position(|field| field == name)),
+        Err(error) if is_memory(&error) => Err(AllocError.into()),
         Err(_) => Err(anyhow!("its first row can't be read")),
     }
 }
@@ -66,9 +70,11 @@ pub(crate) fn csv_text(alloc: Global, column: usize, piece: &str) -> Result<Stri
         .has_headers(false)
         .from_reader(alloc, piece.as_bytes());
     let mut row = StringRecord::new(alloc);
-    let found = reader.read_record(&mut row).unwrap_or(false);
-    let field = if found { row.get(column) } else { None };
-    String::from_str(alloc, field.unwrap_or(""))
+    match reader.read_record(&mut row) {
+        Ok(true) => String::from_str(alloc, row.get(column).unwrap_or("")),
+        Err(error) if is_memory(&error) => Err(AllocError),
+        _ => Ok(String::new(alloc)),
+    }
 }
 
 /// Hands over the text under that key of each line. A line that is no JSON, or has no text there, is left
@@ -107,17 +113,15 @@ fn add_json_line<P: Passages>(
     place: Place,
     passages: &mut P,
 ) -> Result<()> {
-    let Ok(value) = Value::from_str(alloc, line) else {
-        passages.leave_out(place.line);
-        return Ok(());
-    };
-    match value.get(key).and_then(Value::as_str) {
-        Some(text) => passages.add(text, place),
-        None => {
-            passages.leave_out(place.line);
-            Ok(())
-        }
+    match Value::from_str(alloc, line) {
+        Ok(value) => match value.get(key).and_then(Value::as_str) {
+            Some(text) => passages.add(text, place)?,
+            None => passages.leave_out(place.line),
+        },
+        Err(error) if error.is_memory() => return Err(AllocError.into()),
+        Err(_) => passages.leave_out(place.line),
     }
+    Ok(())
 }
 
 // The text under the key of a line.
@@ -127,6 +131,7 @@ pub(crate) fn json_text(alloc: Global, key: &str, piece: &str) -> Result<String,
             let text = value.get(key).and_then(Value::as_str);
             String::from_str(alloc, text.unwrap_or(""))
         }
+        Err(error) if error.is_memory() => Err(AllocError),
         Err(_) => Ok(String::new(alloc)),
     }
 }

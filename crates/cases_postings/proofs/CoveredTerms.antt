@@ -1,8 +1,8 @@
 -- Readers that have a length id for each document cover terms.
-use Rattle.std.proofs.Common.{◌≡◌, ℕ, ◌<◌, ◌≤◌, List, All, length, map, get_or, replicate, ap, arith, subst, sym, ◌∙◌}
+use Rattle.std.proofs.Common.{◌≡◌, ℕ, ◌≤◌, All, length, get_or, replicate, ap, arith, subst, sym, ◌∙◌}
 use Rattle.std.proofs.lemmas.List.{length-map, length-replicate}
 use Rattle.std.proofs.lemmas.List.Elements.{All-map}
-use Rattle.qm_docset.specs.Entry.{AreEntries, Entry}
+use Rattle.qm_docset.specs.Entry.{AreEntries}
 use Rattle.qm_docset.specs.Lists.{lists}
 use Rattle.qm_docset.specs.declared.docset.DocSet.{Ghosts}
 use Rattle.qm_docset.specs.declared.numbers.TheConstants.{TERMINATED}

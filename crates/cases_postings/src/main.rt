@@ -5,6 +5,7 @@
 mod bench;
 mod blocks;
 mod borrowed;
+mod built_rows;
 mod cursor;
 mod explained;
 mod given;

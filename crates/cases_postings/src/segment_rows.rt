@@ -31,7 +31,7 @@ impl Asker for Bench {
                 ask_documents(alloc, &self.segment, &words, memory, text)
             }
             "length" | "lengths" | "is_constant" => ask_lengths(alloc, self, &words, memory, text),
-            "rows" | "columns" | "shape" | "copies" | "again" => {
+            "rows" | "columns" | "shape" | "copies" | "pieces" | "again" | "built" => {
                 ask_rows(alloc, self, &words, memory, text)
             }
             "range" => write_range(alloc, self, &words, memory, text),

@@ -1,6 +1,7 @@
 //! Rows of terms that are given by hand, and those of a segment.
 
 use crate::bench::Bench;
+use crate::built_rows::{built_again, row_again};
 use crate::given::alive_of;
 use crate::offered::write_numbers;
 use crate::spelled::{cut, read_field, read_number, read_numbers, read_term, write_bytes};
@@ -178,7 +179,7 @@ fn tell(
     }
 }
 
-/// Rows on a segment's rows: `rows`, `row PLACE FREQUENCY_PLACE`, `columns FIELD`, `shape`, `copies` and `again`.
+/// Rows on a segment's rows: `rows`, `columns FIELD`, `shape`, `copies`, `pieces`, `again` and `built`.
 pub fn ask_rows(
     alloc: Global,
     bench: &mut Bench,
@@ -193,6 +194,8 @@ pub fn ask_rows(
             write_column(alloc, &bench.segment, field, memory, text)
         }
         "shape" => write_shape(alloc, &bench.segment, memory, text),
+        "pieces" => Ok(write!(text, "{}", pieces(alloc, &bench.segment, memory)?)?),
+        "built" => make_built(alloc, bench, memory, text),
         "copies" => Ok(write!(text, "{}", copies(alloc, &bench.segment, memory)?.len())?),
         _ => make_again(alloc, bench, memory, text),
     }
@@ -309,11 +312,47 @@ fn make_again(
         rows,
     );
     end_refusals(alloc);
+    set_made(alloc, bench, made, text)
+}
+
+// The same, of rows that are put together posting by posting.
+fn make_built(
+    alloc: Global,
+    bench: &mut Bench,
+    memory: Memory,
+    text: &mut String,
+) -> Result<(), Fault> {
+    let lengths = all_columns(alloc, &bench.segment)?;
+    memory.begin(alloc);
+    let made = built_again(alloc, &bench.segment, lengths);
+    end_refusals(alloc);
+    set_made(alloc, bench, made, text)
+}
+
+// Tells whether rows made a segment, which stands for the given one from then on.
+fn set_made(
+    alloc: Global,
+    bench: &mut Bench,
+    made: Result<SegmentReader, RowsError>,
+    text: &mut String,
+) -> Result<(), Fault> {
     if let Some(segment) = tell(made, text)? {
         bench.alive = alive_of(alloc, &segment)?;
         bench.segment = segment;
     }
     Ok(())
+}
+
+// How many postings all rows have, each put together anew. Where requests for memory are refused, they are those of these.
+fn pieces(alloc: Global, segment: &SegmentReader, memory: Memory) -> Result<usize, Fault> {
+    let mut count: usize = 0;
+    for place in 0..segment.row_count() {
+        memory.begin(alloc);
+        let row = row_again(alloc, &segment.row(place));
+        end_refusals(alloc);
+        count = count.saturating_add(row?.frequencies.len());
+    }
+    Ok(count)
 }
 
 fn all_columns(alloc: Global, segment: &SegmentReader) -> Result<Vec<Vec<u8>>, AllocError> {

@@ -3,14 +3,14 @@ use Rattle.std.proofs.Common.{◌≡◌, ℕ, zero, suc, ◌+◌, ◌-◌, ◌*�
 use Rattle.std.proofs.Common.{drop, min, sym, ap, refl, subst, ◌∙◌, arith, inl, inr, length-drop}
 use Rattle.std.specs.Prelude.{nat_lt}
 use Rattle.std.specs.List.{flat_map, fold}
-use Rattle.std.proofs.Math.Nat.{mul-le-mul_right}
 use Rattle.std.proofs.Math.Seq.{drop-append-add, take-append_seam}
 use Rattle.std.proofs.lemmas.Bool.{cases_lt, le-ltb, lt-ltb}
-use Rattle.std.proofs.lemmas.List.{append-nil, append_assoc, get_or-map, get_or_default, length-map, take-map, take_all}
+use Rattle.std.proofs.lemmas.List.{append-nil, append_assoc, get_or-map, get_or_default, length-map, length-take, take-map, take_all}
 use Rattle.std.proofs.lemmas.List.Concat.{flat_map-cons}
 use Rattle.std.proofs.lemmas.List.Sums.{fold_more, sum_by-le}
-use Rattle.qm_postings.specs.Kept.{end_of, least, least_id, piece}
+use Rattle.qm_postings.specs.Kept.{end_of, greatest, least, least_id, piece}
 use Rattle.qm_postings.proofs.BlockLemmas.{end_inside, end_last, more_block}
+use Rattle.qm_postings.proofs.FrequencyParts.{each-most}
 use Rattle.qm_postings.proofs.PositionSums.{sum-between}
 use Rattle.qm_docset.specs.declared.numbers.TheConstants.{TERMINATED}
 
@@ -58,12 +58,12 @@ end_before_place bl b ds =
 
 -- ---- the sums of frequencies
 
--- no more 32-bit numbers than 32 bits can count add up to no more than 64 bits can
-pub sum_fits : (fs : List ℕ) → ((i : ℕ) → get_or fs i 0 ≤ 4294967295) → length fs ≤ 4294967295 → sum fs ≤ 18446744073709551615
-sum_fits fs each few =
-    let total = sum_by-le (λ x. x) 4294967295 fs (λ k d l. subst (λ x. x ≤ 4294967295) (get_or_default fs k 0 d l) (each k)) in
-    let up : length fs * 4294967295 ≤ 4294967295 * 4294967295 = mul-le-mul_right 4294967295 few in
-    omega arith
+-- the sum of 32-bit numbers, and of those of a range behind them
+pub sum-fits-more : (total start end : ℕ) (fs part : List ℕ) → total ≤ start * 4294967295 → part ≡ take (end - start) (drop start fs) →
+    start ≤ end → end ≤ length fs → greatest part ≤ 4294967295 → total + sum part ≤ end * 4294967295
+sum-fits-more total start end fs part before is forwards within most =
+    let own = sum_by-le (λ x. x) 4294967295 part (λ k d l. subst (λ x. x ≤ 4294967295) (get_or_default part k 0 d l) (omega (arith, each-most part k, most))) in
+    omega (arith, own, before, ap length is ∙ length-take (end - start) (drop start fs), length-drop start fs)
 
 -- the sum up to a block and that of the block come to the sum up to the next
 pub sum-more : (bl b : ℕ) (fs : List ℕ) → b * bl ≤ length fs → sum (take (b * bl) fs) + sum (piece bl b fs) ≡ sum (take ((b + 1) * bl) fs)

@@ -6,7 +6,7 @@ use Rattle.std.specs.List.Sorted.{IsStrictlySortedBy}
 use Rattle.std.proofs.Math.Seq.{drop-append_seam, take-append_seam}
 use Rattle.std.proofs.lemmas.List.{append-nil, append_assoc, length-append, length-drop, length-take}
 use Rattle.std.proofs.lemmas.List.Concat.{flat_map-cons}
-use Rattle.std.proofs.lemmas.List.Elements.{All-nil, All-cons, All-head, All-tail}
+use Rattle.std.proofs.lemmas.List.Elements.{All-nil, All-cons, All-head, All-tail, All-weaker}
 use Rattle.std.proofs.lemmas.List.Sums.{sum_by-cons}
 use Rattle.std.proofs.lemmas.Grind.{flat_map-append}
 use Rattle.qm_docset.specs.Documents.{AreDocuments}
@@ -23,7 +23,7 @@ use Rattle.qm_postings.specs.Stored.{stored_entries}
 use Rattle.qm_postings.specs.StoredFacts.{All-no_positions, stored-cons, stored-nil}
 use Rattle.qm_postings.specs.declared.freq_reading_option.FreqReadingOption.{FreqReadingOption}
 use Rattle.qm_postings.proofs.DeletedDocuments.{none-left_out}
-use Rattle.qm_postings.proofs.NumberedPostings.{ascend-documents, ascend_few}
+use Rattle.qm_postings.proofs.NumberedPostings.{ascend-documents}
 
 -- ---- one row more
 
@@ -90,13 +90,13 @@ stored-places reading (d ∷ ds) (f ∷ fs) ps paired whole each =
 -- ---- a row in the arrays
 
 -- the range of a row shows it, and lies within the arrays
-record StandsIn (ds fs ps : List ℕ) (row : Row) (r : PostingsRange) : Type 0 where
-  row_is : row_in ds fs ps r ≡ row
-  count : r.count ≡ length row.documents
-  most : r.most ≡ greatest row.frequencies
-  positions_count : r.positions_count ≡ length row.positions
-  within : r.start + r.count ≤ length ds
-  positions_within : r.positions_start + r.positions_count ≤ length ps
+pub record StandsIn (ds fs ps : List ℕ) (row : Row) (r : PostingsRange) : Type 0 where
+  pub row_is : row_in ds fs ps r ≡ row
+  pub count : r.count ≡ length row.documents
+  pub most : r.most ≡ greatest row.frequencies
+  pub positions_count : r.positions_count ≡ length row.positions
+  pub within : r.start + r.count ≤ length ds
+  pub positions_within : r.positions_start + r.positions_count ≤ length ps
 
 piece : (before own after : List ℕ) → take (length own) (drop (length before) (before ++ (own ++ after))) ≡ own
 piece before own after = ap (take (length own)) (drop-append_seam before (own ++ after)) ∙ take-append_seam own after
@@ -104,7 +104,7 @@ piece before own after = ap (take (length own)) (drop-append_seam before (own ++
 piece-ends : (before own after : List ℕ) → length before + length own ≤ length (before ++ (own ++ after))
 piece-ends before own after = omega (arith, length-append before (own ++ after), length-append own after)
 
-module _ (schema : List FieldFacts) (count : ℕ) (ds fs ps : List ℕ) where
+module _ (Own : Row → Type 0) (pairs : (r : Row) → Own r → length r.frequencies ≡ length r.documents) (ds fs ps : List ℕ) where
   -- the first of the rows that are left, behind those before it
   stands : (r : Row) (rows : List Row) (ds_before fs_before ps_before : List ℕ) → length fs_before ≡ length ds_before →
       length r.frequencies ≡ length r.documents → ds ≡ ds_before ++ all_documents (r ∷ rows) → fs ≡ fs_before ++ all_frequencies (r ∷ rows) →
@@ -129,38 +129,38 @@ module _ (schema : List FieldFacts) (count : ℕ) (ds fs ps : List ℕ) where
       }
 
   -- what holds of a range that shows a row holds of all
-  module _ (P : PostingsRange → Type 0) (step : (row : Row) (r : PostingsRange) → IsRow schema count row → StandsIn ds fs ps row r → P r) where
+  module _ (P : PostingsRange → Type 0) (step : (row : Row) (r : PostingsRange) → Own row → StandsIn ds fs ps row r → P r) where
     each-range : (rows : List Row) (ds_before fs_before ps_before : List ℕ) → length fs_before ≡ length ds_before →
         ds ≡ ds_before ++ all_documents rows → fs ≡ fs_before ++ all_frequencies rows → ps ≡ ps_before ++ all_positions rows →
-        All (IsRow schema count) rows → All P (ranges_from (length ds_before) (length ps_before) rows)
+        All Own rows → All P (ranges_from (length ds_before) (length ps_before) rows)
     each-range [] ds_before fs_before ps_before level is_ds is_fs is_ps each = All-nil P
     each-range (r ∷ rows) ds_before fs_before ps_before level is_ds is_fs is_ps each =
-        let own = All-head (IsRow schema count) r rows each in
+        let own = All-head Own r rows each in
         let Rest : ℕ → ℕ → Type 0 = λ a b. All P (ranges_from a b rows) in
         let next = λ (f : Row → List ℕ) (before : List ℕ).
         ap (λ l. before ++ l) (flat_map-cons f r rows) ∙ sym (append_assoc before (f r) (flat_map f rows)) in
         let rest = each-range rows (ds_before ++ r.documents) (fs_before ++ r.frequencies) (ps_before ++ r.positions)
-        (omega (arith, level, own.paired, length-append fs_before r.frequencies, length-append ds_before r.documents))
+        (omega (arith, level, pairs r own, length-append fs_before r.frequencies, length-append ds_before r.documents))
         (is_ds ∙ next (λ r. r.documents) ds_before) (is_fs ∙ next (λ r. r.frequencies) fs_before) (is_ps ∙ next (λ r. r.positions) ps_before)
-        (All-tail (IsRow schema count) r rows each) in
+        (All-tail Own r rows each) in
         All-cons P (range_of (length ds_before) (length ps_before) r) _
-        (step r _ own (stands r rows ds_before fs_before ps_before level own.paired is_ds is_fs is_ps))
+        (step r _ own (stands r rows ds_before fs_before ps_before level (pairs r own) is_ds is_fs is_ps))
         (subst (λ a. Rest a (length ps_before + length r.positions)) (length-append ds_before r.documents)
         (subst (Rest (length (ds_before ++ r.documents))) (length-append ps_before r.positions) rest))
 
   rows-from : (rows : List Row) (ds_before fs_before ps_before : List ℕ) → length fs_before ≡ length ds_before →
       ds ≡ ds_before ++ all_documents rows → fs ≡ fs_before ++ all_frequencies rows → ps ≡ ps_before ++ all_positions rows →
-      All (IsRow schema count) rows → rows_in (ranges_from (length ds_before) (length ps_before) rows) ds fs ps ≡ rows
+      All Own rows → rows_in (ranges_from (length ds_before) (length ps_before) rows) ds fs ps ≡ rows
   rows-from [] ds_before fs_before ps_before level is_ds is_fs is_ps each = refl
   rows-from (r ∷ rows) ds_before fs_before ps_before level is_ds is_fs is_ps each =
-      let own = All-head (IsRow schema count) r rows each in
+      let own = All-head Own r rows each in
       let next = λ (f : Row → List ℕ) (before : List ℕ).
       ap (λ l. before ++ l) (flat_map-cons f r rows) ∙ sym (append_assoc before (f r) (flat_map f rows)) in
       let rest = rows-from rows (ds_before ++ r.documents) (fs_before ++ r.frequencies) (ps_before ++ r.positions)
-      (omega (arith, level, own.paired, length-append fs_before r.frequencies, length-append ds_before r.documents))
+      (omega (arith, level, pairs r own, length-append fs_before r.frequencies, length-append ds_before r.documents))
       (is_ds ∙ next (λ r. r.documents) ds_before) (is_fs ∙ next (λ r. r.frequencies) fs_before) (is_ps ∙ next (λ r. r.positions) ps_before)
-      (All-tail (IsRow schema count) r rows each) in
-      let here = (stands r rows ds_before fs_before ps_before level own.paired is_ds is_fs is_ps).row_is in
+      (All-tail Own r rows each) in
+      let here = (stands r rows ds_before fs_before ps_before level (pairs r own) is_ds is_fs is_ps).row_is in
       (λ i. here i ∷ rows_in
       (ranges_from (sym (length-append ds_before r.documents) i) (sym (length-append ps_before r.positions) i) rows) ds fs ps)
       ∙ ap (λ l. r ∷ l) rest
@@ -177,15 +177,13 @@ terms-from : (start at : ℕ) (rows : List Row) → map (λ r. r.term) (ranges_f
 terms-from start at [] = refl
 terms-from start at (r ∷ rows) = ap (λ l. r.term ∷ l) (terms-from (start + length r.documents) (at + length r.positions) rows)
 
-all-paired : (schema : List FieldFacts) (count : ℕ) (rows : List Row) → All (IsRow schema count) rows →
-    length (all_frequencies rows) ≡ length (all_documents rows)
-all-paired schema count [] each = refl
-all-paired schema count (r ∷ rows) each =
-    let own = All-head (IsRow schema count) r rows each in
+all-paired : (rows : List Row) → All (λ r. length r.frequencies ≡ length r.documents) rows → length (all_frequencies rows) ≡ length (all_documents rows)
+all-paired [] each = refl
+all-paired (r ∷ rows) each =
     omega (
       arith,
-      own.paired,
-      all-paired schema count rows (All-tail (IsRow schema count) r rows each),
+      All-head (λ (r : Row). length r.frequencies ≡ length r.documents) r rows each,
+      all-paired rows (All-tail (λ (r : Row). length r.frequencies ≡ length r.documents) r rows each),
       ap length (flat_map-cons (λ (r : Row). r.frequencies) r rows) ∙ length-append r.frequencies (all_frequencies rows),
       ap length (flat_map-cons (λ (r : Row). r.documents) r rows) ∙ length-append r.documents (all_documents rows),
     )
@@ -200,18 +198,27 @@ last-below low n (x ∷ y ∷ xs) ascend last =
     let next = All-head (λ d. d < n) y xs rest in
     All-cons (λ d. d < n) x (y ∷ xs) (omega (arith, next, ascend.2.0)) rest
 
--- ---- rows that may be those of a segment, in arrays that have them end to end
+-- ---- rows in arrays that have them end to end
+module _ (Own : Row → Type 0) (pairs : (r : Row) → Own r → length r.frequencies ≡ length r.documents) (rows : List Row) (ranges : List PostingsRange)
+    (ds fs ps : List ℕ) (own : All Own rows) (laid : AreLaidEndToEnd rows ranges ds fs ps) where
+  pub all-ranges : (P : PostingsRange → Type 0) → ((row : Row) (r : PostingsRange) → Own row → StandsIn ds fs ps row r → P r) → All P ranges
+  all-ranges P step =
+      subst (All P) (sym laid.ranges_are)
+      (each-range Own pairs ds fs ps P step rows [] [] [] refl laid.documents_are laid.frequencies_are laid.positions_are own)
+
+  pub rows-shown : rows_in ranges ds fs ps ≡ rows
+  rows-shown =
+      ap (λ rs. rows_in rs ds fs ps) laid.ranges_are
+      ∙ rows-from Own pairs ds fs ps rows [] [] [] refl laid.documents_are laid.frequencies_are laid.positions_are own
+
+-- ---- rows that may be those of a segment
 module _ (schema : List FieldFacts) (count : ℕ) (rows : List Row) (ranges : List PostingsRange) (ds fs ps : List ℕ)
     (few : count ≤ 2147483647) (are : AreRows schema count rows) (laid : AreLaidEndToEnd rows ranges ds fs ps) where
   each : (P : PostingsRange → Type 0) → ((row : Row) (r : PostingsRange) → IsRow schema count row → StandsIn ds fs ps row r → P r) → All P ranges
-  each P step =
-      subst (All P) (sym laid.ranges_are)
-      (each-range schema count ds fs ps P step rows [] [] [] refl laid.documents_are laid.frequencies_are laid.positions_are are.each)
+  each = all-ranges (IsRow schema count) (λ r own. own.paired) rows ranges ds fs ps are.each laid
 
-  pub rows-laid : rows_in ranges ds fs ps ≡ rows
-  rows-laid =
-      ap (λ rs. rows_in rs ds fs ps) laid.ranges_are
-      ∙ rows-from schema count ds fs ps rows [] [] [] refl laid.documents_are laid.frequencies_are laid.positions_are are.each
+  rows-laid : rows_in ranges ds fs ps ≡ rows
+  rows-laid = rows-shown (IsRow schema count) (λ r own. own.paired) rows ranges ds fs ps are.each laid
 
   pub terms-laid : map (λ r. r.term) ranges ≡ map (λ r. r.term) rows
   terms-laid = ap (map (λ r. r.term)) laid.ranges_are ∙ terms-from 0 0 rows
@@ -232,7 +239,9 @@ module _ (schema : List FieldFacts) (count : ℕ) (rows : List Row) (ranges : Li
   pub index-laid : IsIndex count ranges ds fs
   index-laid = record {
     terms = subst (IsStrictlySortedBy term_cmp) (sym terms-laid) are.terms;
-    paired = ap length laid.frequencies_are ∙ all-paired schema count rows are.each ∙ sym (ap length laid.documents_are);
+    paired = ap length laid.frequencies_are
+        ∙ all-paired rows (All-weaker (IsRow schema count) (λ (r : Row). length r.frequencies ≡ length r.documents) (λ r own. own.paired) rows are.each)
+        ∙ sym (ap length laid.documents_are);
     within = each (λ r. r.start + r.count ≤ length ds) (λ row r own stands. stands.within);
     used = each (λ r. 0 < r.count) (λ row r own stands. omega (arith, own.some, stands.count));
     most = each (λ r. r.most ≡ greatest (in_range r fs)) (λ row r own stands. stands.most ∙ ap greatest (frequencies-of row r stands));
@@ -281,7 +290,3 @@ module _ (schema : List FieldFacts) (count : ℕ) (rows : List Row) (ranges : Li
         terms = terms-laid i;
         rows = rows-laid i;
       }
-
--- a row has no more documents than there may be
-pub few-documents : (schema : List FieldFacts) (count : ℕ) → count ≤ 2147483647 → (row : Row) → IsRow schema count row → length row.documents ≤ 2147483647
-few-documents schema count few row is = omega (arith, few, ascend_few 0 count row.documents (omega arith) is.ascending is.below)

@@ -3,6 +3,8 @@ pub mod PostingsLeft
 pub mod PositionSums
 pub mod TextWords
 pub mod Weights
+pub mod BuiltRows
+pub mod RowChecks
 pub mod FoundTerms
 pub mod LengthsKept
 pub mod HeldTerms

@@ -12,12 +12,12 @@ abbrev pub terms_of_rows : List Row → List TermKey
 terms_of_rows rows = map (λ r. r.term) rows
 
 module _ (rows : List Row) (i : ℕ) (before row : Row) (up : 0 < i) (within : i < length rows)
-    (is_before : before ≡ get_or rows (i - 1) before) (is_row : row ≡ get_or rows i row) where
+    (is_before : before ≡ get_or rows (i - 1) no_row) (is_row : row ≡ get_or rows i no_row) where
   before-is : (d : TermKey) → get_or (terms_of_rows rows) (i - 1) d ≡ before.term
-  before-is d = get_or-map (λ (r : Row). r.term) rows (i - 1) before d (omega (arith, up, within)) ∙ ap (λ (r : Row). r.term) (sym is_before)
+  before-is d = get_or-map (λ (r : Row). r.term) rows (i - 1) no_row d (omega (arith, up, within)) ∙ ap (λ (r : Row). r.term) (sym is_before)
 
   row-is : (d : TermKey) → get_or (terms_of_rows rows) i d ≡ row.term
-  row-is d = get_or-map (λ (r : Row). r.term) rows i row d within ∙ ap (λ (r : Row). r.term) (sym is_row)
+  row-is d = get_or-map (λ (r : Row). r.term) rows i no_row d within ∙ ap (λ (r : Row). r.term) (sym is_row)
 
   pub ascend-next : term_cmp before.term row.term ≡ Less → AllAdjacentBelow (λ s t. term_cmp s t ≡ Less) (terms_of_rows rows) i →
       AllAdjacentBelow (λ s t. term_cmp s t ≡ Less) (terms_of_rows rows) (i + 1)

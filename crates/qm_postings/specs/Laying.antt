@@ -5,7 +5,7 @@ use Rattle.qm_docset.specs.declared.alive_bitset.AliveBitSet.{AliveBitSet}
 use Rattle.qm_schema.specs.Schema.{FieldFacts}
 use Rattle.qm_postings.specs.Kept.{HavePositions, IsIndex, PostingsRange, greatest}
 use Rattle.qm_postings.specs.Reading.{Reader, reader_of_arrays}
-use Rattle.qm_postings.specs.Rows.{Row}
+use Rattle.qm_postings.specs.Rows.{Row, rows_in}
 use Rattle.qm_postings.specs.declared.index_arrays.IndexArrays.{IndexArrays}
 
 -- the range of a row, from a place of the postings and a place of the positions on
@@ -54,23 +54,35 @@ pub record IsRowBehind (r : Row) (ranges : List PostingsRange) (ds fs ps : List 
 
 -- the arrays are those of the rows
 abbrev pub AreArraysOf : List Row → IndexArrays → Type 0
-AreArraysOf rows a = AreLaidEndToEnd rows a.terms.items a.documents.items a.frequencies.items a.positions.items
+AreArraysOf rows a = AreLaidEndToEnd rows a.terms.items a.documents.items a.frequencies a.positions.items
 
--- they have one row more, behind the others
-abbrev pub HaveBehind : Row → IndexArrays → IndexArrays → Type 0
-HaveBehind r before after =
-    IsRowBehind r before.terms.items before.documents.items before.frequencies.items before.positions.items
-    after.terms.items after.documents.items after.frequencies.items after.positions.items
+-- the rows that the ranges show
+abbrev pub rows_of : IndexArrays → List Row
+rows_of a = rows_in a.terms.items a.documents.items a.frequencies a.positions.items
+
+-- they have the same in them, whatever room there is
+pub record HaveSameItems (before after : IndexArrays) : Type 0 where
+  pub terms : after.terms.items ≡ before.terms.items
+  pub documents : after.documents.items ≡ before.documents.items
+  pub frequencies : after.frequencies ≡ before.frequencies
+  pub positions : after.positions.items ≡ before.positions.items
+
+-- they have these more, behind the others
+pub record HaveMore (xs ys zs : List ℕ) (before after : IndexArrays) : Type 0 where
+  pub terms : after.terms.items ≡ before.terms.items
+  pub documents : after.documents.items ≡ before.documents.items ++ xs
+  pub frequencies : after.frequencies ≡ before.frequencies ++ ys
+  pub positions : after.positions.items ≡ before.positions.items ++ zs
 
 -- they are an index of so many documents
 abbrev pub AreIndex : ℕ → IndexArrays → Type 0
-AreIndex count a = IsIndex count a.terms.items a.documents.items a.frequencies.items
+AreIndex count a = IsIndex count a.terms.items a.documents.items a.frequencies
 
 -- their positions are as the fields keep them
 abbrev pub ArePositioned : List FieldFacts → IndexArrays → Type 0
-ArePositioned schema a = HavePositions schema a.terms.items a.documents.items a.frequencies.items a.positions.items
+ArePositioned schema a = HavePositions schema a.terms.items a.documents.items a.frequencies a.positions.items
 
 -- the reader that they make, by the set of alive documents
 abbrev pub reader_of : List FieldFacts → ℕ → IndexArrays → List (List ℕ) → Option AliveBitSet → ℕ → Reader
 reader_of schema block_len a columns alive count =
-    reader_of_arrays schema block_len a.terms.items a.documents.items a.frequencies.items a.positions.items columns alive count
+    reader_of_arrays schema block_len a.terms.items a.documents.items a.frequencies a.positions.items columns alive count

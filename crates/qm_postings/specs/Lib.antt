@@ -6,6 +6,7 @@ pub mod Rows
 pub mod LentRow
 pub mod Restriction
 pub mod Laying
+pub mod RowsSoFar
 pub mod LengthIds
 pub mod FieldNorms
 pub mod Reading

@@ -1,15 +1,16 @@
 //! The frequencies of postings.
 
-ghost use Rattle.std.specs.Prelude.{◌≡◌, ◌≤◌, ◌<◌, ◌+◌, ◌-◌, drop, length, slice_index, sum, take, IfOk, IfSome, IsOkUnless};
+ghost use Rattle.std.specs.Prelude.{◌≡◌, ◌≤◌, ◌<◌, ◌+◌, ◌-◌, ◌++◌, ◌∷◌, ◌↔◌, [], All, IsTrue, List, ℕ, drop, length, slice_index, sum, take, IfOk, IfSome, IsOkUnless, OnErr, OnOk};
+ghost use Rattle.qm_postings.specs.Kept.{greatest};
 ghost use Rattle.qm_postings.specs.Frequencies.{listed};
 
 use crate::term_arrays::sum_of;
 use qm_schema::QueryError;
-use std::alloc::Global;
+use std::alloc::{AllocError, Global};
 use std::marker::Model;
 
 /// How often terms stand in the documents of a row of postings. Where none of these numbers is over 255, as in
-/// most segments, each takes one byte, and else four.
+/// most segments, each takes one byte; else some take one, and the others four.
 ///
 /// Contracts see the list of them.
 #[derive(Debug, Drop)]
@@ -31,6 +32,87 @@ impl Model for Frequencies {
 }
 
 impl Frequencies {
+    // None yet.
+    pub(crate) fn empty(alloc: Global) -> Frequencies
+        ensures { result ≡ [] }
+    {
+        Frequencies {
+            small: Vec::new(alloc),
+            large: Vec::new(alloc),
+        }
+    }
+
+    // How many there are.
+    pub(crate) fn len(&self) -> usize
+        ensures { result ≡ length self.now }
+    {
+        self.small.len() + self.large.len()
+    }
+
+    // Makes room for so many more.
+    pub(crate) fn reserve(&mut self, count: usize) -> Result<(), AllocError>
+        ensures { self.new ≡ self.old }
+    {
+        if self.large.is_empty() {
+            self.small.reserve(count)
+        } else {
+            self.large.reserve(count)
+        }
+    }
+
+    // Adds one behind the others.
+    #[inline]
+    pub(crate) fn push(&mut self, frequency: u32) -> Result<(), AllocError>
+        ensures added { OnOk result (self.new ≡ self.old ++ frequency ∷ []) }
+        ensures unchanged { OnErr result (self.new ≡ self.old) }
+    {
+        if frequency <= 255 && self.large.is_empty() {
+            Ok(self.small.push(frequency as u8)?)
+        } else {
+            Ok(self.large.push(frequency)?)
+        }
+    }
+
+    // The frequency at a place.
+    #[inline]
+    pub(crate) fn at(&self, place: usize) -> u32
+        requires { place < length self.now }
+        ensures { result ≡ slice_index self.now place }
+    {
+        self.all().at(place)
+    }
+
+    // All of them.
+    #[inline]
+    fn all(&self) -> FrequencyPart<'_>
+        ensures { listed result ≡ self.now }
+    {
+        FrequencyPart {
+            small: &self.small,
+            large: &self.large,
+        }
+    }
+
+    // Adds these behind the others.
+    pub(crate) fn extend_from_slice(&mut self, frequencies: &[u32]) -> Result<(), AllocError>
+        ensures added { OnOk result (self.new ≡ self.old ++ frequencies.now) }
+        ensures grown { (more : List ℕ) × (self.new ≡ self.old ++ more) }
+    {
+        // those before it are there
+        for frequency in frequencies {
+            self.push(*frequency)?;
+        }
+        Ok(())
+    }
+
+    // Leaves the first so many of them.
+    pub(crate) fn truncate(&mut self, count: usize)
+        ensures { self.new ≡ take count self.old }
+    {
+        self.large.truncate(count.saturating_sub(self.small.len()));
+        self.small.truncate(count);
+    }
+
     // These frequencies: copied where all are small, and else kept as they are.
     pub(crate) fn new(alloc: Global, frequencies: Vec<u32>) -> Result<Frequencies, QueryError>
         ensures same { IfOk result (λ it. it ≡ frequencies.items) }
@@ -53,11 +135,7 @@ impl Frequencies {
         requires { start + count ≤ length self.now }
         ensures { listed result ≡ take count (drop start self.now) }
     {
-        let all = FrequencyPart {
-            small: &self.small,
-            large: &self.large,
-        };
-        all.part(start, start + count)
+        self.all().part(start, start + count)
     }
 }
 
@@ -111,9 +189,8 @@ impl<'a> FrequencyPart<'a> {
     }
 
     // The same frequencies in memory of their own.
-    pub(crate) fn copy(&self, alloc: Global) -> Result<Vec<u32>, QueryError>
+    pub(crate) fn copy(&self, alloc: Global) -> Result<Vec<u32>, AllocError>
         ensures same { IfOk result (λ it. it.items ≡ listed self.now) }
-        ensures refused { IsOkUnless result QueryError.Memory }
     {
         let mut frequencies = Vec::with_capacity(alloc, self.small.len() + self.large.len())?;
         for frequency in self.small {
@@ -121,6 +198,26 @@ impl<'a> FrequencyPart<'a> {
         }
         frequencies.extend_from_slice(self.large)?;
         Ok(frequencies)
+    }
+
+    // Whether each is above 0.
+    pub(crate) fn are_above_0(&self) -> bool
+        ensures { IsTrue result ↔ All (λ f. 0 < f) (listed self.now) }
+    {
+        small_are_above_0(self.small) && large_are_above_0(self.large)
+    }
+
+    pub(crate) fn len(&self) -> usize
+        ensures { result ≡ length (listed self.now) }
+    {
+        self.small.len() + self.large.len()
+    }
+
+    // The greatest of them, and 0 where there are none.
+    pub(crate) fn greatest(&self) -> u32
+        ensures { result ≡ greatest (listed self.now) }
+    {
+        greatest_of_small(self.small).max(greatest_of(self.large))
     }
 
     pub(crate) fn sum(&self) -> usize
@@ -140,4 +237,36 @@ fn sum_of_small(frequencies: &[u8]) -> usize
         total += *frequency as usize;
     }
     total
+}
+
+fn small_are_above_0(frequencies: &[u8]) -> bool
+    ensures { IsTrue result ↔ All (λ f. 0 < f) frequencies.now }
+{
+    frequencies.iter().all(|frequency| *frequency > 0)
+}
+
+fn large_are_above_0(frequencies: &[u32]) -> bool
+    ensures { IsTrue result ↔ All (λ f. 0 < f) frequencies.now }
+{
+    frequencies.iter().all(|frequency| *frequency > 0)
+}
+
+fn greatest_of_small(frequencies: &[u8]) -> u32
+    ensures { result ≡ greatest frequencies.now }
+{
+    let mut greatest = 0;
+    for frequency in frequencies {
+        greatest = greatest.max(*frequency);
+    }
+    u32::from(greatest)
+}
+
+fn greatest_of(frequencies: &[u32]) -> u32
+    ensures { result ≡ greatest frequencies.now }
+{
+    let mut greatest = 0;
+    for frequency in frequencies {
+        greatest = greatest.max(*frequency);
+    }
+    greatest
 }

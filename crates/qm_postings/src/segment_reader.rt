@@ -55,7 +55,7 @@ impl Model for TermEntry {
 /// A segment, to be read: a list of documents, numbered from 0 up.
 ///
 /// It keeps its terms in their order, and for each a range of two arrays of all postings, one of
-/// documents and one of frequencies: 5 bytes a posting, or 8 where some frequency is over 255. Where a field
+/// documents and one of frequencies: 5 bytes a posting, or up to 8 where some frequency is over 255. Where a field
 /// keeps positions, its terms have a range of an array of positions too, 4 bytes a position. The postings of a term are cut into blocks
 /// of `block_len`, and each has 24 bytes more: where it ends, what bounds its postings, and where its
 /// positions begin. Where documents were deleted it keeps a bit for each document.

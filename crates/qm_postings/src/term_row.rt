@@ -1,23 +1,21 @@
 //! The rows of a segment's terms, to be kept elsewhere, and a segment out of such rows.
 
-ghost use Rattle.std.specs.Prelude.{◌≡◌, ◌<◌, ◌↔◌, IfOk, IsErrOf, IsOkUnless, length, map, slice_index, slice_index_or, []};
+ghost use Rattle.std.specs.Prelude.{◌≡◌, ◌↔◌, ◌+◌, ◌<◌, ◌≤◌, All, IfOk, IsErrOf, IsOkUnless, length, map, slice_index, slice_index_or, []};
 ghost use Rattle.qm_postings.specs.LentRow.{lent_row};
 ghost use Rattle.qm_postings.specs.Reading.{IsOfRows, reader_of_rows};
-ghost use Rattle.qm_postings.specs.Rows.{MakeSegment, columns_of, no_row};
+ghost use Rattle.qm_postings.specs.Rows.{MakeSegment, columns_of, no_row, row_in};
+ghost use Rattle.qm_postings.specs.RowsSoFar.{IsLaid};
 
-use crate::frequencies::FrequencyPart;
+use crate::frequencies::{Frequencies, FrequencyPart};
+use crate::rows_builder::RowsBuilder;
+use crate::rows_builder::checks::make_segment;
 use crate::segment_builder::term_blocks::column_of;
-use crate::segment_reader::SegmentReader;
-use checks::make_segment;
-use laying::lay_end_to_end;
+use crate::segment_reader::{SegmentReader, TermEntry};
 use qm_docset::DocId;
 use qm_schema::{Field, QueryError, Schema, Term};
-use std::alloc::Global;
+use std::alloc::{AllocError, Global};
 use std::marker::Model;
 use thiserror::Error;
-
-mod checks;
-mod laying;
 
 /// The postings of a term: the documents that hold it, ascending; how often it stands in each; and, where its
 /// field keeps positions, those in each, end to end.
@@ -50,6 +48,23 @@ impl Model for TermRow {
     } };
 }
 
+impl TermRow {
+    // The row, lent.
+    pub(crate) fn lent(&self) -> TermRowRef<'_>
+        ensures { lent_row result ≡ self.now }
+    {
+        TermRowRef {
+            term: &self.term,
+            documents: &self.documents,
+            frequencies: FrequencyPart {
+                small: &[],
+                large: &self.frequencies,
+            },
+            positions: &self.positions,
+        }
+    }
+}
+
 /// Why rows make no segment.
 #[derive(Clone, Copy, Debug, PartialEq, Eq, Error)]
 pub enum RowsError {
@@ -61,13 +76,23 @@ pub enum RowsError {
     Memory,
 }
 
+impl From<AllocError> for RowsError {
+    ghost use Rattle.qm_postings.specs.declared.term_row.RowsError.TheVariants.{Memory};
+
+    ghost from_gives = { λ _ e. e ≡ Memory };
+
+    fn from(_error: AllocError) -> RowsError {
+        RowsError::Memory
+    }
+}
+
 /// A row as a segment keeps it, lent by the segment. Copying it takes no memory.
 #[derive(Clone, Copy, Debug)]
 pub struct TermRowRef<'a> {
-    term: &'a Term,
-    documents: &'a [DocId],
-    frequencies: FrequencyPart<'a>,
-    positions: &'a [u32],
+    pub(crate) term: &'a Term,
+    pub(crate) documents: &'a [DocId],
+    pub(crate) frequencies: FrequencyPart<'a>,
+    pub(crate) positions: &'a [u32],
 }
 
 impl<'a> TermRowRef<'a> {
@@ -130,7 +155,8 @@ impl SegmentReader {
     /// for each document where the field keeps lengths, or has one where it keeps none; terms do not ascend; or a
     /// row has no posting, is of a field that is not indexed, or has documents that do not ascend below `max_doc`,
     /// not a frequency above 0 for each, or not as many ascending positions as that for each where the field keeps
-    /// them, or any where it doesn't. Else with [`RowsError::Memory`] alone.
+    /// them, or any where it doesn't. Else with [`RowsError::Memory`] alone. Rows that are put together by a
+    /// [`RowsBuilder`](crate::RowsBuilder) are not copied.
     pub fn from_rows(
         alloc: Global,
         schema: &Schema,
@@ -164,15 +190,12 @@ impl SegmentReader {
         requires { place < length self.now.rows }
         ensures { lent_row result ≡ slice_index_or self.now.rows place no_row }
     {
-        let entry = &self.terms[place];
-        let count = entry.doc_freq as usize;
-        let positions_end = entry.positions_start + entry.positions_count;
-        TermRowRef {
-            term: &entry.term,
-            documents: &self.documents[entry.start..entry.start + count],
-            frequencies: self.frequencies.part(entry.start, count),
-            positions: &self.positions[entry.positions_start..positions_end],
-        }
+        row_of(
+            &self.terms[place],
+            &self.documents,
+            &self.frequencies,
+            &self.positions,
+        )
     }
 
     /// The length ids of a field in all documents, and none where it keeps none, or isn't in the schema. Constant
@@ -211,7 +234,41 @@ fn segment_of_rows(
     ensures reader { IfOk result (λ it. it ≡ reader_of_rows schema.now block_len rows.items (map (λ c. c.items) lengths.items) max_doc) }
     ensures refused { IsOkUnless result QueryError.Memory }
 {
-    let schema = schema.clone(alloc)?;
-    let arrays = lay_end_to_end(alloc, rows)?;
-    arrays.into_segment(alloc, schema, block_len, lengths, None, max_doc)
+    let built = built_of(alloc, rows)?;
+    built.into_segment(alloc, schema, block_len, max_doc, lengths)
+}
+
+// The rows, put together.
+fn built_of(alloc: Global, rows: Vec<TermRow>) -> Result<RowsBuilder, AllocError>
+    requires laid { All IsLaid rows.items }
+    ensures { IfOk result (λ it. it.rows ≡ rows.items) }
+{
+    let mut built = RowsBuilder::new(alloc);
+    // those before it are there
+    for row in rows {
+        built.push_row(row)?;
+    }
+    Ok(built)
+}
+
+// The row of a term that has these ranges of the arrays.
+pub(crate) fn row_of<'a>(
+    entry: &'a TermEntry,
+    documents: &'a [DocId],
+    frequencies: &'a Frequencies,
+    positions: &'a [u32],
+) -> TermRowRef<'a>
+    requires documents { entry.now.start + entry.now.count ≤ length documents.now }
+    requires frequencies { entry.now.start + entry.now.count ≤ length frequencies.now }
+    requires positions { entry.now.positions_start + entry.now.positions_count ≤ length positions.now }
+    ensures { lent_row result ≡ row_in documents.now frequencies.now positions.now entry.now }
+{
+    let count = entry.doc_freq as usize;
+    let positions_end = entry.positions_start + entry.positions_count;
+    TermRowRef {
+        term: &entry.term,
+        documents: &documents[entry.start..entry.start + count],
+        frequencies: frequencies.part(entry.start, count),
+        positions: &positions[entry.positions_start..positions_end],
+    }
 }

@@ -9,6 +9,7 @@ mod Numbers
 mod DocumentLines
 mod WordLemmas
 mod ScriptLines
+mod SearchedIndexes
 mod Running
 mod ReadBack
 mod LineReadBack

@@ -31,3 +31,4 @@ pub mod AskedTerms
 pub mod RowPlaces
 pub mod Narrowed
 pub mod Served
+pub mod Searching

@@ -47,8 +47,11 @@ pub(crate) fn write_best(
     writer.finish(text)
 }
 
-// The number of each segment's first document.
-fn first_numbers(alloc: Global, segments: &[SegmentReader]) -> Result<Vec<u64>, QueryError>
+/// The number of each segment's first document.
+pub(crate) fn first_numbers(
+    alloc: Global,
+    segments: &[SegmentReader],
+) -> Result<Vec<u64>, QueryError>
     requires few { document_count (segments_of segments.now) ≤ most_segments * TERMINATED }
     ensures numbers { IfOk result (λ firsts. firsts.items ≡ firsts_from 0 (segments_of segments.now)) }
     ensures few { IfOk result (λ firsts. All (λ n. n ≤ most_segments * TERMINATED) firsts.items) }

@@ -3,7 +3,6 @@
 ghost use Rattle.std.specs.Prelude.{◌≡◌, ◌↔◌, ◌+◌, ◌≤◌, ◌*◌, ◌⊎◌, IfErr, IfOk, IsErrOf, IsOkUnless, OnErr, OnOk, drop, length, map, nat_abs, string_bytes};
 ghost use Rattle.std.specs.FinMap.{empty, insert};
 ghost use Rattle.std.specs.List.{range_with_len};
-ghost use Rattle.std.specs.List.Sorted.{IsNonDecreasing};
 ghost use Rattle.qm_docset.specs.declared.numbers.TheConstants.{TERMINATED};
 ghost use Rattle.qm_index.specs.Indexed.{statistics};
 ghost use Rattle.qm_script.specs.Asked.{term_of};
@@ -18,17 +17,11 @@ use crate::narrowed::narrowed;
 use crate::non_negative_score::NonNegativeScore;
 use crate::spelled_query::SpelledQuery;
 use crate::terms::{body, word_term};
-use qm_docset::Score;
+use birchagain::new_index;
 use qm_index::Index;
 use qm_postings::Searcher;
-use qm_schema::{IndexRecordOption, QueryError, Schema};
+use qm_schema::QueryError;
 use std::alloc::{AllocError, Global};
-
-/// How many postings a block has.
-const BLOCK_LEN: u32 = 128;
-
-/// What a word weighs where the script gives it no weight.
-const DEFAULT_WEIGHT: Score = 1000;
 
 /// The documents of a script, in segments, and what words weigh.
 #[derive(Drop)]
@@ -53,8 +46,7 @@ impl Corpus {
         ensures documents { IfOk result (λ corpus. script corpus ≡ start_script) }
         ensures weights { IfOk result (λ corpus. (statistics corpus.index).weights ≡ empty) }
     {
-        let schema = schema(alloc)?;
-        let index = Index::new(alloc, schema, DEFAULT_WEIGHT, norms(), BLOCK_LEN)?;
+        let index = new_index(alloc)?;
         Ok(Corpus { index })
     }
 
@@ -173,25 +165,4 @@ impl Corpus {
     {
         self.index.ended()
     }
-}
-
-// The fields of a script's documents.
-fn schema(alloc: Global) -> Result<Schema, QueryError>
-    ensures { IfOk result (λ schema. schema ≡ script_fields) }
-{
-    let mut builder = Schema::builder(alloc);
-    builder.add_text_field("body", Some(IndexRecordOption::WithFreqsAndPositions), true)?;
-    Ok(builder.build())
-}
-
-// The norm of each length id: a document is as long as it has words.
-fn norms() -> [u32; 256]
-    ensures ascending { IsNonDecreasing result }
-    ensures words { result ≡ range_with_len 0 256 }
-{
-    let mut norms = [0; 256];
-    for id in 0..256 {
-        norms[id] = id as u32;
-    }
-    norms
 }

@@ -24,10 +24,15 @@ mod pruning;
 mod read_query;
 mod row_places;
 mod runner;
+mod searching;
 mod spelled_query;
 mod terms;
 mod terms_alone;
 mod unparsed;
 mod words;
 
+pub use parse::parse_query_text;
 pub use runner::{RunError, run, run_buffered, text_of};
+pub use searching::{Hit, best_hits, count_hits};
+pub use spelled_query::SpelledQuery;
+pub use unparsed::Unparsed;

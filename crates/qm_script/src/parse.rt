@@ -2,7 +2,7 @@
 
 ghost use Rattle.std.specs.Prelude.{◌≡◌, map, IfOk, IsUtf8, Some};
 ghost use Rattle.qm_script.specs.Cursor.{words_left};
-ghost use Rattle.qm_script.specs.Script.{AreWords, Request, behind_line_form, delete_at, line_request, prune_at, top_at, weight_at, whole_query, words_request};
+ghost use Rattle.qm_script.specs.Script.{AreWords, Request, behind_line_form, delete_at, line_request, line_words, prune_at, top_at, weight_at, whole_query, words_request};
 ghost use Rattle.qm_script.specs.Requests.{request_of};
 ghost use Rattle.qm_script.specs.Spelled.{Gives, query_of};
 ghost use Rattle.qm_script.specs.Spelling.{Spells};
@@ -143,6 +143,18 @@ fn parse_top(alloc: Global, words: &mut Words<'_>) -> Result<Command, Unparsed>
     let count = words.count()?;
     let query = parse_query(alloc, words)?;
     Ok(Command::ListBest(count, query))
+}
+
+/// The query that a text spells, all of it, where it is UTF-8.
+pub fn parse_query_text(alloc: Global, text: &[u8]) -> Result<SpelledQuery, Unparsed>
+    ensures text { IfOk result (λ query. IsUtf8 text.now) }
+    ensures query { IsUtf8 text.now → Gives query_of result (whole_query (line_words text.now)) }
+{
+    let Ok(text) = str::from_utf8(text) else {
+        return Err(Unparsed::NotUnderstood);
+    };
+    let words = cut_words(alloc, text)?;
+    parse_query(alloc, &mut Words::new(words.as_slice()))
 }
 
 // A query that takes all of the words.

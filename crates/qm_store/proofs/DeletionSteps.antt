@@ -2,7 +2,7 @@
 use Rattle.std.proofs.Common.{◌≡◌, ◌==◌, ◌||◌, ◌&&◌, ℕ, zero, suc, ◌+◌, ◌-◌, ◌<◌, ◌≤◌, Bool, true, false, not, cond, ltb, List, [], ◌∷◌, ◌++◌, filter, get_or, length, take, Option, None, Some, refl, ap, sym, subst, ◌∙◌, append-nil, arith, inl, inr}
 use Rattle.std.specs.Prelude.{All, IfSome, nat_lt}
 use Rattle.std.specs.List.{list_all, list_any, range_with_len}
-use Rattle.std.proofs.lemmas.Bool.{cases_Bool, cases_eq, cases_lt, eq-eqb, le-ltb, lt-ltb, ltb-true, ne_eqb}
+use Rattle.std.proofs.lemmas.Bool.{cases_Bool, cases_eq, eq-eqb, lt-ltb, ltb-true, ne_eqb}
 use Rattle.std.proofs.lemmas.List.{take_more}
 use Rattle.std.proofs.lemmas.List.Elements.{All-cons, All-head, All-nil, All-tail, All-take, All-weaker}
 use Rattle.std.proofs.lemmas.List.Folds.{list_any-append}
@@ -14,31 +14,8 @@ use Rattle.qm_postings.specs.Segment.{AscendFrom, Segment, deleted_documents, is
 use Rattle.qm_postings.proofs.DeletedDocuments.{not-not}
 use Rattle.qm_store.specs.Deletions.{AreNumbers, counted_at, deleting_only, numbers_in, numbers_within}
 use Rattle.qm_store.specs.Ends.{ended_by}
-use Rattle.qm_store.specs.Numbers.{number_at}
-use Rattle.qm_store.specs.RowBytes.{followed_by, gaps_at, in_front, in_front_of_all}
-
--- ---- numbers that are read ascend
-
-behind-ascend : (low x : ℕ) (r : Option (List ℕ × List ℕ)) → low ≤ x → x < 4294967295 →
-    IfSome r (λ p. AscendFrom (x + 1) p.0) → IfSome (in_front x r) (λ p. AscendFrom low p.0)
-behind-ascend low x None le less up = tt
-behind-ascend low x (Some p) le less up = (le, less, up)
-
-pub gaps-ascend : (n low : ℕ) (bs : List ℕ) → IfSome (gaps_at n low bs) (λ p. AscendFrom low p.0)
-gaps-ascend zero low bs = tt
-gaps-ascend (suc n) low bs = go (λ x rest. gaps-ascend n (x + 1) rest) (number_at 8 bs)
-  where
-    next : ℕ → List ℕ → Option (List ℕ × List ℕ)
-    next x rest = in_front x (gaps_at n (x + 1) rest)
-
-    go : ((x : ℕ) (rest : List ℕ) → IfSome (gaps_at n (x + 1) rest) (λ p. AscendFrom (x + 1) p.0)) → (o : Option (ℕ × List ℕ)) →
-        IfSome (followed_by o (λ gap rest. cond (ltb (low + gap) 4294967295) (next (low + gap) rest) None)) (λ p. AscendFrom low p.0)
-    go others None = tt
-    go others (Some p) = elim (cases_lt (low + p.0) 4294967295) [
-      | inl less ↦ subst (λ b. IfSome (cond b (next (low + p.0) p.1) None) (λ q. AscendFrom low q.0)) (sym (lt-ltb (low + p.0) 4294967295 less))
-          (behind-ascend low (low + p.0) (gaps_at n (low + p.0 + 1) p.1) (omega arith) less (others (low + p.0) p.1))
-      | inr past ↦ subst (λ b. IfSome (cond b (next (low + p.0) p.1) None) (λ q. AscendFrom low q.0)) (sym (le-ltb (low + p.0) 4294967295 past)) tt
-    ]
+use Rattle.qm_store.specs.RowBytes.{followed_by, gaps_at, in_front_of_all}
+use Rattle.qm_store.proofs.GapBytes.{gaps-ascend}
 
 -- ---- the deleted ones of a segment ascend
 
@@ -181,7 +158,7 @@ module _ (key count deleted : ℕ) (body rest old numbers last : List ℕ) (coun
   -- what was read are numbers of documents
   pub numbers-read : AreNumbers count numbers
   numbers-read = record {
-    ascending = subst (λ r. IfSome r (λ p. AscendFrom 0 p.0)) (sym found) (gaps-ascend deleted 0 rest);
+    ascending = (subst (λ r. IfSome r (λ p. AscendFrom 0 p.0 × (length p.0 ≡ deleted))) (sym found) (gaps-ascend deleted 0 rest)).0;
     within = All-weaker (λ d. ltb d count ≡ true) (λ d. d < count) (λ d h. ltb-true d count h) numbers (AllPass-from_list_all (λ d. nat_lt d count) numbers all);
   }
 

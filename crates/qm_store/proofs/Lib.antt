@@ -29,3 +29,5 @@ pub mod ItemSteps
 pub mod ManifestRead
 pub mod PlaceSteps
 pub mod PlacesRead
+pub mod RowsLaid
+pub mod ShortNumbers

@@ -10,6 +10,7 @@ use Rattle.qm_store.specs.Entries.{Entry, entry_at}
 use Rattle.qm_store.specs.Numbers.{number_at}
 use Rattle.qm_store.specs.Pieces.{TellsOf}
 use Rattle.qm_store.specs.RowBytes.{followed_by}
+use Rattle.qm_store.specs.RowsPushed.{with_found}
 use Rattle.qm_store.specs.StoredSegment.{rows_by, rows_of_entries, rows_of_entry, rows_then}
 use Rattle.qm_store.specs.declared.store_error.StoreError.{StoreError}
 use Rattle.qm_store.specs.declared.store_error.StoreError.TheVariants.{Damaged, Failed, Memory, OtherFile, OtherVersion}
@@ -37,6 +38,11 @@ module _ (old : List Row) (own rest all : Option (List Row)) (told : option_map 
       by_own : (x : Option (List Row)) → before x ≡ None → before (rows_then x rest) ≡ all → None ≡ all
       by_own None is told = told
       by_own (Some xs) is told = absurd (false≢true (sym (ap is_some is)))
+
+-- one row behind others
+pub one_found : (rows : List Row) (x : Option Row) → option_map (λ more. rows ++ more) (option_map (λ row. row ∷ []) x) ≡ with_found rows x
+one_found rows None = refl
+one_found rows (Some row) = refl
 
 -- where no rows are in front, only those to come are there
 pub plain : {X : Type 0} (x : Option (List X)) → option_map (λ more. [] ++ more) x ≡ x

@@ -1,5 +1,6 @@
 pub mod Numbers
 pub mod RowBytes
+pub mod RowsPushed
 pub mod TermBytes
 pub mod Words
 pub mod Pieces

@@ -22,12 +22,14 @@ abbrev pub in_front : ℕ → Option (List ℕ × List ℕ) → Option (List ℕ
 in_front x None = None
 in_front x (Some p) = Some (x ∷ p.0, p.1)
 
--- so many of them that some bytes begin with, from low on, all below 4294967295, and the bytes behind them
+-- the one from low on that some bytes begin with, below 4294967295, and the bytes behind it
+abbrev pub above_at : ℕ → List ℕ → Option (ℕ × List ℕ)
+above_at low bs = followed_by (number_at 8 bs) (λ gap rest. if nat_lt (low + gap) 4294967295 then Some (low + gap, rest) else None)
+
+-- so many of them that some bytes begin with, from low on, and the bytes behind them
 abbrev pub gaps_at : ℕ → ℕ → List ℕ → Option (List ℕ × List ℕ)
 gaps_at zero low bs = Some ([], bs)
-gaps_at (suc count) low bs =
-    followed_by (number_at 8 bs) (λ gap rest.
-    if nat_lt (low + gap) 4294967295 then in_front (low + gap) (gaps_at count (low + gap + 1) rest) else None)
+gaps_at (suc count) low bs = followed_by (above_at low bs) (λ x rest. in_front x (gaps_at count (x + 1) rest))
 
 -- ---- postings
 

@@ -1,8 +1,8 @@
 //! Ascending numbers as bytes.
 
-ghost use Rattle.std.specs.Prelude.{◌≡◌, ◌≤◌, ◌++◌, OnOk, IfOk, option_map};
+ghost use Rattle.std.specs.Prelude.{◌≡◌, ◌<◌, ◌≤◌, ◌++◌, OnOk, IfOk, IfSome, option_map};
 ghost use Rattle.qm_postings.specs.Segment.{AscendFrom};
-ghost use Rattle.qm_store.specs.RowBytes.{gaps, gaps_at, in_front_of_all};
+ghost use Rattle.qm_store.specs.RowBytes.{above_at, gaps, gaps_at, in_front_of_all};
 
 use crate::numbers::{push_number, read_number};
 use std::alloc::AllocError;
@@ -34,19 +34,29 @@ pub(crate) fn read_gaps<'a>(
     ensures { IfOk result (λ r. option_map (λ rest. (numbers.new.items, rest.now)) r ≡ in_front_of_all numbers.old.items (gaps_at count 0 bytes.now)) }
 {
     let mut rest = bytes;
-    let mut low: u64 = 0;
+    let mut low: u32 = 0;
     // what is read and what is left make all
     for place in 0..count {
-        let Some((gap, behind)) = read_number(rest) else {
+        let Some((number, behind)) = read_gap(rest, low) else {
             return Ok(None);
         };
-        let number = low + gap;
-        if number >= LIMIT {
-            return Ok(None);
-        }
-        numbers.push(number as u32)?;
+        numbers.push(number)?;
         low = number + 1;
         rest = behind;
     }
     Ok(Some(rest))
+}
+
+// The number from a low one on that some bytes begin with, and the bytes behind it; none where it is no position.
+pub(crate) fn read_gap(bytes: &[u8], low: u32) -> Option<(u32, &[u8])>
+    ensures read { option_map (λ r. (r.0, r.1.now)) result ≡ above_at low bytes.now }
+    ensures small { IfSome result (λ r. r.0 < 4294967295) }
+{
+    let (gap, rest) = read_number(bytes)?;
+    let number = u64::from(low) + gap;
+    if number < LIMIT {
+        Some((number as u32, rest))
+    } else {
+        None
+    }
 }

@@ -42,6 +42,11 @@ pub(crate) fn read_number(bytes: &[u8]) -> Option<(u64, &[u8])>
     if *first < 128 {
         return Some((u64::from(*first), rest));
     }
+    let (second, behind) = rest.split_first()?;
+    if *second < 128 {
+        let number = u64::from(*first) - 128 + 128 * u64::from(*second);
+        return Some((number, behind));
+    }
     read_part(MORE, bytes)
 }
 

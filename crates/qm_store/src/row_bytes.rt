@@ -3,13 +3,16 @@
 ghost use Rattle.std.specs.Prelude.{◌≡◌, ◌<◌, ◌≤◌, ◌^◌, ◌++◌, All, OnOk, IfOk, IfSome, length, option_map};
 ghost use Rattle.qm_postings.specs.LentRow.{lent_row};
 ghost use Rattle.qm_postings.specs.Rows.{ArePlaces};
+ghost use Rattle.qm_postings.specs.RowsSoFar.{pushed_row};
 ghost use Rattle.qm_postings.specs.Segment.{AscendFrom};
-ghost use Rattle.qm_store.specs.RowBytes.{IsSomeRow, behind_both, in_front_of_all, places_at, places_bytes, places_part, posting_at, posting_bytes, postings_at, postings_bytes, postings_part};
-ghost use Rattle.qm_store.specs.RowBytes.{row_at, row_bytes};
+ghost use Rattle.qm_schema.specs.Term.{TermKey};
+ghost use Rattle.qm_store.specs.RowBytes.{IsSomeRow, behind_both, gaps_at, in_front_of_all, places_at, places_bytes, places_part, posting_at, posting_bytes, postings_at};
+ghost use Rattle.qm_store.specs.RowBytes.{postings_bytes, postings_part, row_at, row_bytes};
+ghost use Rattle.qm_store.specs.RowsPushed.{HaveSamePositions, HaveSamePostings, if_read, with_found};
 
-use crate::gaps::{LIMIT, push_gaps, read_gaps};
+use crate::gaps::{LIMIT, push_gaps, read_gap};
 use crate::numbers::{push_number, read_number};
-use qm_postings::{TermRow, TermRowRef};
+use qm_postings::{RowsBuilder, TermRow, TermRowRef};
 use qm_schema::Term;
 use std::alloc::{AllocError, Global};
 
@@ -106,46 +109,69 @@ pub fn read_row(
 ) -> Result<Option<TermRow>, AllocError>
     ensures { IfOk result (λ row. row ≡ row_at term has_positions bytes.now) }
 {
-    let Some((count, rest)) = read_number(bytes) else {
-        return Ok(None);
-    };
-    if count > rest.len() as u64 {
-        return Ok(None);
-    }
-    let mut row = TermRow {
-        term,
-        documents: Vec::with_capacity(alloc, count as usize)?,
-        frequencies: Vec::with_capacity(alloc, count as usize)?,
-        positions: Vec::new(alloc),
-    };
-    let Some(rest) = read_postings(&mut row.documents, &mut row.frequencies, rest, count)? else {
-        return Ok(None);
-    };
-    let rest = if has_positions {
-        row.positions = Vec::with_capacity(alloc, rest.len())?;
-        match read_places(&mut row.positions, &row.frequencies, rest)? {
-            Some(rest) => rest,
-            None => return Ok(None),
-        }
-    } else {
-        rest
-    };
-    if rest.is_empty() {
-        Ok(Some(row))
+    let mut rows = RowsBuilder::new(alloc);
+    if push_parts(&mut rows, has_positions, bytes)? {
+        Ok(Some(rows.into_row(alloc, term)?))
     } else {
         Ok(None)
     }
 }
 
+// Adds the row of a term that some bytes are to those that are put together, and answers whether they are one.
+pub(crate) fn read_row_behind(
+    rows: &mut RowsBuilder,
+    term: Term,
+    has_positions: bool,
+    bytes: &[u8],
+) -> Result<bool, AllocError>
+    ensures { IfOk result (λ is. if_read is rows.new.rows ≡ with_found rows.old.rows (row_at term has_positions bytes.now)) }
+{
+    if !push_parts(rows, has_positions, bytes)? {
+        return Ok(false);
+    }
+    rows.end_row(term)?;
+    Ok(true)
+}
+
+// Begins a row with the postings and the positions that some bytes are, and answers whether they are a row.
+fn push_parts(rows: &mut RowsBuilder, has_positions: bool, bytes: &[u8]) -> Result<bool, AllocError>
+    ensures read { IfOk result (λ is. (term : TermKey) → if_read is (pushed_row term rows.new) ≡ row_at term has_positions bytes.now) }
+    ensures rows { rows.new.rows ≡ rows.old.rows }
+{
+    let Some((count, rest)) = read_number(bytes) else {
+        return Ok(false);
+    };
+    if count > rest.len() as u64 {
+        return Ok(false);
+    }
+    let postings = count as usize;
+    let positions = if has_positions {
+        rest.len() - postings
+    } else {
+        0
+    };
+    rows.begin_row(postings, positions)?;
+    let Some(rest) = read_postings(rows, rest, count)? else {
+        return Ok(false);
+    };
+    if !has_positions {
+        return Ok(rest.is_empty());
+    }
+    match read_places(rows, rest)? {
+        Some(rest) => Ok(rest.is_empty()),
+        None => Ok(false),
+    }
+}
+
 // Adds so many postings that some bytes begin with, and gives the bytes behind them; none where they begin with no such.
 fn read_postings<'a>(
-    documents: &mut Vec<u32>,
-    frequencies: &mut Vec<u32>,
+    rows: &mut RowsBuilder,
     bytes: &'a [u8],
     count: u64,
 ) -> Result<Option<&'a [u8]>, AllocError>
-    ensures { IfOk result (λ r. option_map (λ rest. ((documents.new.items, frequencies.new.items), rest.now)) r
-        ≡ behind_both documents.old.items frequencies.old.items (postings_at count 0 bytes.now)) }
+    ensures read { IfOk result (λ r. option_map (λ rest. ((rows.new.documents, rows.new.frequencies), rest.now)) r
+        ≡ behind_both rows.old.documents rows.old.frequencies (postings_at count 0 bytes.now)) }
+    ensures kept { HaveSamePositions rows.old rows.new }
 {
     let mut rest = bytes;
     let mut low: u64 = 0;
@@ -158,8 +184,7 @@ fn read_postings<'a>(
         if document >= LIMIT || frequency > LIMIT {
             return Ok(None);
         }
-        documents.push(document as u32)?;
-        frequencies.push(frequency as u32)?;
+        rows.push_posting(document as u32, frequency as u32)?;
         low = document + 1;
         rest = behind;
     }
@@ -167,10 +192,20 @@ fn read_postings<'a>(
 }
 
 // The gap before a document, its frequency, and the bytes behind them; none where the bytes begin with no posting.
+#[tactic(auto, using(crate::proofs::ShortNumbers::posting_short))]
 fn read_posting(bytes: &[u8]) -> Option<(u64, u64, &[u8])>
     ensures read { option_map (λ r. ((r.0, r.1), r.2.now)) result ≡ posting_at bytes.now }
     ensures fits { IfSome result (λ r. r.0 < 128 ^ 9) }
 {
+    if let [first, second, ..] = bytes {
+        // nearly all have one byte, or two, and need no further call
+        if *first < 128 && *second < 128 {
+            let alone = *first % 2;
+            let frequency = if alone == 1 { 1 } else { *second };
+            let len = 2 - alone as usize;
+            return Some((u64::from(*first / 2), u64::from(frequency), &bytes[len..]));
+        }
+    }
     let (number, rest) = read_number(bytes)?;
     if number % 2 == 1 {
         return Some((number / 2, 1, rest));
@@ -179,22 +214,44 @@ fn read_posting(bytes: &[u8]) -> Option<(u64, u64, &[u8])>
     Some((number / 2, frequency, rest))
 }
 
-// Adds the positions of postings of these frequencies, and gives the bytes behind them; none where the bytes begin with
-// no such positions.
-fn read_places<'a>(
-    positions: &mut Vec<u32>,
-    frequencies: &[u32],
-    bytes: &'a [u8],
-) -> Result<Option<&'a [u8]>, AllocError>
-    ensures { IfOk result (λ r. option_map (λ rest. (positions.new.items, rest.now)) r ≡ in_front_of_all positions.old.items (places_at frequencies.now bytes.now)) }
+// Adds the positions of all postings, and gives the bytes behind them; none where the bytes begin with no such positions.
+fn read_places<'a>(rows: &mut RowsBuilder, bytes: &'a [u8]) -> Result<Option<&'a [u8]>, AllocError>
+    ensures read { IfOk result (λ r. option_map (λ rest. (rows.new.positions, rest.now)) r
+        ≡ in_front_of_all rows.old.positions (places_at rows.old.frequencies bytes.now)) }
+    ensures kept { HaveSamePostings rows.old rows.new }
 {
     let mut rest = bytes;
     // what is read and what is left make all
-    for frequency in frequencies {
-        match read_gaps(positions, rest, *frequency)? {
+    for place in 0..rows.posting_count() {
+        let frequency = rows.frequency(place);
+        match read_positions(rows, rest, frequency)? {
             Some(behind) => rest = behind,
             None => return Ok(None),
         }
+    }
+    Ok(Some(rest))
+}
+
+// Adds so many positions that some bytes begin with, and gives the bytes behind them; none where they begin with no such.
+fn read_positions<'a>(
+    rows: &mut RowsBuilder,
+    bytes: &'a [u8],
+    count: u32,
+) -> Result<Option<&'a [u8]>, AllocError>
+    ensures read { IfOk result (λ r. option_map (λ rest. (rows.new.positions, rest.now)) r
+        ≡ in_front_of_all rows.old.positions (gaps_at count 0 bytes.now)) }
+    ensures kept { HaveSamePostings rows.old rows.new }
+{
+    let mut rest = bytes;
+    let mut low: u32 = 0;
+    // what is read and what is left make all
+    for place in 0..count {
+        let Some((position, behind)) = read_gap(rest, low) else {
+            return Ok(None);
+        };
+        rows.push_position(position)?;
+        low = position + 1;
+        rest = behind;
     }
     Ok(Some(rest))
 }

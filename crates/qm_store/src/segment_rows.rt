@@ -14,10 +14,11 @@ use crate::entry::{EntryRef, read_entry};
 use crate::numbers::read_number;
 use crate::piece::read_piece;
 use crate::pieces::Pieces;
+use crate::row_bytes::read_row_behind;
 use crate::store_error::StoreError;
 use crate::stored_segment::StoredSegment;
 use crate::wanted::Wanted;
-use qm_postings::{RowsError, SegmentReader, TermRow};
+use qm_postings::{RowsBuilder, RowsError, SegmentReader};
 use qm_schema::{Field, Schema, Term};
 use std::alloc::{AllocError, Global};
 
@@ -65,20 +66,13 @@ impl<P: Pieces + Drop> StoredSegment<P> {
         &self,
         alloc: Global,
         schema: &Schema,
-        rows: Vec<TermRow>,
+        rows: RowsBuilder,
     ) -> Result<SegmentReader, StoreError>
-        ensures given { GivesReader schema.now (opened_of self.now) result (Some rows.items) }
+        ensures given { GivesReader schema.now (opened_of self.now) result (Some rows.rows) }
         ensures none_deleted { IfOk result (λ r. r.segment.deleted ≡ []) }
     {
         let columns = copied_columns(alloc, &self.columns)?;
-        match SegmentReader::from_rows(
-            alloc,
-            schema,
-            self.block_len,
-            self.documents,
-            columns,
-            rows,
-        ) {
+        match rows.finish(alloc, schema, self.block_len, self.documents, columns) {
             Ok(segment) => Ok(segment),
             Err(RowsError::NotRows) => Err(StoreError::Damaged),
             Err(RowsError::Memory) => Err(StoreError::Memory),
@@ -86,11 +80,11 @@ impl<P: Pieces + Drop> StoredSegment<P> {
     }
 
     // All rows.
-    fn read_all(&self, alloc: Global, schema: &Schema) -> Result<Vec<TermRow>, StoreError>
+    fn read_all(&self, alloc: Global, schema: &Schema) -> Result<RowsBuilder, StoreError>
         ensures { (file : List ℕ) → P.bytes self.now.source ≡ Some file
-            → GivesSome (λ v. v.items) result (rows_of_blocks self.now.key file schema.now None (opened_of self.now).blocks) }
+            → GivesSome (λ v. v.rows) result (rows_of_blocks self.now.key file schema.now None (opened_of self.now).blocks) }
     {
-        let mut rows = Vec::new(alloc);
+        let mut rows = RowsBuilder::new(alloc);
         self.push_rows(alloc, schema, None, &self.index.starts, &mut rows)?;
         Ok(rows)
     }
@@ -101,11 +95,11 @@ impl<P: Pieces + Drop> StoredSegment<P> {
         alloc: Global,
         schema: &Schema,
         wanted: &[Wanted],
-    ) -> Result<Vec<TermRow>, StoreError>
+    ) -> Result<RowsBuilder, StoreError>
         ensures { (file : List ℕ) → P.bytes self.now.source ≡ Some file
-            → GivesSome (λ v. v.items) result (rows_of self.now.key file schema.now (opened_of self.now).blocks wanted.now) }
+            → GivesSome (λ v. v.rows) result (rows_of self.now.key file schema.now (opened_of self.now).blocks wanted.now) }
     {
-        let mut rows = Vec::new(alloc);
+        let mut rows = RowsBuilder::new(alloc);
         // what is read and what is left make all
         for one in wanted {
             self.push_rows(
@@ -126,10 +120,10 @@ impl<P: Pieces + Drop> StoredSegment<P> {
         schema: &Schema,
         chosen: Option<&Wanted>,
         blocks: &[BlockStart],
-        rows: &mut Vec<TermRow>,
+        rows: &mut RowsBuilder,
     ) -> Result<(), StoreError>
         ensures { (file : List ℕ) → P.bytes self.now.source ≡ Some file
-            → GivesSome (λ _. rows.new.items) result (option_map (λ more. rows.old.items ++ more)
+            → GivesSome (λ _. rows.new.rows) result (option_map (λ more. rows.old.rows ++ more)
             (rows_of_blocks self.now.key file schema.now (option_map (λ w. w.now) chosen.entry) (map start_of blocks.now))) }
     {
         let mut bytes = Vec::new(alloc);
@@ -151,10 +145,10 @@ impl<P: Pieces + Drop> StoredSegment<P> {
         chosen: Option<&Wanted>,
         block: &[u8],
         room: &mut Vec<u8>,
-        rows: &mut Vec<TermRow>,
+        rows: &mut RowsBuilder,
     ) -> Result<(), StoreError>
         ensures { (file : List ℕ) → P.bytes self.now.source ≡ Some file
-            → GivesSome (λ _. rows.new.items) result (option_map (λ more. rows.old.items ++ more)
+            → GivesSome (λ _. rows.new.rows) result (option_map (λ more. rows.old.rows ++ more)
             (rows_by self.now.key file schema.now (option_map (λ w. w.now) chosen.entry) block.now)) }
     {
         let Some((count, mut rest)) = read_number(block) else {
@@ -176,6 +170,7 @@ impl<P: Pieces + Drop> StoredSegment<P> {
     }
 
     // Adds the row of an entry, if its term is chosen.
+    #[tactic(auto, using(crate::proofs::RowsThen::one_found))]
     fn push_chosen(
         &self,
         alloc: Global,
@@ -183,10 +178,10 @@ impl<P: Pieces + Drop> StoredSegment<P> {
         chosen: Option<&Wanted>,
         entry: &EntryRef<'_>,
         room: &mut Vec<u8>,
-        rows: &mut Vec<TermRow>,
+        rows: &mut RowsBuilder,
     ) -> Result<(), StoreError>
         ensures { (file : List ℕ) → P.bytes self.now.source ≡ Some file
-            → GivesSome (λ _. rows.new.items) result (option_map (λ more. rows.old.items ++ more)
+            → GivesSome (λ _. rows.new.rows) result (option_map (λ more. rows.old.rows ++ more)
             (rows_of_entry self.now.key file schema.now (option_map (λ w. w.now) chosen.entry) (lent_entry entry.now))) }
     {
         if !is_chosen(chosen, entry) {
@@ -194,9 +189,12 @@ impl<P: Pieces + Drop> StoredSegment<P> {
         }
         let term = made_term(alloc, entry.field, entry.text)?;
         let has_positions = keeps_positions(schema, entry.field);
-        let row = self.read_row_parts(alloc, term, entry.parts, has_positions, room)?;
-        rows.push(row)?;
-        Ok(())
+        self.read_bytes(&entry.parts, has_positions, room)?;
+        if read_row_behind(rows, term, has_positions, room)? {
+            Ok(())
+        } else {
+            Err(StoreError::Damaged)
+        }
     }
 }
 

@@ -3,7 +3,7 @@
 ghost use Rattle.std.specs.Prelude.{◌≡◌, ◌++◌, List, ℕ, Some, IfOk, IsOkUnless, option_map};
 ghost use Rattle.qm_store.specs.Entries.{lent_part};
 ghost use Rattle.qm_store.specs.Pieces.{Gives, GivesSome};
-ghost use Rattle.qm_store.specs.StoredSegment.{looked_up, opened, opened_of, part_in, row_in};
+ghost use Rattle.qm_store.specs.StoredSegment.{looked_up, opened, opened_of, part_in, row_bytes_in};
 
 use crate::dictionary_block::find_row;
 use crate::dictionary_index::{DictionaryIndex, read_index};
@@ -93,31 +93,31 @@ impl<P: Pieces + Drop> StoredSegment<P> {
             return Ok(None);
         };
         let term = copied(alloc, term)?;
-        let row = self.read_row_parts(alloc, term, parts, with_positions, &mut Vec::new(alloc))?;
-        Ok(Some(row))
+        let mut room = Vec::new(alloc);
+        self.read_bytes(&parts, with_positions, &mut room)?;
+        match read_row(alloc, term, with_positions, &room)? {
+            Some(row) => Ok(Some(row)),
+            None => Err(StoreError::Damaged),
+        }
     }
 
-    // The row of a term whose parts stand there. Their bytes are put into room that is lent for many rows.
-    pub(crate) fn read_row_parts(
+    // Puts the bytes of a row whose parts stand there into room that is lent for many rows.
+    pub(crate) fn read_bytes(
         &self,
-        alloc: Global,
-        term: Term,
-        parts: (PartRef<'_>, PartRef<'_>),
+        parts: &(PartRef<'_>, PartRef<'_>),
         with_positions: bool,
         room: &mut Vec<u8>,
-    ) -> Result<TermRow, StoreError>
+    ) -> Result<(), StoreError>
         ensures { (file : List ℕ) → P.bytes self.now.source ≡ Some file
-            → GivesSome (λ row. row) result (row_in self.now.key file with_positions term (lent_part parts.entry.0, lent_part parts.entry.1)) }
+            → GivesSome (λ _. room.new.items) result
+            (row_bytes_in self.now.key file with_positions (lent_part parts.now.0, lent_part parts.now.1)) }
     {
         room.clear();
         self.read_part(&parts.0, room)?;
         if with_positions {
             self.read_part(&parts.1, room)?;
         }
-        match read_row(alloc, term, with_positions, room)? {
-            Some(row) => Ok(row),
-            None => Err(StoreError::Damaged),
-        }
+        Ok(())
     }
 
     // Adds the bytes of a part to others.

@@ -1,5 +1,6 @@
 //! What an index knows of the files that it was made of.
 
+use crate::left_out::LeftOut;
 use qm_folder::KeptFile;
 use std::alloc::Global;
 
@@ -30,7 +31,7 @@ pub struct Span {
 }
 
 /// What is known of a file.
-#[derive(Drop)]
+#[derive(Clone, Copy, Debug)]
 pub struct Known {
     /// Its number, which no other file had before; none where it was left out.
     pub number: Option<u32>,
@@ -40,8 +41,10 @@ pub struct Known {
     pub words: u64,
     /// Which column of a table was read.
     pub column: u32,
-    /// What was noted behind its path when it was read, or nothing.
-    pub note: String,
+    /// Whether its text is its bytes written in another way.
+    pub is_converted: bool,
+    /// Why it, or some of its rows, were left out.
+    pub left_out: Option<LeftOut>,
 }
 
 impl Catalogue {

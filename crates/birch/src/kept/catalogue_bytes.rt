@@ -3,6 +3,7 @@
 use crate::kept::Trouble;
 use crate::kept::catalogue::{Catalogue, Known, Span};
 use crate::kept::numbers::{Unread, push_bytes, push_half, push_word};
+use crate::left_out::LeftOut;
 use qm_folder::{FileStamp, KeptFile};
 use std::alloc::{AllocError, Global};
 
@@ -48,7 +49,22 @@ fn push_known(out: &mut Vec<u8>, known: &Known) -> Result<(), AllocError> {
     push_word(out, known.documents)?;
     push_word(out, known.words)?;
     push_half(out, known.column)?;
-    push_bytes(out, known.note.as_bytes())
+    push_half(out, u32::from(known.is_converted))?;
+    push_left_out(out, known.left_out)
+}
+
+// Each reason by its number, and of rows their first line and how many they are.
+fn push_left_out(out: &mut Vec<u8>, left_out: Option<LeftOut>) -> Result<(), AllocError> {
+    let (reason, line, count) = match left_out {
+        None => (0, 0, 0),
+        Some(LeftOut::Binary) => (1, 0, 0),
+        Some(LeftOut::TooLarge) => (2, 0, 0),
+        Some(LeftOut::NoColumn) => (3, 0, 0),
+        Some(LeftOut::Rows { line, count }) => (4, line, count),
+    };
+    push_half(out, reason)?;
+    push_half(out, line)?;
+    push_half(out, count)
 }
 
 /// The catalogue that some bytes are.
@@ -64,7 +80,7 @@ pub fn read_catalogue(alloc: Global, bytes: &[u8]) -> Result<Catalogue, Trouble>
     let files = unread.word()?;
     for _ in 0..files {
         catalogue.kept.push(read_kept(alloc, &mut unread)?)?;
-        catalogue.known.push(read_known(alloc, &mut unread)?)?;
+        catalogue.known.push(read_known(&mut unread)?)?;
     }
     if unread.is_done() {
         Ok(catalogue)
@@ -109,17 +125,33 @@ fn read_stamp(unread: &mut Unread<'_>) -> Result<FileStamp, Trouble> {
     })
 }
 
-fn read_known(alloc: Global, unread: &mut Unread<'_>) -> Result<Known, Trouble> {
+fn read_known(unread: &mut Unread<'_>) -> Result<Known, Trouble> {
     let number = unread.half()?;
     let documents = unread.word()?;
     let words = unread.word()?;
     let column = unread.half()?;
-    let note = unread.text(alloc)?;
+    let is_converted = unread.half()? != 0;
+    let left_out = read_left_out(unread)?;
     Ok(Known {
         number: if number == 0 { None } else { Some(number) },
         documents,
         words,
         column,
-        note,
+        is_converted,
+        left_out,
     })
+}
+
+fn read_left_out(unread: &mut Unread<'_>) -> Result<Option<LeftOut>, Trouble> {
+    let reason = unread.half()?;
+    let line = unread.half()?;
+    let count = unread.half()?;
+    match reason {
+        0 => Ok(None),
+        1 => Ok(Some(LeftOut::Binary)),
+        2 => Ok(Some(LeftOut::TooLarge)),
+        3 => Ok(Some(LeftOut::NoColumn)),
+        4 => Ok(Some(LeftOut::Rows { line, count })),
+        _ => Err(Trouble::Damaged),
+    }
 }

@@ -1,4 +1,4 @@
-//! Files that are gone, or are read anew.
+//! Files whose documents are left out.
 
 use crate::kept::Trouble;
 use crate::kept::catalogue::{Catalogue, Span};
@@ -7,7 +7,7 @@ use qm_postings::SegmentReader;
 use qm_store::DocumentPlace;
 use std::alloc::{AllocError, Global};
 
-/// The numbers of files that are gone, or are read anew, ascending.
+/// The numbers of files that are gone, or are read anew, or not searched, ascending.
 #[derive(Drop)]
 pub struct Gone {
     numbers: Vec<u32>,
@@ -23,8 +23,19 @@ impl Gone {
                 numbers.push(number)?;
             }
         }
+        Ok(Gone::new(numbers))
+    }
+
+    /// Files with these numbers.
+    pub fn new(numbers: Vec<u32>) -> Gone {
+        let mut numbers = numbers;
         numbers.sort_unstable();
-        Ok(Gone { numbers })
+        Gone { numbers }
+    }
+
+    /// Whether there are none.
+    pub fn is_empty(&self) -> bool {
+        self.numbers.is_empty()
     }
 
     /// Whether a segment may have documents of one of them.

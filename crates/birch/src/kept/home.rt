@@ -1,16 +1,16 @@
 //! Where the index of some paths is kept.
 
+use crate::environment::variable;
 use crate::kept::Trouble;
 use crate::options::Options;
-use birch_text::Form;
+use birch_text::{Accents, Form};
 use serde_json::{Value, json};
 use std::alloc::{AllocError, Global};
-use std::env::VarError;
+use std::fs;
 use std::hash::{DefaultHasher, Hasher};
-use std::{env, fs};
 
 /// Which files are read and how: another number where words are cut or folded otherwise, or files kept otherwise.
-const WAY: u32 = 1;
+const WAY: u32 = 3;
 
 /// Where the index of some paths is kept.
 #[derive(Drop)]
@@ -31,19 +31,32 @@ impl Home {
     }
 }
 
-/// Where the index of what is searched is kept: the folder's name is a digest of what the index is of, so that one is not
+/// Where the index of these paths is kept: the folder's name is a digest of what the index is of, so that one is not
 /// taken for another.
-pub fn home_of(rt: &HostRuntime, options: &Options<'_>) -> Result<Home, Trouble> {
-    if options.paths.contains(&"-") {
+pub fn home_of(rt: &HostRuntime, options: &Options<'_>, paths: &[&str]) -> Result<Home, Trouble> {
+    if paths.contains(&"-") {
         return Err(Trouble::Stream);
     }
-    let asked = asked_of(rt, options)?;
+    let asked = asked_of(rt, options, paths)?;
     let mut hasher = DefaultHasher::new();
     hasher.write(asked.as_bytes());
     let digest = hasher.finish();
     let base = folder_of_all(rt, options)?;
     let folder = format!(in rt.alloc(); "{base}/{digest:016x}")?;
     Ok(Home { folder, asked })
+}
+
+/// The folder of all indexes from the root on, without links; none where it isn't there.
+pub fn folder_of_indexes(
+    rt: &HostRuntime,
+    options: &Options<'_>,
+) -> Result<Option<String>, AllocError> {
+    let whole = folder_of_all(rt, options).and_then(|folder| whole_path(rt, folder.as_str()));
+    match whole {
+        Ok(folder) => Ok(Some(folder)),
+        Err(Trouble::Stopped(_)) => Err(AllocError),
+        Err(_) => Ok(None),
+    }
 }
 
 // The folder of all indexes.
@@ -64,31 +77,23 @@ fn folder_of_all(rt: &HostRuntime, options: &Options<'_>) -> Result<String, Trou
     }
 }
 
-// What the environment says; nothing where that is empty.
-fn variable(rt: &HostRuntime, name: &str) -> Result<Option<String>, AllocError> {
-    match env::var(rt, name) {
-        Ok(value) => Ok(if value.is_empty() { None } else { Some(value) }),
-        Err(VarError::OutOfMemory) => Err(AllocError),
-        Err(VarError::NotPresent | VarError::NotUnicode) => Ok(None),
-    }
-}
-
 // What an index is of, as a line of JSON.
-fn asked_of(rt: &HostRuntime, options: &Options<'_>) -> Result<String, Trouble> {
+fn asked_of(rt: &HostRuntime, options: &Options<'_>, paths: &[&str]) -> Result<String, Trouble> {
     let alloc = rt.alloc();
     let (form, part) = form_of(options.form);
-    let mut paths = Vec::with_capacity(alloc, options.paths.len())?;
-    for path in &options.paths {
-        paths.push(whole_path(rt, path)?)?;
+    let mut whole = Vec::with_capacity(alloc, paths.len())?;
+    for path in paths {
+        let path = whole_path(rt, path)?;
+        whole.push(text_value(alloc, path.as_str())?)?;
     }
-    let mut globs = Vec::with_capacity(alloc, options.globs.len())?;
-    for glob in &options.globs {
-        globs.push(text_value(alloc, glob)?)?;
-    }
-    let (paths, globs) = (Value::Array(paths), Value::Array(globs));
-    let (hidden, most) = (options.has_hidden, options.max_size);
+    let paths = Value::Array(whole);
+    let globs = text_values(alloc, &options.globs)?;
+    let types = text_values(alloc, &options.types)?;
+    let (hidden, ignored, most) = (options.has_hidden, options.has_ignored, options.max_size);
+    let accents = options.accents == Accents::Kept;
     let asked = json!(in alloc; {
-        "way": WAY, "form": form, "part": part, "hidden": hidden, "most": most, "globs": globs, "paths": paths
+        "way": WAY, "form": form, "part": part, "accents": accents, "hidden": hidden, "ignored": ignored,
+        "most": most, "globs": globs, "types": types, "paths": paths
     })?;
     Ok(asked.to_string(alloc)?)
 }
@@ -100,16 +105,26 @@ fn form_of<'a>(form: Form<'a>) -> (&'static str, &'a str) {
         Form::Lines => ("lines", ""),
         Form::Csv(column) => ("csv", column),
         Form::Json(key) => ("json", key),
+        Form::CsvFields => ("csv-fields", ""),
+        Form::JsonFields => ("json-fields", ""),
     }
 }
 
-// A path from the root on, without links.
-fn whole_path(rt: &HostRuntime, path: &str) -> Result<Value, Trouble> {
+/// A path from the root on, without links.
+pub fn whole_path(rt: &HostRuntime, path: &str) -> Result<String, Trouble> {
     match fs::canonicalize(rt, path) {
-        Ok(whole) => Ok(text_value(rt.alloc(), whole.as_str())?),
+        Ok(whole) => Ok(String::from_str(rt.alloc(), whole.as_str())?),
         Err(error) if error.kind() == std::io::ErrorKind::OutOfMemory => Err(Trouble::from(error)),
         Err(_) => Err(Trouble::Homeless),
     }
+}
+
+fn text_values(alloc: Global, texts: &[&str]) -> Result<Value, AllocError> {
+    let mut values = Vec::with_capacity(alloc, texts.len())?;
+    for text in texts {
+        values.push(text_value(alloc, text)?)?;
+    }
+    Ok(Value::Array(values))
 }
 
 fn text_value(alloc: Global, text: &str) -> Result<Value, AllocError> {

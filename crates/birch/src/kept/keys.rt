@@ -1,7 +1,7 @@
 //! The paths of files, as an index keeps them.
 
-use crate::files::{Found, joined};
 use crate::kept::Trouble;
+use crate::walk::{Found, joined};
 use qm_folder::FoundFile;
 use std::alloc::{AllocError, Global};
 
@@ -29,10 +29,55 @@ pub fn found_files(
 // What of a path stands below one that was given; nothing where it is that one itself.
 fn below<'a>(root: &str, path: &'a str) -> &'a str {
     if root == "." {
-        return path;
+        return path.strip_prefix("./").unwrap_or(path);
     }
     let rest = path.strip_prefix(root).unwrap_or(path);
     rest.strip_prefix('/').unwrap_or(rest)
+}
+
+/// The same of what was found below one path, as an index of a folder above keeps it: there that path is this one.
+pub fn found_below(
+    alloc: Global,
+    root: &str,
+    inner: &[u8],
+    found: &[Found],
+) -> Result<Vec<FoundFile>, AllocError> {
+    let mut files = Vec::with_capacity(alloc, found.len())?;
+    for file in found {
+        let mut path = Vec::from_slice(alloc, inner)?;
+        let rest = below(root, file.path.as_str());
+        if !rest.is_empty() {
+            path.push(0)?;
+            push_names(&mut path, rest)?;
+        }
+        files.push(FoundFile {
+            path,
+            stamp: file.stamp,
+        })?;
+    }
+    Ok(files)
+}
+
+/// The path that an index of one folder keeps of what stands there below it.
+pub fn inner_key(alloc: Global, below: &str) -> Result<Vec<u8>, AllocError> {
+    key_of(alloc, 0, below)
+}
+
+/// The path that an index of the inner path alone would keep, of one that an index of a folder above keeps; none where it
+/// doesn't stand at the inner path or below it.
+pub fn key_within(alloc: Global, inner: &[u8], key: &[u8]) -> Result<Option<Vec<u8>>, AllocError> {
+    let Some(rest) = key.strip_prefix(inner) else {
+        return Ok(None);
+    };
+    let names = match rest.split_first() {
+        None => rest,
+        Some((0, names)) => names,
+        Some(_) => return Ok(None),
+    };
+    let mut within = Vec::with_capacity(alloc, names.len().saturating_add(ROOT_BYTES))?;
+    within.extend_from_slice(&[0; ROOT_BYTES])?;
+    within.extend_from_slice(names)?;
+    Ok(Some(within))
 }
 
 // A path below the one of a number, as bytes: the number, and the names, each with a zero byte before the next. No name
@@ -40,10 +85,15 @@ fn below<'a>(root: &str, path: &'a str) -> &'a str {
 fn key_of(alloc: Global, root: u32, below: &str) -> Result<Vec<u8>, AllocError> {
     let mut key = Vec::with_capacity(alloc, below.len().saturating_add(ROOT_BYTES))?;
     key.extend_from_slice(&root.to_be_bytes())?;
-    for byte in below.as_bytes() {
+    push_names(&mut key, below)?;
+    Ok(key)
+}
+
+fn push_names(key: &mut Vec<u8>, path: &str) -> Result<(), AllocError> {
+    for byte in path.as_bytes() {
         key.push(if *byte == b'/' { 0 } else { *byte })?;
     }
-    Ok(key)
+    Ok(())
 }
 
 /// The path of a file as it is shown, by the path that an index keeps.

@@ -1,6 +1,6 @@
 //! Places that are marked among others.
 
-use crate::files::Found;
+use crate::walk::Found;
 use std::alloc::{AllocError, Global};
 
 /// Places that are marked among others, ascending, which are asked for in turn.

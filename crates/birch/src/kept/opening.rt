@@ -4,6 +4,7 @@ use crate::files::Source;
 use crate::index::{Index, Tally, schema};
 use crate::kept::Trouble;
 use crate::kept::catalogue::{Catalogue, Known};
+use crate::kept::gone::Gone;
 use crate::kept::home::Home;
 use crate::kept::keys::shown_path;
 use crate::kept::marks::Marks;
@@ -15,12 +16,13 @@ use qm_folder::KeptFile;
 use qm_store::KeptSegment;
 use std::alloc::Global;
 
-/// The index as it stands, to bring which up to date so many files were read.
+/// The index as it stands, but for the documents of some files, to bring which up to date so many files were read.
 pub fn open(
     rt: &HostRuntime,
     options: &Options<'_>,
     home: &Home,
     standing: Standing,
+    left_out: &Gone,
     read: usize,
 ) -> Result<Index, Trouble> {
     let alloc = rt.alloc();
@@ -28,11 +30,11 @@ pub fn open(
         segments,
         catalogue,
     } = standing;
-    let parts = open_parts(rt, home, &segments)?;
+    let parts = open_parts(rt, home, &segments, left_out)?;
     let tally = tally_of(&catalogue);
     let numbers = numbers_of(alloc, &catalogue)?;
     let files = sources(alloc, &options.paths, catalogue)?;
-    let kept = KeptSegments::new(alloc, parts, &numbers, read)?;
+    let kept = KeptSegments::new(alloc, parts, &numbers, tally, read)?;
     Ok(Index::of_kept(alloc, kept, files, tally)?)
 }
 
@@ -40,12 +42,17 @@ fn open_parts(
     rt: &HostRuntime,
     home: &Home,
     segments: &[KeptSegment],
+    left_out: &Gone,
 ) -> Result<Vec<KeptPart>, Trouble> {
     let alloc = rt.alloc();
     let (schema, _) = schema(alloc)?;
     let mut parts = Vec::with_capacity(alloc, segments.len())?;
     for segment in segments {
-        parts.push(open_part(rt, home, &schema, segment)?)?;
+        let mut part = open_part(rt, home, &schema, segment)?;
+        if !left_out.is_empty() {
+            part.leave_out(rt, home, &schema, left_out)?;
+        }
+        parts.push(part)?;
     }
     Ok(parts)
 }
@@ -101,24 +108,27 @@ fn source(
         name_words: String::new(alloc),
         kept: None,
         column: known.column as usize,
+        is_converted: known.is_converted,
         stamp: Some(kept.stamp),
     })
 }
 
-/// Tells on standard error what was noted of files when they were read, but for those at these places.
-pub fn tell_notes(
+/// Notes again what was left out of files when they were read, but for those at these places.
+pub fn note_again(
     rt: &HostRuntime,
-    paths: &[&str],
+    options: &Options<'_>,
     catalogue: &Catalogue,
     gone: &[usize],
 ) -> Result<(), Trouble> {
     let mut marks = Marks::new(gone);
     let files = catalogue.kept.iter().zip(catalogue.known.iter());
     for (place, (kept, known)) in files.enumerate() {
-        if !marks.takes(place) && !known.note.is_empty() {
-            let path = shown_path(rt.alloc(), paths, &kept.path)?;
-            let note = known.note.as_str();
-            let _ = eprintln!(rt; "birch: {path}{note}");
+        if marks.takes(place) {
+            continue;
+        }
+        if let Some(why) = known.left_out {
+            let path = shown_path(rt.alloc(), &options.paths, &kept.path)?;
+            options.notes.add(rt, path.as_str(), why);
         }
     }
     Ok(())

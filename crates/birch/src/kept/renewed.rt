@@ -97,7 +97,8 @@ impl Catalogue {
             documents: gain.documents,
             words: gain.words,
             column: u32::try_from(gain.column).unwrap_or(u32::MAX),
-            note: gain.note,
+            is_converted: gain.is_converted,
+            left_out: gain.left_out,
         };
         self.add(kept, known)
     }

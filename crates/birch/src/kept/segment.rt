@@ -3,6 +3,8 @@
 ghost use Rattle.qm_store.specs.Wanted.{AreApart};
 
 use crate::kept::Trouble;
+use crate::kept::all_places::all_places;
+use crate::kept::gone::Gone;
 use crate::kept::home::Home;
 use crate::kept::names::{deletions_name, places_name, segment_name};
 use crate::kept::reading::{open_file, read_whole};
@@ -11,7 +13,7 @@ use qm_postings::SegmentReader;
 use qm_schema::Schema;
 use qm_store::{
     DocumentPlace, KeptSegment, SegmentFile, StoredPlaces, StoredSegment, Wanted, delete_stored,
-    wanted_of,
+    deletions_bytes, wanted_of,
 };
 use std::alloc::Global;
 
@@ -95,6 +97,23 @@ impl KeptPart {
     pub fn without_terms(&self, alloc: Global, schema: &Schema) -> Result<SegmentReader, Trouble> {
         let wanted = wanted_of(alloc, Vec::new(alloc), Vec::new(alloc))?;
         self.read_wanted(alloc, schema, &wanted)
+    }
+
+    /// Leaves out the documents of these files too.
+    pub fn leave_out(
+        &mut self,
+        rt: &HostRuntime,
+        home: &Home,
+        schema: &Schema,
+        files: &Gone,
+    ) -> Result<(), Trouble> {
+        let alloc = rt.alloc();
+        let mut segment = self.without_terms(alloc, schema)?;
+        let places = all_places(rt, home, self.key, segment.max_doc())?;
+        if files.delete_in(alloc, &mut segment, &places)? {
+            self.deletions = Some(deletions_bytes(alloc, &segment, self.key)?);
+        }
+        Ok(())
     }
 
     /// The whole segment.

@@ -3,10 +3,10 @@
 ghost use Rattle.std.specs.Prelude.{IfOk};
 ghost use Rattle.qm_store.specs.Wanted.{AreApart};
 
-use crate::index::{Fields, schema_with};
+use crate::index::{Fields, Tally, schema, schema_with};
 use crate::kept::Trouble;
 use crate::kept::segment::KeptPart;
-use birch_text::Clause;
+use birch_text::{Clause, Scope};
 use qm_postings::{DocAddress, Searcher, SegmentReader};
 use qm_schema::{IndexRecordOption, QueryError, Schema, Term};
 use qm_store::{DocumentPlace, StoreError, Wanted, wanted_of};
@@ -20,14 +20,23 @@ pub struct KeptSegments {
     numbers: Vec<(u32, u32)>,
     // how many files were read to bring the index up to date
     read: usize,
+    // how many postings may still be read of single rows, before all rows are
+    left: u64,
+    // whether all rows were read
+    is_whole: bool,
 }
 
+/// How many words stand there for each posting that is read of single rows. What all rows cost is then no more than a few
+/// times what was read before, however many queries there are.
+const WORDS_OF_POSTING: u64 = 4;
+
 impl KeptSegments {
-    /// These, of files with these numbers in their order, of which so many were read in this run.
+    /// These, of files with these numbers in their order, which have so much, of which so many were read in this run.
     pub fn new(
         alloc: Global,
         parts: Vec<KeptPart>,
         numbers: &[u32],
+        tally: Tally,
         read: usize,
     ) -> Result<KeptSegments, AllocError> {
         let mut placed = Vec::with_capacity(alloc, numbers.len())?;
@@ -39,6 +48,8 @@ impl KeptSegments {
             parts,
             numbers: placed,
             read,
+            left: tally.words / WORDS_OF_POSTING,
+            is_whole: false,
         })
     }
 
@@ -52,12 +63,46 @@ impl KeptSegments {
         self.read
     }
 
-    /// A searcher over the segments as if they had no terms but those that these clauses ask for.
+    /// A searcher over the segments as if they had no terms but those that these clauses ask for; none where the one
+    /// that was given before has them all. That has once many queries have read as much as is a part of all.
     pub fn searcher(
+        &mut self,
+        alloc: Global,
+        fields: Fields,
+        clauses: &[&Clause],
+        norms: [u32; 256],
+    ) -> Result<Option<Searcher>, Trouble> {
+        if self.is_whole {
+            return Ok(None);
+        }
+        if self.left == 0 {
+            let searcher = self.whole_searcher(alloc, norms)?;
+            self.is_whole = true;
+            return Ok(Some(searcher));
+        }
+        let searcher = self.searcher_of(alloc, fields, clauses, norms)?;
+        let read = postings_in(searcher.segment_readers());
+        self.left = self.left.saturating_sub(read);
+        Ok(Some(searcher))
+    }
+
+    // A searcher over the whole segments.
+    fn whole_searcher(&self, alloc: Global, norms: [u32; 256]) -> Result<Searcher, Trouble> {
+        let (schema, _) = schema(alloc)?;
+        let mut segments = Vec::with_capacity(alloc, self.parts.len())?;
+        for part in &self.parts {
+            segments.push(part.whole(alloc, &schema)?)?;
+        }
+        let none = Vec::new(alloc);
+        Ok(Searcher::new(alloc, schema, segments, none, 0, norms)?)
+    }
+
+    // A searcher over the segments as if they had no terms but those that these clauses ask for.
+    fn searcher_of(
         &self,
         alloc: Global,
         fields: Fields,
-        clauses: &[Clause],
+        clauses: &[&Clause],
         norms: [u32; 256],
     ) -> Result<Searcher, Trouble> {
         let wanted = wanted_by(alloc, fields, clauses)?;
@@ -114,8 +159,20 @@ impl KeptSegments {
     }
 }
 
+// How many postings segments have.
+fn postings_in(segments: &[SegmentReader]) -> u64 {
+    let mut count: u64 = 0;
+    for segment in segments {
+        for place in 0..segment.row_count() {
+            let documents = segment.row(place).documents().len();
+            count = count.saturating_add(documents as u64);
+        }
+    }
+    count
+}
+
 // What these clauses want of a segment.
-fn wanted_by(alloc: Global, fields: Fields, clauses: &[Clause]) -> Result<Vec<Wanted>, StoreError>
+fn wanted_by(alloc: Global, fields: Fields, clauses: &[&Clause]) -> Result<Vec<Wanted>, StoreError>
     ensures apart { IfOk result (λ wanted. AreApart wanted.items) }
 {
     let mut terms = Vec::new(alloc);
@@ -130,15 +187,18 @@ fn wanted_by(alloc: Global, fields: Fields, clauses: &[Clause]) -> Result<Vec<Wa
 fn push_wanted(
     alloc: Global,
     fields: Fields,
-    clauses: &[Clause],
+    clauses: &[&Clause],
     terms: &mut Vec<Term>,
     beginnings: &mut Vec<Term>,
 ) -> Result<(), QueryError> {
     for clause in clauses {
-        let field = fields.of(clause);
+        if let Scope::Field(_) = clause.scope {
+            // whether there is such a field
+            terms.push(fields.term(alloc, clause, "")?)?;
+        }
         let last = clause.words.len().saturating_sub(1);
         for (number, word) in clause.words.iter().enumerate() {
-            let term = Term::from_field_text(alloc, field, word.as_str())?;
+            let term = fields.term(alloc, clause, word.as_str())?;
             if clause.is_prefix && number == last {
                 beginnings.push(term)?;
             } else {

@@ -1,6 +1,5 @@
 //! An index, brought up to date.
 
-use crate::files::Found;
 use crate::indexer::{Gain, Indexer, Readings, read_files};
 use crate::kept::Trouble;
 use crate::kept::catalogue::Catalogue;
@@ -16,6 +15,7 @@ use crate::kept::renewed::renewed;
 use crate::kept::staying::Sorted;
 use crate::kept::writing::{free_number, make_folder, write};
 use crate::options::Options;
+use crate::walk::Found;
 use qm_folder::{Changes, FoundFile, KeptFile, ascend, changes};
 use qm_postings::SegmentReader;
 use qm_store::DocumentPlace;
@@ -115,7 +115,7 @@ fn read_changed(
     options: &Options<'_>,
     files: Vec<Found>,
 ) -> Result<(Readings, Vec<Option<Gain>>), Trouble> {
-    let mut indexer = Indexer::new(rt.alloc())?;
+    let mut indexer = Indexer::new(rt.alloc(), options.accents)?;
     let gains = read_files(rt, options, &mut indexer, files)?;
     let readings = indexer.finish()?;
     Ok((readings, gains))

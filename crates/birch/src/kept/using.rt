@@ -1,16 +1,19 @@
 //! The use of an index that is kept.
 
-use crate::files::find_files;
 use crate::index::Index;
 use crate::kept::Trouble;
+use crate::kept::above::index_above;
 use crate::kept::forgetting::forget;
+use crate::kept::gone::Gone;
 use crate::kept::home::{Home, home_of};
 use crate::kept::keys::found_files;
-use crate::kept::opening::{open, tell_notes};
+use crate::kept::opening::{note_again, open};
 use crate::kept::reading::{Standing, is_there, read_standing};
 use crate::kept::updating::{ToKeep, bring_up_to_date, changes_of};
 use crate::options::{Keeping, Options};
+use crate::walk::find_files;
 use anyhow::Result;
+use birch_text::Cleaned;
 use std::time::{SystemTime, UNIX_EPOCH};
 
 /// How often an index is opened that another run replaces meanwhile.
@@ -30,16 +33,36 @@ pub enum Use {
 /// The index that is kept of what is searched, brought up to date. What stands in its way is told, and it is made anew
 /// where that helps.
 pub fn kept_index(rt: &HostRuntime, options: &Options<'_>) -> Result<Use> {
-    let home = match home_of(rt, options) {
+    let home = match home_of(rt, options, &options.paths) {
         Ok(home) => home,
         Err(trouble) => return without_home(rt, options, trouble),
     };
     match tried(rt, options, &home) {
         Ok(Some(index)) => Ok(Use::Kept(index)),
-        Ok(None) => Ok(Use::NotThere),
+        Ok(None) => by_one_above(rt, options),
         // read as if there were no index, which is not asked for
         Err(Trouble::Stream) if options.keeping != Keeping::Make => Ok(Use::Refused),
         Err(trouble) => mended(rt, options, &home, trouble),
+    }
+}
+
+// The index that is kept of a folder above what is searched, where none is of that itself.
+fn by_one_above(rt: &HostRuntime, options: &Options<'_>) -> Result<Use> {
+    match index_above(rt, options) {
+        Ok(Some(index)) => Ok(Use::Kept(index)),
+        Ok(None) => {
+            if options.keeping == Keeping::Stale {
+                let _ = eprintln!(rt; "birch: no index is kept of these paths");
+            }
+            Ok(Use::NotThere)
+        }
+        Err(Trouble::Stopped(error)) => Err(error),
+        Err(Trouble::Stream) => Ok(Use::Refused),
+        Err(trouble) => {
+            let what = trouble.what();
+            let _ = eprintln!(rt; "birch: the index of a folder above: {what}; no index is used");
+            Ok(Use::Refused)
+        }
     }
 }
 
@@ -57,11 +80,19 @@ fn without_home(rt: &HostRuntime, options: &Options<'_>, trouble: Trouble) -> Re
     }
 }
 
-/// The index of what is searched after trouble with the one that is kept, which is told.
+/// The index of what is searched after trouble with the one that is kept, which is told. One of a folder above is not
+/// made anew: it has more than what is searched.
 pub fn after_trouble(rt: &HostRuntime, options: &Options<'_>, trouble: Trouble) -> Result<Use> {
-    match home_of(rt, options) {
-        Ok(home) => mended(rt, options, &home, trouble),
-        Err(other) => without_home(rt, options, other),
+    let home = match home_of(rt, options, &options.paths) {
+        Ok(home) => home,
+        Err(other) => return without_home(rt, options, other),
+    };
+    let is_own = options.keeping == Keeping::Make || is_there(rt, &home).unwrap_or(true);
+    if is_own {
+        mended(rt, options, &home, trouble)
+    } else {
+        tell(rt, &home, &trouble, "no index is used");
+        Ok(Use::Refused)
     }
 }
 
@@ -84,7 +115,7 @@ fn mended(rt: &HostRuntime, options: &Options<'_>, home: &Home, trouble: Trouble
 }
 
 fn tell(rt: &HostRuntime, home: &Home, trouble: &Trouble, then: &str) {
-    let (folder, what) = (home.folder.as_str(), trouble.what());
+    let (folder, what) = (Cleaned(home.folder.as_str()), trouble.what());
     let _ = eprintln!(rt; "birch: the index in {folder}: {what}; {then}");
 }
 
@@ -125,26 +156,36 @@ fn as_it_stands(
     home: &Home,
 ) -> Result<Option<Index>, Trouble> {
     let Some(standing) = read_standing(rt, home)? else {
-        let _ = eprintln!(rt; "birch: no index is kept of these paths");
         return Ok(None);
     };
-    tell_notes(rt, &options.paths, &standing.catalogue, &[])?;
-    Ok(Some(open(rt, options, home, standing, 0)?))
+    note_again(rt, options, &standing.catalogue, &[])?;
+    Ok(Some(open_whole(rt, options, home, standing, 0)?))
+}
+
+fn open_whole(
+    rt: &HostRuntime,
+    options: &Options<'_>,
+    home: &Home,
+    standing: Standing,
+    read: usize,
+) -> Result<Index, Trouble> {
+    let nothing = Gone::new(Vec::new(rt.alloc()));
+    open(rt, options, home, standing, &nothing, read)
 }
 
 // The index, brought up to date.
 fn up_to_date(rt: &HostRuntime, options: &Options<'_>, home: &Home) -> Result<Index, Trouble> {
-    let files = to_keep(rt, options)?;
+    let files = to_keep(rt, options, &options.paths)?;
     if let Some(standing) = read_standing(rt, home)? {
         if is_unchanged(rt, options, &standing, &files)? {
-            return open(rt, options, home, standing, 0);
+            return open_whole(rt, options, home, standing, 0);
         }
     }
     let (standing, read) = bring_up_to_date(rt, options, home, files, false)?;
-    open(rt, options, home, standing, read)
+    open_whole(rt, options, home, standing, read)
 }
 
-// Whether an index is of these files as they are. What was noted of those that stay is told again.
+// Whether an index is of these files as they are. What was left out of those that stay is noted again.
 fn is_unchanged(
     rt: &HostRuntime,
     options: &Options<'_>,
@@ -152,25 +193,25 @@ fn is_unchanged(
     files: &ToKeep,
 ) -> Result<bool, Trouble> {
     let changes = changes_of(rt.alloc(), &standing.catalogue.kept, &files.keys)?;
-    tell_notes(rt, &options.paths, &standing.catalogue, &changes.gone)?;
+    note_again(rt, options, &standing.catalogue, &changes.gone)?;
     Ok(changes.gone.is_empty() && changes.to_read.is_empty())
 }
 
 // The index, made anew of all files.
 fn made_anew(rt: &HostRuntime, options: &Options<'_>, home: &Home) -> Result<Index, Trouble> {
-    let files = to_keep(rt, options)?;
+    let files = to_keep(rt, options, &options.paths)?;
     let (standing, read) = bring_up_to_date(rt, options, home, files, true)?;
-    open(rt, options, home, standing, read)
+    open_whole(rt, options, home, standing, read)
 }
 
-// The files that are found, each of which can be read again.
-fn to_keep(rt: &HostRuntime, options: &Options<'_>) -> Result<ToKeep, Trouble> {
+/// The files that are found at these paths, each of which can be read again.
+pub fn to_keep(rt: &HostRuntime, options: &Options<'_>, paths: &[&str]) -> Result<ToKeep, Trouble> {
     let moment = moment(rt)?;
-    let found = find_files(rt, options)?;
+    let found = find_files(rt, options, paths)?;
     if found.iter().any(|file| file.is_stream) {
         return Err(Trouble::Stream);
     }
-    let keys = found_files(rt.alloc(), &options.paths, &found)?;
+    let keys = found_files(rt.alloc(), paths, &found)?;
     Ok(ToKeep {
         found,
         keys,
@@ -190,6 +231,6 @@ fn moment(rt: &HostRuntime) -> Result<u64, Trouble> {
 
 /// Removes the index that is kept of what would be searched, and answers whether there was one.
 pub fn forget_kept(rt: &HostRuntime, options: &Options<'_>) -> Result<bool, Trouble> {
-    let home = home_of(rt, options)?;
+    let home = home_of(rt, options, &options.paths)?;
     forget(rt, &home)
 }

@@ -8,7 +8,7 @@ use crate::kept::catalogue_bytes::catalogue_bytes;
 use crate::kept::home::Home;
 use crate::kept::names::number_of;
 use crate::kept::plan::Plan;
-use crate::weights::norms;
+use crate::lengths::norms;
 use qm_folder::{Folder, SystemFolder, is_clean, update};
 use qm_postings::Searcher;
 use qm_store::manifest_bytes;

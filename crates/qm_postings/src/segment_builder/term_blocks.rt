@@ -1,11 +1,12 @@
 //! The blocks of all terms' postings.
 
 ghost use Rattle.std.specs.Prelude.{◌≡◌, ◌+◌, ◌-◌, ◌<◌, ◌≤◌, ◌++◌, All, IfOk, OnOk, IsOkUnless, if◌then◌else◌, length, map, min, nat_lt, slice_index, slice_index_or, []};
-ghost use Rattle.qm_postings.specs.Kept.{HaveBlocks, all_infos, greatest, least_id};
-ghost use Rattle.qm_postings.specs.Kept.{greatest};
+ghost use Rattle.qm_postings.specs.Frequencies.{listed};
+ghost use Rattle.qm_postings.specs.Kept.{HaveBlocks, all_infos, least_id};
 
+use crate::frequencies::{Frequencies, FrequencyPart};
 use crate::segment_reader::TermEntry;
-use crate::term_arrays::{BlockInfo, sum_of};
+use crate::term_arrays::BlockInfo;
 use qm_docset::{DocId, TERMINATED};
 use qm_schema::QueryError;
 use std::alloc::Global;
@@ -22,7 +23,7 @@ pub(crate) fn cut_into_blocks(
     alloc: Global,
     terms: &[TermEntry],
     documents: &[DocId],
-    frequencies: &[u32],
+    frequencies: &Frequencies,
     columns: &[Vec<u8>],
     block_len: u32,
 ) -> Result<TermBlocks, QueryError>
@@ -40,7 +41,7 @@ pub(crate) fn cut_into_blocks(
         push_blocks(
             &mut infos,
             &documents[entry.start..end],
-            &frequencies[entry.start..end],
+            frequencies.part(entry.start, entry.doc_freq as usize),
             column_of(columns, entry.term.field().field_id()),
             block_len as usize,
         )?;
@@ -73,29 +74,29 @@ pub(crate) fn column_of(columns: &[Vec<u8>], field: u32) -> &[u8]
 fn push_blocks(
     infos: &mut Vec<BlockInfo>,
     documents: &[DocId],
-    frequencies: &[u32],
+    frequencies: FrequencyPart<'_>,
     ids: &[u8],
     block_len: usize,
 ) -> Result<(), QueryError>
-    requires paired { length frequencies.now ≡ length documents.now }
+    requires paired { length (listed frequencies) ≡ length documents.now }
     requires few { length documents.now ≤ 4294967295 }
     requires block_len { 0 < block_len }
-    ensures pushed { OnOk result (infos.new.items ≡ infos.old.items ++ all_infos block_len ids.now documents.now frequencies.now) }
+    ensures pushed { OnOk result (infos.new.items ≡ infos.old.items ++ all_infos block_len ids.now documents.now (listed frequencies.entry)) }
     ensures refused { IsOkUnless result QueryError.Memory }
 {
     let mut positions_start = 0;
-    // all blocks before this one are there, and their frequencies are summed
+    // all blocks before this one are there, and their frequencies are summed, none of which is over 4294967295
     for block in 0..documents.len().div_ceil(block_len) {
         let start = block * block_len;
         let end = start + block_len.min(documents.len() - start);
-        let frequencies = &frequencies[start..end];
+        let part = frequencies.part(start, end);
         infos.push(BlockInfo {
             last_doc: end_of(documents, end),
-            max_term_freq: greatest_of(frequencies),
+            max_term_freq: part.greatest(),
             least_fieldnorm_id: least_id(ids, &documents[start..end]),
             positions_start,
         })?;
-        positions_start += sum_of(frequencies);
+        positions_start += part.sum();
     }
     Ok(())
 }
@@ -110,16 +111,6 @@ fn end_of(documents: &[DocId], end: usize) -> DocId
     } else {
         TERMINATED
     }
-}
-
-pub(crate) fn greatest_of(frequencies: &[u32]) -> u32
-    ensures { result ≡ greatest frequencies.now }
-{
-    let mut greatest = 0;
-    for frequency in frequencies {
-        greatest = greatest.max(*frequency);
-    }
-    greatest
 }
 
 // The least length id of some documents, by those of all; a document that has none there counts as 1.

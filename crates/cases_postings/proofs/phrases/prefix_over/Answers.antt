@@ -1,5 +1,5 @@
 -- Every document has a length id.
-use Rattle.std.proofs.Common.{ℕ, length, arith}
+use Rattle.std.proofs.Common.{ℕ, arith}
 use Rattle.std.proofs.lemmas.List.{length-map}
 use Rattle.qm_phrase.specs.PhraseTerms.{terms_given}
 use Rattle.cases_postings.proofs.CoveredTerms.{covered-constant}

@@ -1,35 +1,25 @@
-use Rattle.std.proofs.Common.{◌≡◌, ◌<◌, ◌+◌, ◌-◌, ℕ, List, [], ◌∷◌, ◌++◌, ap, sym, ◌∙◌, arith}
+use Rattle.std.proofs.Common.{◌≡◌, ◌+◌, ◌-◌, List, ◌++◌, ◌∷◌, [], ℕ, ap, sym, ◌∙◌, arith}
 use Rattle.qm_store.specs.RowBytes.{gaps_at, in_front_of_all}
-use Rattle.qm_store.proofs.GapBytes.{ends, goes-on, passes, stops}
+use Rattle.qm_store.proofs.GapBytes.{ends, goes-on, stops}
 use Rattle.qm_store.proofs.gaps.read_gaps.Goals as goal
 
 pub returns-in_default : goal.returns-in_default
 returns-in_default c =
     let at = c.loop-place in
-    let left = c.args.count - at.place in
-    stops at.numbers.items at.rest.now left at.low _ at.invariant.whole (omega (arith, c.loop-place-test.true)) (sym c.in_default.ensures.read)
-
-pub returns-then-number-ge-LIMIT : goal.returns-then-number-ge-LIMIT
-returns-then-number-ge-LIMIT c =
-    let at = c.loop-place in
-    let left = c.args.count - at.place in
-    passes at.numbers.items at.rest.now left at.low _ at.invariant.whole (omega (arith, c.loop-place-test.true)) c.in-Some.gap c.in-Some.behind.now
-    (sym c.in-Some.ensures.read) c.if-number-ge-LIMIT.true
+    stops at.numbers.items at.rest.now (c.args.count - at.place) at.low _ at.invariant.whole (omega (arith, c.loop-place-test.true)) (sym c.in_default.ensures.read)
 
 pub loop-place-preserved : goal.loop-place-preserved
 loop-place-preserved c =
     let at = c.loop-place in
     let left = c.args.count - at.place in
-    let less : at.low + c.in-Some.gap < 4294967295 = omega (arith, c.if-number-ge-LIMIT.false) in
+    let number = c.in-Some.number in
     let e : c.args.count - (at.place + 1) ≡ left - 1 = omega arith in
-    let low = at.low + c.in-Some.gap + 1 in
     record {
       whole =
-          ap (λ (xs : List ℕ). in_front_of_all xs (gaps_at (c.args.count - (at.place + 1)) low c.in-Some.behind.now)) c.in_ok-push.ensures.items
-          ∙ ap (λ (k : ℕ). in_front_of_all (at.numbers.items ++ (at.low + c.in-Some.gap) ∷ []) (gaps_at k low c.in-Some.behind.now)) e
-          ∙ goes-on at.numbers.items at.rest.now left at.low _ at.invariant.whole (omega (arith, c.loop-place-test.true)) c.in-Some.gap c.in-Some.behind.now
-          (sym c.in-Some.ensures.read) less;
-      small = omega (arith, less);
+          ap (λ (xs : List ℕ). in_front_of_all xs (gaps_at (c.args.count - (at.place + 1)) (number + 1) c.in-Some.behind.now)) c.in_ok-push.ensures.items
+          ∙ ap (λ (k : ℕ). in_front_of_all (at.numbers.items ++ number ∷ []) (gaps_at k (number + 1) c.in-Some.behind.now)) e
+          ∙ goes-on at.numbers.items at.rest.now left at.low _ at.invariant.whole (omega (arith, c.loop-place-test.true)) number c.in-Some.behind.now
+          (sym c.in-Some.ensures.read);
     }
 
 pub returns : goal.returns

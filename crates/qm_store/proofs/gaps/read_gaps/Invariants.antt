@@ -1,9 +1,8 @@
-use Rattle.std.proofs.Common.{◌≡◌, ◌≤◌, ◌-◌}
+use Rattle.std.proofs.Common.{◌≡◌, ◌-◌}
 use Rattle.qm_store.specs.RowBytes.{gaps_at, in_front_of_all}
 use Rattle.qm_store.proofs.gaps.read_gaps.Given as goal
 
 abbrev pub invariant-loop-place : goal.invariant-loop-place
 invariant-loop-place l = record {
   whole : in_front_of_all l.numbers.items (gaps_at (l.count - l.place) l.low l.rest) ≡ in_front_of_all l.fn.numbers.items (gaps_at l.count 0 l.bytes);
-  small : l.low ≤ 4294967295;
 }

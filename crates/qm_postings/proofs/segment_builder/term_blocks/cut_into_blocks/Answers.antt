@@ -1,7 +1,7 @@
 use Rattle.std.proofs.Common.{◌≡◌, ◌∙◌, ◌+◌, ◌-◌, ◌++◌, [], ◌∷◌, ℕ, ap, arith, drop, get_or, length, map, sym, take, take_all}
 use Rattle.std.specs.List.{flat_map, range_with_len}
 use Rattle.std.proofs.lemmas.List.FromFn.{map-range_with_len_more}
-use Rattle.qm_postings.specs.Kept.{all_infos, range_infos, PostingsRange}
+use Rattle.qm_postings.specs.Kept.{PostingsRange, all_infos, range_infos}
 use Rattle.qm_postings.proofs.BoundLemmas.{flat-more}
 use Rattle.qm_postings.proofs.segment_builder.term_blocks.cut_into_blocks.Goals as goal
 
@@ -21,7 +21,7 @@ loop-entry-preserved c =
     let width : entry.start + entry.doc_freq - entry.start ≡ entry.doc_freq = omega arith in
     let column : c.column_of.result.now ≡ get_or columns entry.term.field [] = c.column_of.ensures
     ∙ ap (λ n. get_or columns n []) (c.field_id.ensures ∙ c.field.ensures) in
-    let mine = (λ i. all_infos bl (column i) (take (width i) (drop entry.start ds)) (take (width i) (drop entry.start fs)))
+    let mine = (λ i. all_infos bl (column i) (take (width i) (drop entry.start ds)) (c.part.ensures i))
     ∙ ap own (c.entry.view_is ∙ c.entry-item.is) in
     record {
       places = c.in_ok-push.ensures.items ∙ ap (λ n. c.loop-entry.starts.items ++ n ∷ []) (c.len.ensures ∙ c.loop-entry.infos.ok.0)

@@ -24,15 +24,15 @@ returns-in_err-read_piece g c = λ file known.
     in
     let own = option_and_then (rows_by key file schema chosen) (piece_in key file b.piece) in
     let rest = rows_of_blocks key file schema chosen (map start_of (drop (i + 1) bs)) in
-    let all = option_map (λ (more : List Row). c.args.rows.now.items ++ more) (rows_of_blocks key file schema chosen (map start_of bs)) in
-    let told = ap (λ (l : List BlockStart). option_map (λ (more : List Row). at.rows.items ++ more) (rows_of_blocks key file schema chosen (map start_of l))) (sym cut)
+    let all = option_map (λ (more : List Row). c.args.rows.now.rows ++ more) (rows_of_blocks key file schema chosen (map start_of bs)) in
+    let told = ap (λ (l : List BlockStart). option_map (λ (more : List Row). at.rows.rows ++ more) (rows_of_blocks key file schema chosen (map start_of l))) (sym cut)
     ∙ at.invariant.whole file known
     in
     let p = err_from_is_err_and c.from_residual.result c.from_residual.ensures.1 in
     rw (p.1, p.2) (tells c.in_err-read_piece.field-0.0 (option_map (λ (part : List ℕ). c.clear.new.self.items ++ part) (piece_in key file b.piece)) all
     (c.in_err-read_piece.ensures file known)
-    (λ none. stops at.rows.items own rest all told
-    (unread (piece_in key file b.piece) (λ (part : List ℕ). c.clear.new.self.items ++ part) (rows_by key file schema chosen) at.rows.items none)))
+    (λ none. stops at.rows.rows own rest all told
+    (unread (piece_in key file b.piece) (λ (part : List ℕ). c.clear.new.self.items ++ part) (rows_by key file schema chosen) at.rows.rows none)))
 
 pub returns-in_err-push_rows_of : goal.returns-in_err-push_rows_of
 returns-in_err-push_rows_of g c = λ file known.
@@ -48,8 +48,8 @@ returns-in_err-push_rows_of g c = λ file known.
     in
     let own = option_and_then (rows_by key file schema chosen) (piece_in key file b.piece) in
     let rest = rows_of_blocks key file schema chosen (map start_of (drop (i + 1) bs)) in
-    let all = option_map (λ (more : List Row). c.args.rows.now.items ++ more) (rows_of_blocks key file schema chosen (map start_of bs)) in
-    let told = ap (λ (l : List BlockStart). option_map (λ (more : List Row). at.rows.items ++ more) (rows_of_blocks key file schema chosen (map start_of l))) (sym cut)
+    let all = option_map (λ (more : List Row). c.args.rows.now.rows ++ more) (rows_of_blocks key file schema chosen (map start_of bs)) in
+    let told = ap (λ (l : List BlockStart). option_map (λ (more : List Row). at.rows.rows ++ more) (rows_of_blocks key file schema chosen (map start_of l))) (sym cut)
     ∙ at.invariant.whole file known
     in
     let read = sym (plain (piece_in key file b.piece))
@@ -57,7 +57,7 @@ returns-in_err-push_rows_of g c = λ file known.
     ∙ c.in_ok-read_piece.ensures file known ∙ ap Some (sym c.deref.ensures.value)
     in
     let p = err_from_is_err_and c.from_residual-in_err-push_rows_of.result c.from_residual-in_err-push_rows_of.ensures.1 in
-    rw (p.1, p.2) (tells c.in_err-push_rows_of.field-0.0 (option_map (λ (more : List Row). at.rows.items ++ more) (rows_by key file schema chosen c.deref.result.now)) all
+    rw (p.1, p.2) (tells c.in_err-push_rows_of.field-0.0 (option_map (λ (more : List Row). at.rows.rows ++ more) (rows_by key file schema chosen c.deref.result.now)) all
     (c.in_err-push_rows_of.ensures file known)
-    (λ none. stops at.rows.items own rest all told
-    (ap (λ (x : Option (List ℕ)). option_map (λ (more : List Row). at.rows.items ++ more) (option_and_then (rows_by key file schema chosen) x)) read ∙ none)))
+    (λ none. stops at.rows.rows own rest all told
+    (ap (λ (x : Option (List ℕ)). option_map (λ (more : List Row). at.rows.rows ++ more) (option_and_then (rows_by key file schema chosen) x)) read ∙ none)))

@@ -5,6 +5,6 @@ use Rattle.qm_store.proofs.stored_segment.StoredSegment.read_wanted.Given as goa
 abbrev pub invariant-loop-one : goal.invariant-loop-one
 invariant-loop-one g l = record {
   whole : (file : List ℕ) → g.P.Pieces.bytes l.self.source ≡ Some file →
-      option_map (λ more. l.rows.items ++ more) (rows_of l.self.key file l.schema (opened_of l.self).blocks (drop l.one-index l.wanted))
+      option_map (λ more. l.rows.rows ++ more) (rows_of l.self.key file l.schema (opened_of l.self).blocks (drop l.one-index l.wanted))
       ≡ rows_of l.self.key file l.schema (opened_of l.self).blocks l.wanted;
 }

@@ -1,0 +1,128 @@
+/* Finds documents by their words: the calls of the library birchagain, as C sees them. docs/LIBRARY.md leads through them.
+ *
+ * An index is a struct of one pointer, which lies in your memory. All zero bytes are an empty one, so begin with
+ *
+ *     birchagain_index index = {0};
+ *
+ * Memory. `birchagain_open` makes what the pointer is to, and `birchagain_free` frees it; no other memory passes from
+ * one side to the other. What a call is handed it copies or only reads, and keeps no pointer to it. What a call answers
+ * stands in arrays of yours.
+ *
+ * Statuses. A call answers a status: 0 is done. After any other the index holds what it held, and words weigh what they
+ * did; an array that was to be filled has what it had. Each call names below which it may answer, beside
+ * BIRCHAGAIN_NO_MEMORY and BIRCHAGAIN_EMPTY, which all may: a call on an empty index answers BIRCHAGAIN_EMPTY, so one
+ * behind `birchagain_free` is refused, and never undefined.
+ *
+ * Threads. One call at a time on an index, those that only read too. Other threads may use it in turn, ordered by a lock
+ * or a join, and any number of indexes may be used at once.
+ *
+ * What you owe, since nothing checks it:
+ *   - A pointer is to a live struct or array. It is not null, not even where the length of an array is 0.
+ *   - What a call is handed does not overlap, but for arrays that it only reads.
+ *   - `at` is left alone. A struct may be moved; of two copies one alone is used, and none once the other was freed.
+ *   - No call from a signal handler, nor from the forked child of a process with threads.
+ *   - malloc, realloc and free are those of one allocator.
+ */
+#ifndef BIRCHAGAIN_H
+#define BIRCHAGAIN_H
+#include <stddef.h>
+#include <stdint.h>
+
+#ifdef __cplusplus
+extern "C" {
+#endif
+
+typedef struct birchagain_index {
+    void *at; /* never read or written by C */
+} birchagain_index;
+
+/* a document that was found, by its number, and its score */
+typedef struct birchagain_hit {
+    uint64_t document;
+    int64_t score;
+} birchagain_hit;
+
+enum {
+    BIRCHAGAIN_DONE = 0,
+    BIRCHAGAIN_TOO_FEW_TERMS = 1, /* a phrase has fewer than two words */
+    BIRCHAGAIN_EMPTY_PREFIX = 2,  /* a phrase prefix has no word */
+    BIRCHAGAIN_TIE_BREAKER = 8,   /* it is above 1000 thousandths */
+    BIRCHAGAIN_SCORE_BOUND = 9,   /* a score might pass 9223372036854775807 */
+    BIRCHAGAIN_NO_MEMORY = 13,
+    BIRCHAGAIN_TOO_MANY_DOCUMENTS = 14, /* the open segment has 2147483647 */
+    BIRCHAGAIN_BAD_DOCUMENT = 15,       /* it has more than 4294967295 words */
+    BIRCHAGAIN_TOO_MANY_SEGMENTS = 18,  /* there are 4294967295 */
+    BIRCHAGAIN_EMPTY = 64,              /* the index was never opened, or was freed */
+    BIRCHAGAIN_NOT_UNDERSTOOD = 65,     /* a query does not fit its language, or is not UTF-8 */
+    BIRCHAGAIN_NOT_TEXT = 66,           /* a text or a word is not UTF-8 */
+    BIRCHAGAIN_NO_DOCUMENT = 67,        /* there is no document of that number */
+    BIRCHAGAIN_NOT_WORDS = 68,          /* ends that do not ascend within the bytes, or a word that has a space */
+    BIRCHAGAIN_NEGATIVE_WEIGHT = 69,
+    BIRCHAGAIN_UNEVEN_ROWS = 70         /* two arrays that are to have one length have not */
+};
+
+/* Puts an index without documents at `index`. What it held is freed. */
+uint32_t birchagain_open(birchagain_index *index);
+
+/* Frees what it holds; it is empty then. Harmless where it is empty. */
+void birchagain_free(birchagain_index *index);
+
+/* Adds a document: a text in UTF-8, whose words ASCII spaces part. It gets the next number, from 0 up.
+ * BIRCHAGAIN_NOT_TEXT, BIRCHAGAIN_TOO_MANY_DOCUMENTS, BIRCHAGAIN_BAD_DOCUMENT. */
+uint32_t birchagain_add_text(birchagain_index *index, const uint8_t *text, size_t text_length);
+
+/* The same by its words, which stand in `bytes` one behind the other: the first begins at 0, and each ends where `ends`
+ * says. Words have one byte at least.
+ * BIRCHAGAIN_NOT_WORDS, BIRCHAGAIN_NOT_TEXT, BIRCHAGAIN_TOO_MANY_DOCUMENTS, BIRCHAGAIN_BAD_DOCUMENT. */
+uint32_t birchagain_add_words(birchagain_index *index, const uint8_t *bytes, size_t bytes_length, const size_t *ends,
+                              size_t words);
+
+/* Deletes a document. It keeps its number, as all others do; to delete it again is done, too.
+ * BIRCHAGAIN_NO_DOCUMENT. */
+uint32_t birchagain_delete(birchagain_index *index, uint64_t document);
+
+/* Ends the segment that takes documents, and opens another. Documents keep their numbers.
+ * BIRCHAGAIN_TOO_MANY_SEGMENTS. */
+uint32_t birchagain_end_segment(birchagain_index *index);
+
+/* Builds what was added, so that the next call that reads need not. What the index holds stays the same. */
+uint32_t birchagain_refresh(birchagain_index *index);
+
+/* Writes at `out` how many documents were added, deleted ones too. */
+uint32_t birchagain_documents(birchagain_index *index, uint64_t *out);
+
+/* A word weighs so much from now on, from 0 up; one that was given no weight weighs 1000.
+ * BIRCHAGAIN_NEGATIVE_WEIGHT, BIRCHAGAIN_NOT_TEXT. */
+uint32_t birchagain_weigh(birchagain_index *index, const uint8_t *word, size_t word_length, int64_t weight);
+
+/* Fills `out` with how many documents hold each word, deleted ones too. The words stand in `bytes` as
+ * `birchagain_add_words` takes them, and `out` has as many numbers. Builds what was added.
+ * BIRCHAGAIN_UNEVEN_ROWS, BIRCHAGAIN_NOT_WORDS, BIRCHAGAIN_NOT_TEXT. */
+uint32_t birchagain_frequencies(birchagain_index *index, const uint8_t *bytes, size_t bytes_length, const size_t *ends,
+                                size_t words, uint64_t *out, size_t out_length);
+
+/* A query is a `Q` of docs/SCRIPT.md, in UTF-8. Deleted documents are never found. A call builds what was added, so that what
+ * the index holds stays the same. Beside the statuses below both calls may answer BIRCHAGAIN_NOT_UNDERSTOOD,
+ * BIRCHAGAIN_TOO_FEW_TERMS, BIRCHAGAIN_EMPTY_PREFIX, BIRCHAGAIN_TIE_BREAKER and BIRCHAGAIN_SCORE_BOUND. */
+
+/* Writes at `out` how many documents match. */
+uint32_t birchagain_count(birchagain_index *index, const uint8_t *query, size_t query_length, uint64_t *out);
+
+/* Fills the front of `out` with the best documents that match, as many as there is room for: by score downwards, and of one
+ * score by number upwards. Writes at `filled` how many these are: fewer than there is room for where there are no more. */
+uint32_t birchagain_top(birchagain_index *index, const uint8_t *query, size_t query_length, birchagain_hit *out,
+                        size_t out_length, size_t *filled);
+
+/* What a word weighs that so many of the documents hold, by BM25: the natural logarithm of
+ * 1 + (documents - held + 0.5) / (held + 0.5), in thousandths, rounded down: at most 45747. Touches no index, and may be
+ * called from any thread at any time. */
+uint64_t birchagain_rarity(uint64_t documents, uint64_t held);
+
+/* Writes at the front of `out` what a status says, in English, as far as there is room for it, with no zero byte behind
+ * it, and answers how many bytes all of it has. Touches no index, and may be called from any thread at any time. */
+size_t birchagain_status_text(uint32_t status, uint8_t *out, size_t out_length);
+
+#ifdef __cplusplus
+}
+#endif
+#endif

@@ -1,0 +1,56 @@
+/* With refuse.c: one request for memory is refused, and still all is right, and nothing is lost. The status is 1 where
+ * something is wrong, 2 where no request was refused. */
+#include "birchagain.h"
+#include <stdio.h>
+#include <string.h>
+
+#define BYTES(s) (const uint8_t *)(s), strlen(s)
+
+static unsigned refused = 0, wrong = 0;
+
+/* Whether a call was done; else it was refused for want of memory. */
+static int done(uint32_t status) {
+    refused += status == BIRCHAGAIN_NO_MEMORY;
+    wrong += status != BIRCHAGAIN_DONE && status != BIRCHAGAIN_NO_MEMORY;
+    return status == BIRCHAGAIN_DONE;
+}
+
+/* An index has so many documents, so many of them have the words, and so many are left. */
+static void holds(birchagain_index *index, uint64_t documents, uint64_t with_a, uint64_t with_d, uint64_t alive) {
+    static const size_t ends[] = {1, 2};
+    uint64_t count = 0, found = 99, held[2] = {99, 99};
+    birchagain_hit best[3];
+    size_t filled = 99;
+    wrong += birchagain_documents(index, &count) != BIRCHAGAIN_DONE || count != documents;
+    if (done(birchagain_frequencies(index, BYTES("ad"), ends, 2, held, 2))) wrong += held[0] != with_a || held[1] != with_d;
+    else wrong += held[0] != 99 || held[1] != 99;
+    if (done(birchagain_count(index, BYTES("bool 0 2 ? phrase 0 2 b a ? term d"), &found))) wrong += found != alive;
+    else wrong += found != 99;
+    if (done(birchagain_top(index, BYTES("bool 0 2 ? term a ? term d"), best, 3, &filled))) wrong += filled != (alive < 3 ? alive : 3);
+    else wrong += filled != 99;
+}
+
+int main(void) {
+    static const size_t ends[] = {1, 2, 4};
+    birchagain_index index = {0};
+    uint64_t texts = 0, words = 0, alive;
+    if (!done(birchagain_open(&index))) {
+        wrong += index.at != NULL;
+        if (!done(birchagain_open(&index))) return 1;
+    }
+    for (int d = 0; d < 12; d++) {
+        texts += done(birchagain_add_text(&index, BYTES("a b a c a-long-word-that-takes-memory")));
+        words += done(birchagain_add_words(&index, BYTES("dbdd"), ends, 3));
+        if (d % 4 == 3) done(birchagain_end_segment(&index));
+        if (d % 3 == 1) holds(&index, texts + words, texts, words, texts + words);
+    }
+    done(birchagain_weigh(&index, BYTES("another-long-word-that-takes-memory"), 5));
+    alive = texts + words;
+    alive -= done(birchagain_delete(&index, 0));
+    alive -= done(birchagain_delete(&index, texts + words - 1));
+    done(birchagain_refresh(&index));
+    holds(&index, texts + words, texts, words, alive);
+    birchagain_free(&index);
+    printf("refused %u, wrong %u\n", refused, wrong);
+    return wrong ? 1 : refused ? 0 : 2;
+}

@@ -1,0 +1,52 @@
+"""Why a call was refused."""
+
+import ctypes
+
+from . import _library
+
+_NO_MEMORY, _EMPTY, NO_DOCUMENT = 13, 64, 67
+# what the text of a query may be refused for
+_QUERY = (1, 2, 8, 9, 65)
+_ROOM = 256
+
+
+class BirchagainError(Exception):
+    """A call was refused, and the index is as it was. `status` is the number of bindings/c/birchagain.h."""
+
+    def __init__(self, status: int) -> None:
+        text = ctypes.create_string_buffer(_ROOM)
+        length = _library.status_text(status, text, _ROOM)
+        super().__init__(text.raw[: min(length, _ROOM)].decode())
+        self.status = status
+
+    def __reduce__(self):
+        return type(self), (self.status,)
+
+
+class ClosedError(BirchagainError, ValueError):
+    """The index was closed."""
+
+
+class NoDocumentError(BirchagainError, IndexError):
+    """There is no document of that number."""
+
+
+class QueryError(BirchagainError, ValueError):
+    """The text of a query is not understood, or the query is refused."""
+
+
+class WordError(BirchagainError, ValueError):
+    """A document, a word or a weight that cannot be taken."""
+
+
+def raise_for(status: int) -> None:
+    """Raises what a status stands for, and nothing where the call was done."""
+    if status == 0:
+        return
+    if status == _NO_MEMORY:
+        raise MemoryError("birchagain: out of memory")
+    if status == _EMPTY:
+        raise ClosedError(status)
+    if status == NO_DOCUMENT:
+        raise NoDocumentError(status)
+    raise (QueryError if status in _QUERY else WordError)(status)

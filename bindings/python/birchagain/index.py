@@ -1,0 +1,165 @@
+"""Documents that are added and deleted in any order, and their words."""
+
+from __future__ import annotations
+
+import ctypes
+import threading
+from itertools import accumulate
+from typing import Iterable, List, Mapping, NamedTuple, Tuple, Union
+
+from . import _library
+from .errors import NO_DOCUMENT, NoDocumentError, raise_for
+
+_NUMBERS, _SCORES = 1 << 64, 1 << 63
+
+
+def _laid_out(words: Iterable[str]) -> Tuple[bytes, ctypes.Array, int]:
+    """Words one behind the other, where each ends, and how many there are."""
+    encoded = [word.encode() for word in words]
+    # an array of C has one place at least, so that there is a pointer to it
+    ends = (ctypes.c_size_t * max(len(encoded), 1))(*accumulate(map(len, encoded)))
+    return b"".join(encoded), ends, len(encoded)
+
+
+class Hit(NamedTuple):
+    """A document that was found, by its number, and its score."""
+
+    document: int
+    score: int
+
+
+class Index:
+    """Documents of words, numbered from 0 up in the order in which they are added.
+
+    It is a context manager: behind the block its memory is freed. Any thread may call it; while one call runs, others
+    of the same index wait. A call that is refused raises, and leaves the index as it was.
+    """
+
+    def __init__(self, documents: Iterable[Union[str, Iterable[str]]] = ()) -> None:
+        """An index of these documents, as `add` takes them."""
+        self._handle = _library.Handle()
+        self._lock = threading.Lock()
+        self._call(_library.open_index)
+        try:
+            for document in documents:
+                self.add(document)
+        except BaseException:
+            self.close()
+            raise
+
+    def _call(self, call, *arguments) -> None:
+        # ctypes lets other threads run during a call
+        with self._lock:
+            status = call(self._handle, *arguments)
+        raise_for(status)
+
+    def close(self) -> None:
+        """Frees its memory. Harmless where it is closed already."""
+        with self._lock:
+            _library.free(self._handle)
+
+    def __enter__(self) -> Index:
+        return self
+
+    def __exit__(self, *_exception) -> None:
+        self.close()
+
+    def __del__(self) -> None:
+        # where __init__ has failed there is no handle, and at the end of the process no library
+        if getattr(self, "_handle", None) is not None and _library is not None:
+            _library.free(self._handle)
+
+    def __reduce__(self):
+        raise TypeError("an Index has no form as bytes yet: hand its documents on")
+
+    def __len__(self) -> int:
+        """How many documents were added, deleted ones too."""
+        count = ctypes.c_uint64()
+        self._call(_library.documents, count)
+        return count.value
+
+    def add(self, document: Union[str, Iterable[str]]) -> None:
+        """Adds a document: a text, whose words spaces part, or its words, each with one letter at least and no space.
+
+        Raises `WordError` for words that are not such, and `UnicodeEncodeError` for what is no text.
+        """
+        if isinstance(document, str):
+            text = document.encode()
+            self._call(_library.add_text, text, len(text))
+        else:
+            data, ends, count = _laid_out(document)
+            self._call(_library.add_words, data, len(data), ends, count)
+
+    def delete(self, document: int) -> None:
+        """Deletes a document, which keeps its number, as all others do. To delete it again changes nothing.
+
+        Raises `NoDocumentError`, an `IndexError`, where there is none of that number.
+        """
+        if not 0 <= document < _NUMBERS:
+            raise NoDocumentError(NO_DOCUMENT)
+        self._call(_library.delete, document)
+
+    def end_segment(self) -> None:
+        """Ends the segment that takes documents, and opens another."""
+        self._call(_library.end_segment)
+
+    def refresh(self) -> None:
+        """Builds what was added, so that the next call that reads need not."""
+        self._call(_library.refresh)
+
+    def weigh(self, weights: Mapping[str, int]) -> None:
+        """Gives each of these words its weight from now on; one that was given none weighs 1000. Words are given theirs
+        one after another, so those before one that is refused have it.
+
+        Raises `WordError` for a weight below 0, and `OverflowError` for one above 9223372036854775807.
+        """
+        for word, weight in weights.items():
+            if not -_SCORES <= weight < _SCORES:
+                raise OverflowError(f"the weight {weight} is not within 64 bits")
+            data = word.encode()
+            self._call(_library.weigh, data, len(data), weight)
+
+    def frequencies(self, words: Iterable[str]) -> List[int]:
+        """How many documents hold each of these words, deleted ones too.
+
+        Raises `WordError` for a word that is empty or has a space.
+        """
+        data, ends, count = _laid_out(words)
+        out = (ctypes.c_uint64 * max(count, 1))()
+        self._call(_library.frequencies, data, len(data), ends, count, out, count)
+        return out[:count]
+
+    def weigh_by_rarity(self, words: Iterable[str]) -> None:
+        """Gives each of these words the weight of BM25, by how many of the documents hold it."""
+        words = [*words]
+        documents = len(self)
+        self.weigh({word: rarity(documents, held) for word, held in zip(words, self.frequencies(words))})
+
+    def count(self, query: str) -> int:
+        """How many documents match a query that weren't deleted. A query is a `Q` of docs/SCRIPT.md.
+
+        Raises `QueryError` where it is not understood, or is refused.
+        """
+        text, count = query.encode(), ctypes.c_uint64()
+        self._call(_library.count, text, len(text), count)
+        return count.value
+
+    def top(self, query: str, most: int = 10) -> List[Hit]:
+        """The best documents that match a query and weren't deleted, at most so many: by score downwards, and of one score by
+        number upwards.
+
+        Raises `QueryError` where it is not understood, or is refused.
+        """
+        text, out, filled = query.encode(), (_library.Hit * max(most, 1))(), ctypes.c_size_t()
+        self._call(_library.top, text, len(text), out, max(most, 0), filled)
+        return [Hit(it.document, it.score) for it in out[: filled.value]]
+
+
+def rarity(documents: int, held: int) -> int:
+    """What a word weighs that so many of the documents hold, by BM25, in thousandths.
+
+    Raises `OverflowError` for numbers that are not from 0 to 18446744073709551615.
+    """
+    if not (0 <= documents < _NUMBERS and 0 <= held < _NUMBERS):
+        raise OverflowError("a number of documents is not within 64 bits")
+    return _library.rarity(documents, held)

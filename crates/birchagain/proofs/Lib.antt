@@ -1,0 +1,6 @@
+mod HolderCounts
+mod LeftWords
+mod Logarithms
+mod Spaces
+mod TextDrafts
+mod WordRefusals

@@ -1,0 +1,9 @@
+pub mod Body
+pub mod Statuses
+pub mod Start
+pub mod CutWords
+pub mod Adding
+pub mod Weighing
+pub mod Holding
+pub mod Refusals
+pub mod Changes

@@ -1,0 +1,22 @@
+//! What C calls of an index: each function takes a handle that lies in the caller's memory, of which all zero bytes
+//! are an empty one, and answers a status, of which 0 says that it is done.
+//!
+//! A `Global` takes no bytes, so C passes nothing for it, and for a slice it passes a pointer and a length. The header
+//! `bindings/c/birchagain.h` says what a caller owes. A number of [`birchagain::Refusal::status`] says why a call was
+//! refused, and 64 that the handle is empty; then what the index holds is as it was.
+#![tactic(auto)]
+
+mod documents;
+mod lifetime;
+mod queries;
+mod statuses;
+mod words;
+
+pub use documents::{
+    birchagain_add_text, birchagain_add_words, birchagain_delete, birchagain_documents,
+    birchagain_end_segment, birchagain_refresh,
+};
+pub use lifetime::{birchagain_free, birchagain_open};
+pub use queries::{birchagain_count, birchagain_top};
+pub use statuses::birchagain_status_text;
+pub use words::{birchagain_frequencies, birchagain_rarity, birchagain_weigh};

@@ -1,6 +1,0 @@
-use Rattle.std.proofs.Common.{◌≡◌, take}
-use Rattle.qm_postings.specs.Kept.{greatest}
-use Rattle.qm_postings.proofs.segment_builder.term_blocks.greatest_of.Given as goal
-
-abbrev pub invariant-loop-frequency : goal.invariant-loop-frequency
-invariant-loop-frequency l = l.greatest ≡ greatest (take l.frequency-index l.frequencies)

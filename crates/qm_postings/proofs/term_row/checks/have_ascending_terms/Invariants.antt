@@ -1,8 +1,0 @@
-use Rattle.std.proofs.Common.{◌≡◌, map}
-use Rattle.std.specs.List.{AllAdjacentBelow}
-use Rattle.std.specs.declared.cmp.Ordering.TheVariants.{Less}
-use Rattle.qm_schema.specs.Term.{term_cmp}
-use Rattle.qm_postings.proofs.term_row.checks.have_ascending_terms.Given as goal
-
-abbrev pub invariant-loop-place : goal.invariant-loop-place
-invariant-loop-place l = AllAdjacentBelow (λ s t. term_cmp s t ≡ Less) (map (λ r. r.term) l.rows) l.place

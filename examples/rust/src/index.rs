@@ -1,0 +1,173 @@
+//! The calls of `bindings/c/birchagain.h`, for Rust: an index that frees itself, and refusals as errors.
+
+use std::fmt;
+use std::ptr::null_mut;
+
+#[repr(C)]
+struct Handle {
+    at: *mut u8,
+}
+
+/// A document that was found, by its number, and its score.
+#[repr(C)]
+#[derive(Clone, Copy, Debug, Default, PartialEq, Eq)]
+pub struct Hit {
+    pub document: u64,
+    pub score: i64,
+}
+
+extern "C" {
+    fn birchagain_open(index: *mut Handle) -> u32;
+    fn birchagain_free(index: *mut Handle);
+    fn birchagain_add_text(index: *mut Handle, text: *const u8, length: usize) -> u32;
+    fn birchagain_delete(index: *mut Handle, document: u64) -> u32;
+    fn birchagain_end_segment(index: *mut Handle) -> u32;
+    fn birchagain_documents(index: *mut Handle, out: *mut u64) -> u32;
+    fn birchagain_weigh(index: *mut Handle, word: *const u8, length: usize, weight: i64) -> u32;
+    fn birchagain_frequencies(
+        index: *mut Handle,
+        bytes: *const u8,
+        length: usize,
+        ends: *const usize,
+        words: usize,
+        out: *mut u64,
+        room: usize,
+    ) -> u32;
+    fn birchagain_count(index: *mut Handle, query: *const u8, length: usize, out: *mut u64) -> u32;
+    fn birchagain_top(
+        index: *mut Handle,
+        query: *const u8,
+        length: usize,
+        out: *mut Hit,
+        room: usize,
+        filled: *mut usize,
+    ) -> u32;
+    fn birchagain_rarity(documents: u64, held: u64) -> u64;
+    fn birchagain_status_text(status: u32, out: *mut u8, room: usize) -> usize;
+}
+
+/// Why a call was refused: its status.
+#[derive(Clone, Copy, Debug, PartialEq, Eq)]
+pub struct Refusal(pub u32);
+
+impl fmt::Display for Refusal {
+    fn fmt(&self, f: &mut fmt::Formatter<'_>) -> fmt::Result {
+        let mut text = [0; 256];
+        let length = unsafe { birchagain_status_text(self.0, text.as_mut_ptr(), text.len()) };
+        f.write_str(&String::from_utf8_lossy(&text[..length.min(text.len())]))
+    }
+}
+
+impl std::error::Error for Refusal {}
+
+fn done(status: u32) -> Result<(), Refusal> {
+    match status {
+        0 => Ok(()),
+        status => Err(Refusal(status)),
+    }
+}
+
+/// Documents that are added and deleted in any order. It may go to another thread, and no two threads call it at once,
+/// since all calls want it for themselves.
+pub struct Index {
+    handle: Handle,
+}
+
+// as the library has it proved of its handle
+unsafe impl Send for Index {}
+
+impl Index {
+    /// An index without documents.
+    pub fn new() -> Result<Index, Refusal> {
+        let mut index = Index { handle: Handle { at: null_mut() } };
+        done(unsafe { birchagain_open(&mut index.handle) })?;
+        Ok(index)
+    }
+
+    /// Adds a document with the words of a text, which spaces part.
+    pub fn add(&mut self, text: &str) -> Result<(), Refusal> {
+        done(unsafe { birchagain_add_text(&mut self.handle, text.as_ptr(), text.len()) })
+    }
+
+    /// Deletes a document.
+    pub fn delete(&mut self, document: u64) -> Result<(), Refusal> {
+        done(unsafe { birchagain_delete(&mut self.handle, document) })
+    }
+
+    /// Ends the segment that takes documents, and opens another.
+    pub fn end_segment(&mut self) -> Result<(), Refusal> {
+        done(unsafe { birchagain_end_segment(&mut self.handle) })
+    }
+
+    /// How many documents were added, deleted ones too.
+    pub fn documents(&mut self) -> Result<u64, Refusal> {
+        let mut count = 0;
+        done(unsafe { birchagain_documents(&mut self.handle, &mut count) })?;
+        Ok(count)
+    }
+
+    /// Gives a word its weight from now on.
+    pub fn weigh(&mut self, word: &str, weight: i64) -> Result<(), Refusal> {
+        done(unsafe { birchagain_weigh(&mut self.handle, word.as_ptr(), word.len(), weight) })
+    }
+
+    /// How many documents hold each of these words.
+    pub fn frequencies(&mut self, words: &[&str]) -> Result<Vec<u64>, Refusal> {
+        let bytes = words.concat();
+        let ends: Vec<usize> = words
+            .iter()
+            .scan(0, |end, word| {
+                *end += word.len();
+                Some(*end)
+            })
+            .collect();
+        let mut held = vec![0; words.len()];
+        done(unsafe {
+            birchagain_frequencies(
+                &mut self.handle,
+                bytes.as_ptr(),
+                bytes.len(),
+                ends.as_ptr(),
+                ends.len(),
+                held.as_mut_ptr(),
+                held.len(),
+            )
+        })?;
+        Ok(held)
+    }
+
+    /// How many documents match a query.
+    pub fn count(&mut self, query: &str) -> Result<u64, Refusal> {
+        let mut count = 0;
+        done(unsafe { birchagain_count(&mut self.handle, query.as_ptr(), query.len(), &mut count) })?;
+        Ok(count)
+    }
+
+    /// The best documents for a query, at most so many.
+    pub fn top(&mut self, query: &str, most: usize) -> Result<Vec<Hit>, Refusal> {
+        let (mut hits, mut filled) = (vec![Hit::default(); most], 0);
+        done(unsafe {
+            birchagain_top(
+                &mut self.handle,
+                query.as_ptr(),
+                query.len(),
+                hits.as_mut_ptr(),
+                most,
+                &mut filled,
+            )
+        })?;
+        hits.truncate(filled);
+        Ok(hits)
+    }
+}
+
+impl Drop for Index {
+    fn drop(&mut self) {
+        unsafe { birchagain_free(&mut self.handle) }
+    }
+}
+
+/// What a word weighs that so many of the documents hold.
+pub fn rarity(documents: u64, held: u64) -> u64 {
+    unsafe { birchagain_rarity(documents, held) }
+}

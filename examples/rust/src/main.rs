@@ -1,0 +1,34 @@
+//! The library from Rust, without a crate: what is rare among a few documents weighs much.
+
+mod index;
+
+use index::{rarity, Index, Refusal};
+use std::thread;
+
+fn main() -> Result<(), Refusal> {
+    let texts = ["an old apple tree", "an apple a day", "woodpeckers nest in old trees"];
+    let mut index = Index::new()?;
+    for text in texts {
+        index.add(text)?;
+    }
+    index.end_segment()?;
+    index.delete(1)?;
+    assert_eq!(index.delete(3), Err(Refusal(67)));
+    let words = ["old", "apple", "owl"];
+    let documents = index.documents()?;
+    let held = index.frequencies(&words)?;
+    for (word, held) in words.iter().zip(held) {
+        let weight = rarity(documents, held);
+        println!("{word}: in {held} of {documents}, weighs {weight}");
+        index.weigh(word, weight as i64)?;
+    }
+    let query = "bool 0 2 ? term old ? term apple";
+    for hit in index.top(query, 10)? {
+        println!("{}  {}", hit.score, texts[hit.document as usize]);
+    }
+    assert_eq!(index.count(query)?, 2);
+    // it may go to another thread
+    let index = thread::spawn(move || index.add("an owl").map(|()| index)).join().expect("the thread ended");
+    println!("{}", index?.weigh("owl", -1).unwrap_err());
+    Ok(())
+}

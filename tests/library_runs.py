@@ -1,0 +1,206 @@
+#!/usr/bin/env python3
+"""The library as C, Rust and Python call it: over the sources as they stand, of which nothing is proved here.
+
+    python3 tests/library_runs.py [--built FOLDER]
+
+The library is built with its checks, and with the makefile of bindings/c, whose header has to be C11 and C++ without a
+warning. Header and package have to declare what the library exports (library_header.py). The example and all calls are
+run under valgrind, which must find no fault and nothing lost. Then each of its requests for memory is refused in turn,
+some of them under valgrind. It is installed, and taken away again. The example in Rust is built and run, the tests of
+the Python package, and what `pip install` makes of the package. FOLDER has libraries that were built before. Prints what
+went wrong, and then how many runs went as wanted. Called by tests/gate.py.
+"""
+
+import os
+import re
+import shutil
+import subprocess
+import sys
+import tempfile
+
+sys.dont_write_bytecode = True
+
+from library_header import declared, differ_in_python, exported, unlike_statuses
+from program_runs.report import Report
+
+ROOT = os.path.realpath(os.path.join(os.path.dirname(os.path.abspath(__file__)), ".."))
+C, PYTHON, RUST = f"{ROOT}/bindings/c", f"{ROOT}/bindings/python", f"{ROOT}/examples/rust"
+VALGRIND = ["valgrind", "-q", "--leak-check=full", "--show-leak-kinds=all", "--errors-for-leak-kinds=all", "--error-exitcode=9"]
+# no run takes so many seconds
+LIMIT = 1200
+# of the runs with a refused request, one in so many is under valgrind
+LOOKED_AT = 25
+WEIGHED = """old: in 2 of 3, weighs 470
+apple: in 2 of 3, weighs 470
+owl: in 0 of 3, weighs 2079
+"""
+# 470 / (1 + 4) for each of its words, and of five words 470 / (1 + 5)
+EXAMPLE = f"""{WEIGHED}188  an old apple tree
+94  an apple a day
+78  woodpeckers nest in old trees
+"""
+IN_RUST = f"""{WEIGHED}188  an old apple tree
+78  woodpeckers nest in old trees
+the weight is below 0
+"""
+# prints the same by the package that is installed
+INSTALLED = """
+from birchagain import Index, rarity
+texts = ["an old apple tree", "an apple a day", "woodpeckers nest in old trees"]
+with Index(texts) as index:
+    words = ["old", "apple", "owl"]
+    for word, held in zip(words, index.frequencies(words)):
+        print(f"{word}: in {held} of {len(index)}, weighs {rarity(len(index), held)}")
+    index.weigh_by_rarity(words)
+    for hit in index.top("bool 0 2 ? term old ? term apple"):
+        print(f"{hit.score}  {texts[hit.document]}")
+"""
+
+
+def shown_in_readme():
+    """What README's lines of Python print, and the lines."""
+    with open(f"{ROOT}/README.md", encoding="utf-8") as it:
+        program, printed = re.search(r"```python\n(.*?)```\n\n```\n(.*?)```", it.read(), re.S).groups()
+    return printed, program
+
+
+class Runs:
+    """Runs over the libraries in a folder, and how many there were."""
+
+    def __init__(self, folder, room):
+        self.folder, self.room, self.report, self.count = folder, room, Report("library runs"), 0
+
+    def run(self, *words, cwd=None, **environment):
+        """The run's status and all that it wrote."""
+        how = {"stdout": subprocess.PIPE, "stderr": subprocess.STDOUT, "text": True, "errors": "replace"}
+        env = {**os.environ, "PYTHONDONTWRITEBYTECODE": "1", **environment}
+        try:
+            ran = subprocess.run(words, check=False, cwd=cwd, env=env, timeout=LIMIT, stdin=subprocess.DEVNULL, **how)
+        except FileNotFoundError:
+            return None, f"there is no {words[0]}"
+        return ran.returncode, ran.stdout
+
+    def expect(self, name, wanted, *words, **how):
+        """A run that ends well, and writes something that fits the pattern `wanted`, all of it or the last line."""
+        self.count += 1
+        status, text = self.run(*words, **how)
+        if status == 0 and re.search(rf"(?:\A|\n){wanted}\Z", text):
+            return text
+        self.report.expect_same(name, (0, wanted), (status, text[-2000:]))
+        return None
+
+    def make(self, *targets, **variables):
+        words = ["make", "-s", "-C", C, f"OUT={self.folder}", f"ARCHIVE={self.folder}/built.a"]
+        words += [f"{name}={value}" for name, value in variables.items()]
+        return self.expect(f"make {' '.join(targets)}", "", *words, *targets) is not None
+
+    def header(self):
+        """What the header and the package declare is what the library exports."""
+        with open(f"{C}/birchagain.h", encoding="utf-8") as it, open(f"{ROOT}/crates/birchagain/src/refusal.rt", encoding="utf-8") as other:
+            header, refusals = it.read(), other.read()
+        exports = exported(f"{ROOT}/crates/birchagain_c")
+        os.environ["BIRCHAGAIN_LIBRARY"] = f"{self.folder}/libbirchagain.so"
+        sys.path.insert(0, PYTHON)
+        from birchagain import _library
+
+        self.count += 4
+        self.report.expect_same("what the header declares", exports, declared(header))
+        self.report.expect_same("what the package declares otherwise", [], differ_in_python(exports, _library))
+        self.report.expect_same("refusals without their status", [], unlike_statuses(header, refusals))
+        _, symbols = self.run("nm", "-D", "--defined-only", f"{self.folder}/libbirchagain.so")
+        self.report.expect_same("what the shared library has", sorted(exports), sorted(re.findall(r" T (\w+)", symbols)))
+
+    def c_callers(self):
+        """The header, the example, each call, and each of them where memory is refused."""
+        header = f"{C}/birchagain.h"
+        self.expect("the header as C++", "", "c++", "-std=c++11", "-Wall", "-Wextra", "-Werror", "-x", "c++", "-fsyntax-only", header)
+        self.expect("the example", EXAMPLE, *VALGRIND, f"{self.folder}/example")
+        self.expect("each call", r"calls: \d+ as wanted, 0 not\n", *VALGRIND, f"{self.folder}/calls")
+        self.refuse_each()
+
+    def refuse_each(self):
+        """Refuses the first request for memory, the second, and so on, until there are no more."""
+        at, wrong = 0, None
+        while wrong is None:
+            at += 1
+            looked_at = VALGRIND if at % LOOKED_AT == 1 else []
+            status, text = self.run(*looked_at, f"{self.folder}/refused", FAIL_AT=str(at))
+            if status == 2 and at > LOOKED_AT:
+                break
+            self.count += 1
+            if status != 0:
+                wrong = (at, status, text)
+        self.report.expect_same("a refused request for memory", None, wrong)
+
+    def install(self):
+        """Installs header and libraries, builds a program by what was installed alone, and takes it all away again."""
+        to = f"{self.room}/prefix"
+        if not self.make("install", PREFIX=to):
+            return
+        words = ["cc", f"{C}/example.c", f"-I{to}/include", f"-L{to}/lib", "-lbirchagain", "-o", f"{self.room}/shared"]
+        self.expect("a program over the shared library", "", *words)
+        self.expect("its run", EXAMPLE, f"{self.room}/shared", LD_LIBRARY_PATH=f"{to}/lib")
+        self.make("uninstall", PREFIX=to)
+        left = [name for _, _, names in os.walk(to) for name in names]
+        self.report.expect_same("what is left behind an uninstall", [], left)
+
+    def rust_caller(self):
+        environment = {"BIRCHAGAIN": self.folder, "CARGO_TARGET_DIR": f"{self.room}/cargo"}
+        self.expect("the example in Rust", IN_RUST, "cargo", "run", "-q", "--offline", cwd=RUST, **environment)
+
+    def python_package(self):
+        python = python_with("pytest")
+        words = [python, "-m", "pytest", "-q", "-p", "no:cacheprovider", "tests"]
+        text = self.expect("pytest", r"\d+ passed.*\n", *words, cwd=PYTHON, BIRCHAGAIN_LIBRARY=f"{self.folder}/libbirchagain.so")
+        if text:
+            self.count += int(re.search(r"(\d+) passed", text)[1]) - 1
+
+    def wheel(self):
+        """Builds a wheel where no index of packages is reached, and takes the package that is in it."""
+        python, copy, target = python_with("setuptools", "wheel", "pip"), f"{self.room}/package", f"{self.room}/installed"
+        # setuptools writes beside the sources
+        shutil.copytree(PYTHON, copy, ignore=shutil.ignore_patterns("build", "*.egg-info", "__pycache__"))
+        words = ["-m", "pip", "install", "-q", "--no-index", "--no-deps", "--no-build-isolation", "--disable-pip-version-check"]
+        library = f"{self.folder}/libbirchagain.so"
+        self.expect("pip install", r"(?s:.*)", python, *words, "--root-user-action=ignore", "--target", target, copy, BIRCHAGAIN_LIBRARY=library)
+        for name, printed, program in (("the installed package", EXAMPLE, INSTALLED), ("what README shows", *shown_in_readme())):
+            self.expect(name, printed, python, "-c", program, cwd=self.room, PYTHONPATH=target, BIRCHAGAIN_LIBRARY="")
+
+    def play(self):
+        if not self.make("all", f"{self.folder}/calls", f"{self.folder}/refused"):
+            return
+        self.header()
+        self.c_callers()
+        self.install()
+        self.rust_caller()
+        self.python_package()
+        self.wheel()
+
+
+def python_with(*modules):
+    """A Python that has these modules: the one that runs this, or that of the system."""
+    for python in (sys.executable, "/usr/bin/python3"):
+        if subprocess.run([python, "-c", f"import {', '.join(modules)}"], check=False, capture_output=True).returncode == 0:
+            return python
+    return sys.executable
+
+
+def build(archive):
+    words = [sys.executable, f"{ROOT}/tests/unproved.py", "birchagain_c", archive, "--optimised"]
+    return subprocess.run(words, check=False).returncode == 0
+
+
+def main(words):
+    with tempfile.TemporaryDirectory() as room:
+        folder = os.path.abspath(words[1]) if words[:1] == ["--built"] else f"{room}/built"
+        if not words:
+            os.mkdir(folder)
+            if not build(f"{folder}/built.a"):
+                return 1
+        runs = Runs(folder, room)
+        runs.play()
+        return runs.report.close(runs.count)
+
+
+if __name__ == "__main__":
+    sys.exit(main(sys.argv[1:]))
