@@ -38,5 +38,5 @@ mod NarrowedScripts
 mod CountedSegments
 mod NarrowedListings
 mod CountLemmas
-mod BestListings
+pub mod BestListings
 mod PrunedParts

@@ -1,0 +1,4 @@
+pub mod Ranked
+pub mod BestOfParts
+pub mod Merging
+pub mod BestOverIndexes
