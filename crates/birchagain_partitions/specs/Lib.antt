@@ -1,3 +1,4 @@
+pub mod Statuses
 pub mod Ranked
 pub mod BestOfParts
 pub mod Merging

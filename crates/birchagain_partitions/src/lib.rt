@@ -5,5 +5,5 @@
 mod merge_refusal;
 mod merging;
 
-pub use merge_refusal::MergeRefusal;
+pub use merge_refusal::{MergeRefusal, merge_status_text};
 pub use merging::merge_hits;

@@ -1,4 +1,6 @@
-//! Why two answers can't be merged.
+//! Why two answers can't be merged, and the statuses by which C learns of it.
+
+ghost use Rattle.std.specs.Prelude.{◌≡◌};
 
 /// Why two answers can't be merged.
 #[derive(Clone, Copy, Debug, PartialEq, Eq)]
@@ -7,4 +9,27 @@ pub enum MergeRefusal {
     NotRanked,
     /// A document of the second would have a number above 18446744073709551615.
     NoNumber,
+}
+
+impl MergeRefusal {
+    ghost use Rattle.birchagain_partitions.specs.Statuses.{status_of};
+
+    /// The status of a call that was refused so.
+    pub fn status(self) -> u32
+        ensures { result ≡ status_of self }
+    {
+        match self {
+            MergeRefusal::NotRanked => 71,
+            MergeRefusal::NoNumber => 72,
+        }
+    }
+}
+
+/// What a status of this crate's own says, in English.
+pub fn merge_status_text(status: u32) -> Option<&'static str> {
+    match status {
+        71 => Some("a hit scores more than the one before it"),
+        72 => Some("a document would have a number above 18446744073709551615"),
+        _ => None,
+    }
 }
