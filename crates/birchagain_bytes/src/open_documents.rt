@@ -1,0 +1,13 @@
+//! How many documents the open segment has.
+
+use qm_index::Index;
+
+// How many documents the open segment has. Costs a step for each segment.
+pub(crate) fn open_documents(index: &Index) -> u64 {
+    let mut left = index.document_count();
+    // as many as those of the segments from this one on
+    for segment in index.ended_segments() {
+        left = left.saturating_sub(u64::from(segment.max_doc()));
+    }
+    left
+}

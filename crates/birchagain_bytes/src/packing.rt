@@ -1,0 +1,74 @@
+//! Files as bytes, one behind the other.
+
+ghost use Rattle.std.specs.Prelude.{◌≡◌, ◌++◌, [], OnOk, IfOk, IsOkUnless, IfErr, option_map};
+ghost use Rattle.qm_store.specs.Heads.{headed_as};
+ghost use Rattle.birchagain_bytes.specs.Packed.{File, file_at, file_bytes, packed_head};
+
+use crate::refusal::BytesRefusal;
+use crate::words::{WORD_BYTES, push_word, read_word};
+use std::alloc::{AllocError, Global};
+
+/// The first bytes of each index as bytes.
+const KIND: &[u8] = b"birchall";
+
+/// The version that is written, and read, here.
+const VERSION: u64 = 1;
+
+/// How many bytes stand in front of the files.
+const HEAD_BYTES: usize = 16;
+
+// The bytes of no file.
+pub(crate) fn begin(alloc: Global) -> Result<Vec<u8>, AllocError>
+    ensures { IfOk result (λ v. v.items ≡ packed_head) }
+{
+    let mut out = Vec::new(alloc);
+    out.extend_from_slice(KIND)?;
+    push_word(&mut out, VERSION)?;
+    Ok(out)
+}
+
+// Adds a file.
+pub(crate) fn push_file(out: &mut Vec<u8>, name: &str, bytes: &[u8]) -> Result<(), AllocError>
+    ensures added { OnOk result (out.new.items ≡ out.old.items ++ file_bytes (record { name = name.now; bytes = bytes.now })) }
+{
+    let name = name.as_bytes();
+    out.reserve(2 * WORD_BYTES)?;
+    push_word(out, name.len() as u64)?;
+    push_word(out, bytes.len() as u64)?;
+    out.extend_from_slice(name)?;
+    out.extend_from_slice(bytes)
+}
+
+// What stands behind the first bytes, where these are those of an index as bytes.
+pub(crate) fn read_head(bytes: &[u8]) -> Result<&[u8], BytesRefusal> {
+    if bytes.len() < HEAD_BYTES {
+        return Err(BytesRefusal::OtherFile);
+    }
+    let (kind, rest) = bytes.split_at(KIND.len());
+    if kind != KIND {
+        return Err(BytesRefusal::OtherFile);
+    }
+    match read_word(rest) {
+        Some((VERSION, files)) => Ok(files),
+        _ => Err(BytesRefusal::OtherVersion),
+    }
+}
+
+// The name and the bytes of the file that some bytes begin with, and the bytes behind it; none where they begin with none.
+pub(crate) fn read_file(bytes: &[u8]) -> Option<(&[u8], &[u8], &[u8])>
+    ensures { option_map (λ r. (record { name = r.0.now; bytes = r.1.now }, r.2.now)) result ≡ file_at bytes.now }
+{
+    let (name_length, rest) = read_word(bytes)?;
+    let (length, rest) = read_word(rest)?;
+    let (name, rest) = split_within(rest, name_length)?;
+    let (bytes, rest) = split_within(rest, length)?;
+    Some((name, bytes, rest))
+}
+
+// So many bytes, and those behind them; none where there are fewer.
+fn split_within(bytes: &[u8], count: u64) -> Option<(&[u8], &[u8])> {
+    if count > bytes.len() as u64 {
+        return None;
+    }
+    Some(bytes.split_at(count as usize))
+}

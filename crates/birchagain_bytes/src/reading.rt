@@ -1,0 +1,39 @@
+//! Bytes of which an index is made.
+
+use crate::index_files::BLOCK_LEN;
+use crate::packed_files::PackedFiles;
+use crate::refusal::{BytesRefusal, of_reading};
+use qm_folder::MANIFEST;
+use qm_index::Index;
+use qm_store::read_manifest;
+use std::alloc::Global;
+
+/// The index that some bytes are: as [`to_bytes`](crate::to_bytes) made them with nothing known, or the files of a folder
+/// in which an index was saved, each once and in any order. It has the segments, with what is deleted of them, and
+/// terms weigh the same; the open segment has no document. Costs a step for each posting, position, term and document.
+///
+/// Refused with [`BytesRefusal::OtherFile`] where these are no bytes of an index, and with
+/// [`BytesRefusal::OtherVersion`] where they, or a file of theirs, are of another version; with
+/// [`BytesRefusal::Damaged`] where something is missing or not what was written; with [`BytesRefusal::OtherBlocks`]
+/// where postings are cut into blocks of another length than 128; and else for want of memory.
+pub fn from_bytes(alloc: Global, bytes: &[u8]) -> Result<Index, BytesRefusal> {
+    let mut files = PackedFiles::read(alloc, bytes)?;
+    check_blocks(alloc, &files)?;
+    match Index::open(alloc, &mut files) {
+        Ok(Some(index)) => Ok(index),
+        Ok(None) => Err(BytesRefusal::Damaged),
+        Err(error) => Err(of_reading(error)),
+    }
+}
+
+// Whether a manifest is among the files, by which postings are cut into blocks of the length of this library.
+fn check_blocks(alloc: Global, files: &PackedFiles<'_>) -> Result<(), BytesRefusal> {
+    let Some(bytes) = files.file(MANIFEST) else {
+        return Err(BytesRefusal::Damaged);
+    };
+    match read_manifest(alloc, bytes) {
+        Ok(manifest) if manifest.block_len == BLOCK_LEN => Ok(()),
+        Ok(_) => Err(BytesRefusal::OtherBlocks),
+        Err(error) => Err(of_reading(error)),
+    }
+}
