@@ -41,6 +41,7 @@ EXAMPLE = f"""{WEIGHED}188  an old apple tree
 """
 IN_RUST = f"""{WEIGHED}188  an old apple tree
 78  woodpeckers nest in old trees
+3 documents as bytes, 2 found
 the weight is below 0
 """
 # prints the same by the package that is installed
@@ -98,6 +99,8 @@ class Runs:
         """What the header and the package declare is what the library exports."""
         with open(f"{C}/birchagain.h", encoding="utf-8") as it, open(f"{ROOT}/crates/birchagain/src/refusal.rt", encoding="utf-8") as other:
             header, refusals = it.read(), other.read()
+        with open(f"{ROOT}/crates/birchagain_bytes/src/refusal.rt", encoding="utf-8") as it:
+            refusals += it.read()
         exports = exported(f"{ROOT}/crates/birchagain_c")
         os.environ["BIRCHAGAIN_LIBRARY"] = f"{self.folder}/libbirchagain.so"
         sys.path.insert(0, PYTHON)
@@ -116,21 +119,23 @@ class Runs:
         self.expect("the header as C++", "", "c++", "-std=c++11", "-Wall", "-Wextra", "-Werror", "-x", "c++", "-fsyntax-only", header)
         self.expect("the example", EXAMPLE, *VALGRIND, f"{self.folder}/example")
         self.expect("each call", r"calls: \d+ as wanted, 0 not\n", *VALGRIND, f"{self.folder}/calls")
-        self.refuse_each()
+        self.expect("an index as bytes", r"bytes: \d+ as wanted, 0 not\n", *VALGRIND, f"{self.folder}/bytes")
+        self.refuse_each("refused")
+        self.refuse_each("refused_bytes")
 
-    def refuse_each(self):
+    def refuse_each(self, program):
         """Refuses the first request for memory, the second, and so on, until there are no more."""
         at, wrong = 0, None
         while wrong is None:
             at += 1
             looked_at = VALGRIND if at % LOOKED_AT == 1 else []
-            status, text = self.run(*looked_at, f"{self.folder}/refused", FAIL_AT=str(at))
+            status, text = self.run(*looked_at, f"{self.folder}/{program}", FAIL_AT=str(at))
             if status == 2 and at > LOOKED_AT:
                 break
             self.count += 1
             if status != 0:
                 wrong = (at, status, text)
-        self.report.expect_same("a refused request for memory", None, wrong)
+        self.report.expect_same(f"a refused request for memory: {program}", None, wrong)
 
     def install(self):
         """Installs header and libraries, builds a program by what was installed alone, and takes it all away again."""
@@ -167,7 +172,7 @@ class Runs:
             self.expect(name, printed, python, "-c", program, cwd=self.room, PYTHONPATH=target, BIRCHAGAIN_LIBRARY="")
 
     def play(self):
-        if not self.make("all", f"{self.folder}/calls", f"{self.folder}/refused"):
+        if not self.make("all", *(f"{self.folder}/{name}" for name in ("calls", "refused", "bytes", "refused_bytes"))):
             return
         self.header()
         self.c_callers()

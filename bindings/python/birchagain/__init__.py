@@ -7,8 +7,18 @@
             print(hit.document, hit.score)
 """
 
-from .errors import BirchagainError, ClosedError, NoDocumentError, QueryError, WordError
+from .errors import BirchagainError, ClosedError, FormatError, NoDocumentError, QueryError, WordError
 from .index import Hit, Index, rarity
 
-__all__ = ["BirchagainError", "ClosedError", "Hit", "Index", "NoDocumentError", "QueryError", "WordError", "rarity"]
+__all__ = [
+    "BirchagainError",
+    "ClosedError",
+    "FormatError",
+    "Hit",
+    "Index",
+    "NoDocumentError",
+    "QueryError",
+    "WordError",
+    "rarity",
+]
 __version__ = "0.1.0"

@@ -1,5 +1,13 @@
 //! The files of an index, one behind the other.
 
+ghost use Rattle.std.specs.Prelude.{◌≡◌, ◌≢◌, ◌++◌, IfErr, IfOk, OnOk};
+ghost use Rattle.std.specs.String.{string_bytes};
+ghost use Rattle.qm_index.specs.FileNames.{deletions_name, segment_name};
+ghost use Rattle.qm_index.specs.Indexed.{IsRefreshed, indexed};
+ghost use Rattle.qm_index.specs.Parts.{segments_of};
+ghost use Rattle.birchagain_bytes.specs.Bytes.{AreDeletionsAdded, ArePacked, IsIndexPacked, IsManifestAdded, IsPacked, IsSegmentAdded, is_known};
+ghost use Rattle.birchagain_bytes.specs.Refusals.{IsPackRefusal};
+
 use crate::packing::{begin, push_file};
 use crate::refusal::{BytesRefusal, of_writing};
 use qm_folder::MANIFEST;
@@ -17,7 +25,11 @@ pub(crate) fn pack_index(
     index: &Index,
     numbers: &[KeptSegment],
     known: &[u64],
-) -> Result<Vec<u8>, BytesRefusal> {
+) -> Result<Vec<u8>, BytesRefusal>
+    requires refreshed { IsRefreshed index.now }
+    ensures packed { (indexed index.now).current.block_len ≡ 128 → IfOk result (λ out. IsIndexPacked known.now index.now out.items) }
+    ensures refused { IfErr result IsPackRefusal }
+{
     let mut out = begin(alloc)?;
     let kept = pack_segments(alloc, &mut out, index.ended_segments(), numbers, known)?;
     push_manifest(alloc, &mut out, index, &kept)?;
@@ -31,7 +43,10 @@ fn pack_segments(
     segments: &[SegmentReader],
     numbers: &[KeptSegment],
     known: &[u64],
-) -> Result<Vec<KeptSegment>, BytesRefusal> {
+) -> Result<Vec<KeptSegment>, BytesRefusal>
+    ensures packed { IfOk result (λ kept. ArePacked known.now kept.items (segments_of segments.now) out.old.items out.new.items) }
+    ensures refused { IfErr result IsPackRefusal }
+{
     if numbers.len() != segments.len() {
         return Err(BytesRefusal::NoNumber);
     }
@@ -51,7 +66,10 @@ fn pack_segment(
     segment: &SegmentReader,
     numbers: &KeptSegment,
     known: &[u64],
-) -> Result<KeptSegment, BytesRefusal> {
+) -> Result<KeptSegment, BytesRefusal>
+    ensures packed { IfOk result (λ kept. IsPacked known.now kept segment.now.segment out.old.items out.new.items) }
+    ensures refused { IfErr result IsPackRefusal }
+{
     if numbers.key == u64::MAX || numbers.deletions == u64::MAX {
         return Err(BytesRefusal::NoNumber);
     }
@@ -76,7 +94,10 @@ fn push_segment(
     segment: &SegmentReader,
     key: u64,
     known: &[u64],
-) -> Result<(), BytesRefusal> {
+) -> Result<(), BytesRefusal>
+    ensures added { OnOk result (IsSegmentAdded known.now key segment.now.segment out.old.items out.new.items) }
+    ensures refused { IfErr result IsPackRefusal }
+{
     let name = segment_name(alloc, key)?;
     if is_known(known, key) {
         return Ok(push_file(out, name.as_str(), &[])?);
@@ -94,7 +115,11 @@ fn push_deletions(
     segment: &SegmentReader,
     numbers: &KeptSegment,
     known: &[u64],
-) -> Result<(), BytesRefusal> {
+) -> Result<(), BytesRefusal>
+    ensures added { OnOk result
+        (AreDeletionsAdded known.now numbers.now.key numbers.now.deletions segment.now.segment out.old.items out.new.items) }
+    ensures refused { IfErr result IsPackRefusal }
+{
     if numbers.deletions == 0 {
         return Err(BytesRefusal::NoNumber);
     }
@@ -114,7 +139,12 @@ fn push_manifest(
     out: &mut Vec<u8>,
     index: &Index,
     kept: &[KeptSegment],
-) -> Result<(), BytesRefusal> {
+) -> Result<(), BytesRefusal>
+    requires refreshed { IsRefreshed index.now }
+    ensures added { (indexed index.now).current.block_len ≡ 128
+        → OnOk result (IsManifestAdded index.now kept.now out.old.items out.new.items) }
+    ensures refused { IfErr result IsPackRefusal }
+{
     match manifest_bytes(alloc, index.searcher(), BLOCK_LEN, kept, &[]) {
         Ok(bytes) => Ok(push_file(out, MANIFEST, &bytes)?),
         Err(error) => Err(of_writing(error)),
@@ -122,18 +152,24 @@ fn push_manifest(
 }
 
 // Whether a number is one of these, which ascend.
-fn is_known(known: &[u64], number: u64) -> bool {
+fn is_known(known: &[u64], number: u64) -> bool
+    ensures { IsTrue result → is_known known.now number ≡ true }
+{
     known.binary_search(&number).is_ok()
 }
 
 // The name of the segment's file of a number.
-fn segment_name(alloc: Global, number: u64) -> Result<String, AllocError> {
+fn segment_name(alloc: Global, number: u64) -> Result<String, AllocError>
+    ensures { IfOk result (λ name. string_bytes name ≡ segment_name number) }
+{
     let name = format!(in alloc; "{number}.seg")?;
     Ok(name)
 }
 
 // The name of the deletions file of a number.
-fn deletions_name(alloc: Global, number: u64) -> Result<String, AllocError> {
+fn deletions_name(alloc: Global, number: u64) -> Result<String, AllocError>
+    ensures { IfOk result (λ name. string_bytes name ≡ deletions_name number) }
+{
     let name = format!(in alloc; "{number}.del")?;
     Ok(name)
 }

@@ -1,5 +1,11 @@
 //! Files that lie in bytes, as a folder that is only read.
 
+ghost use Rattle.std.specs.Prelude.{◌≡◌, List, All, IfErr, IfOk, IsOkUnless, OnOk, map, option_map};
+ghost use Rattle.qm_folder.specs.Names.{AreDistinct};
+ghost use Rattle.birchagain_bytes.specs.Packed.{AreThere, File, IsFile, packed};
+ghost use Rattle.birchagain_bytes.specs.PackedFolder.{contents_in};
+ghost use Rattle.birchagain_bytes.specs.Refusals.{IsFilesRefusal};
+
 use crate::packing::{read_file, read_head};
 use crate::refusal::BytesRefusal;
 use qm_folder::{Folder, FolderError};
@@ -18,7 +24,13 @@ impl<'a> PackedFiles<'a> {
     //
     // Refused with `OtherFile` and `OtherVersion` by the first bytes alone; with `Damaged` where what stands behind them is
     // not files, one behind the other, of names that are text, each once; and else for want of memory.
-    pub(crate) fn read(alloc: Global, bytes: &'a [u8]) -> Result<PackedFiles<'a>, BytesRefusal> {
+    pub(crate) fn read(alloc: Global, bytes: &'a [u8]) -> Result<PackedFiles<'a>, BytesRefusal>
+        ensures files { (fs : List File) → All IsFile fs → bytes.now ≡ packed fs → IfOk result (λ p. AreThere (contents_in p.files.entries) fs) }
+        ensures distinct { (fs : List File) → All IsFile fs → bytes.now ≡ packed fs → OnOk result (AreDistinct (map (λ f. f.name) fs)) }
+        ensures whole { (fs : List File) → All IsFile fs → bytes.now ≡ packed fs → AreDistinct (map (λ f. f.name) fs)
+            → IsOkUnless result BytesRefusal.Memory }
+        ensures refused { IfErr result IsFilesRefusal }
+    {
         let mut rest = read_head(bytes)?;
         let mut files = BTreeMap::new(alloc);
         // the files before what is left are there
@@ -38,15 +50,17 @@ impl<'a> PackedFiles<'a> {
     }
 
     // The bytes of a file; none where there is none of that name.
-    pub(crate) fn file(&self, name: &str) -> Option<&'a [u8]> {
+    pub(crate) fn file(&self, name: &str) -> Option<&'a [u8]>
+        ensures { option_map (λ b. b.now) result ≡ contents_in self.now.files.entries name.now }
+    {
         self.files.get(&name).copied()
     }
 }
 
 impl<'a> Folder for PackedFiles<'a> {
-    ghost use Rattle.birchagain_bytes.specs.PackedFolder.{counts_now, disk_of, only_now};
+    ghost use Rattle.birchagain_bytes.specs.PackedFolder.{contents_in, still};
 
-    ghost disk = { λ f. disk_of f };
+    ghost disk = { λ f. still (contents_in f.files.entries) };
 
     ghost is_told = { Unit {0} };
 

@@ -1,8 +1,10 @@
 //! Files as bytes, one behind the other.
 
-ghost use Rattle.std.specs.Prelude.{◌≡◌, ◌++◌, [], OnOk, IfOk, IsOkUnless, IfErr, option_map};
-ghost use Rattle.qm_store.specs.Heads.{headed_as};
-ghost use Rattle.birchagain_bytes.specs.Packed.{File, file_at, file_bytes, packed_head};
+ghost use Rattle.std.specs.Prelude.{◌≡◌, ◌++◌, List, ℕ, IfErr, IfOk, IsOk, OnOk, Some, option_map};
+ghost use Rattle.qm_store.specs.Heads.{head_bytes};
+ghost use Rattle.qm_store.specs.Items.{parted_at};
+ghost use Rattle.birchagain_bytes.specs.Packed.{File, IsFile, file_bytes, packed_kind, there_of};
+ghost use Rattle.birchagain_bytes.specs.Refusals.{IsHeadRefusal};
 
 use crate::refusal::BytesRefusal;
 use crate::words::{WORD_BYTES, push_word, read_word};
@@ -19,7 +21,7 @@ const HEAD_BYTES: usize = 16;
 
 // The bytes of no file.
 pub(crate) fn begin(alloc: Global) -> Result<Vec<u8>, AllocError>
-    ensures { IfOk result (λ v. v.items ≡ packed_head) }
+    ensures { IfOk result (λ v. v.items ≡ head_bytes packed_kind) }
 {
     let mut out = Vec::new(alloc);
     out.extend_from_slice(KIND)?;
@@ -29,7 +31,8 @@ pub(crate) fn begin(alloc: Global) -> Result<Vec<u8>, AllocError>
 
 // Adds a file.
 pub(crate) fn push_file(out: &mut Vec<u8>, name: &str, bytes: &[u8]) -> Result<(), AllocError>
-    ensures added { OnOk result (out.new.items ≡ out.old.items ++ file_bytes (record { name = name.now; bytes = bytes.now })) }
+    ensures added { (f : File) → f.name ≡ name.now → there_of f ≡ bytes.now → OnOk result (out.new.items ≡ out.old.items ++ file_bytes f) }
+    ensures fit { (f : File) → f.name ≡ name.now → there_of f ≡ bytes.now → IsFile f }
 {
     let name = name.as_bytes();
     out.reserve(2 * WORD_BYTES)?;
@@ -40,7 +43,11 @@ pub(crate) fn push_file(out: &mut Vec<u8>, name: &str, bytes: &[u8]) -> Result<(
 }
 
 // What stands behind the first bytes, where these are those of an index as bytes.
-pub(crate) fn read_head(bytes: &[u8]) -> Result<&[u8], BytesRefusal> {
+pub(crate) fn read_head(bytes: &[u8]) -> Result<&[u8], BytesRefusal>
+    ensures files { (files : List ℕ) → bytes.now ≡ head_bytes packed_kind ++ files → IfOk result (λ rest. rest.now ≡ files) }
+    ensures head { (files : List ℕ) → bytes.now ≡ head_bytes packed_kind ++ files → IsOk result }
+    ensures refused { IfErr result IsHeadRefusal }
+{
     if bytes.len() < HEAD_BYTES {
         return Err(BytesRefusal::OtherFile);
     }
@@ -56,7 +63,8 @@ pub(crate) fn read_head(bytes: &[u8]) -> Result<&[u8], BytesRefusal> {
 
 // The name and the bytes of the file that some bytes begin with, and the bytes behind it; none where they begin with none.
 pub(crate) fn read_file(bytes: &[u8]) -> Option<(&[u8], &[u8], &[u8])>
-    ensures { option_map (λ r. (record { name = r.0.now; bytes = r.1.now }, r.2.now)) result ≡ file_at bytes.now }
+    ensures { (f : File) (rest : List ℕ) → IsFile f → bytes.now ≡ file_bytes f ++ rest
+        → option_map (λ r. (r.0.now, (r.1.now, r.2.now))) result ≡ Some (f.name, (there_of f, rest)) }
 {
     let (name_length, rest) = read_word(bytes)?;
     let (length, rest) = read_word(rest)?;
@@ -66,7 +74,9 @@ pub(crate) fn read_file(bytes: &[u8]) -> Option<(&[u8], &[u8], &[u8])>
 }
 
 // So many bytes, and those behind them; none where there are fewer.
-fn split_within(bytes: &[u8], count: u64) -> Option<(&[u8], &[u8])> {
+fn split_within(bytes: &[u8], count: u64) -> Option<(&[u8], &[u8])>
+    ensures { option_map (λ r. (r.0.now, r.1.now)) result ≡ parted_at count bytes.now }
+{
     if count > bytes.len() as u64 {
         return None;
     }

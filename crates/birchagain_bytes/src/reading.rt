@@ -1,5 +1,12 @@
 //! Bytes of which an index is made.
 
+ghost use Rattle.std.specs.Prelude.{◌≡◌, [], IfErr, IfOk, IsOkUnless};
+ghost use Rattle.std.specs.List.Sorted.{IsNonDecreasing};
+ghost use Rattle.qm_index.specs.Indexed.{indexed, statistics};
+ghost use Rattle.qm_index.specs.declared.index.Index.{Index};
+ghost use Rattle.birchagain_bytes.specs.Bytes.{AreBytesOf};
+ghost use Rattle.birchagain_bytes.specs.Refusals.{IsFromBytesRefusal};
+
 use crate::index_files::BLOCK_LEN;
 use crate::packed_files::PackedFiles;
 use crate::refusal::{BytesRefusal, of_reading};
@@ -16,7 +23,14 @@ use std::alloc::Global;
 /// [`BytesRefusal::OtherVersion`] where they, or a file of theirs, are of another version; with
 /// [`BytesRefusal::Damaged`] where something is missing or not what was written; with [`BytesRefusal::OtherBlocks`]
 /// where postings are cut into blocks of another length than 128; and else for want of memory.
-pub fn from_bytes(alloc: Global, bytes: &[u8]) -> Result<Index, BytesRefusal> {
+pub fn from_bytes(alloc: Global, bytes: &[u8]) -> Result<Index, BytesRefusal>
+    ensures documents { (saved : Index) → AreBytesOf [] saved bytes.now → IfOk result (λ i. indexed i ≡ indexed saved) }
+    ensures statistics { (saved : Index) → AreBytesOf [] saved bytes.now → IfOk result (λ i. statistics i ≡ statistics saved) }
+    // What is the bytes of an index is refused for want of memory alone; its norms do not fall, as no searcher's do.
+    ensures whole { (saved : Index) → AreBytesOf [] saved bytes.now → IsNonDecreasing (statistics saved).norms
+        → IsOkUnless result BytesRefusal.Memory }
+    ensures refused { IfErr result IsFromBytesRefusal }
+{
     let mut files = PackedFiles::read(alloc, bytes)?;
     check_blocks(alloc, &files)?;
     match Index::open(alloc, &mut files) {

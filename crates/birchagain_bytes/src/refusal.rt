@@ -1,6 +1,7 @@
 //! Why an index was not made bytes, or bytes no index, and the statuses by which C learns of it.
 
 ghost use Rattle.std.specs.Prelude.{◌≡◌};
+ghost use Rattle.birchagain_bytes.specs.Refusals.{of_reading, of_writing};
 
 use qm_schema::QueryError;
 use qm_store::StoreError;
@@ -30,12 +31,12 @@ pub enum BytesRefusal {
 impl BytesRefusal {
     ghost use Rattle.birchagain_bytes.specs.Statuses.{status_of};
 
-    /// The status of a call that was refused so: 13 for want of memory, else one from 80 on.
+    /// The status of a call that was refused so: a number of [`QueryError::number`] for want of memory, else one from 80 on.
     pub fn status(self) -> u32
         ensures { result ≡ status_of self }
     {
         match self {
-            BytesRefusal::Memory => 13,
+            BytesRefusal::Memory => u32::from(QueryError::Memory.number()),
             BytesRefusal::OtherFile => 80,
             BytesRefusal::OtherVersion => 81,
             BytesRefusal::Damaged => 82,
@@ -69,7 +70,7 @@ impl<T: Drop> From<AllocFailed<T>> for BytesRefusal {
 
 // Why files were not written: for want of memory, or of a number.
 pub(crate) fn of_writing(error: StoreError) -> BytesRefusal
-    ensures { result ≡ Refusals.of_writing error }
+    ensures { result ≡ of_writing error }
 {
     match error {
         StoreError::Memory => BytesRefusal::Memory,
@@ -79,7 +80,7 @@ pub(crate) fn of_writing(error: StoreError) -> BytesRefusal
 
 // Why files were not read, which lie in memory: a folder never fails.
 pub(crate) fn of_reading(error: StoreError) -> BytesRefusal
-    ensures { result ≡ Refusals.of_reading error }
+    ensures { result ≡ of_reading error }
 {
     match error {
         StoreError::Memory | StoreError::Failed => BytesRefusal::Memory,

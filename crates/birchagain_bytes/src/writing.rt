@@ -1,5 +1,10 @@
 //! An index that is made bytes.
 
+ghost use Rattle.std.specs.Prelude.{◌≡◌, ◌≢◌, ◌↔◌, ◌++◌, [], List, ℕ, IfErr, IfOk, IsErrOf, OnErr, OnOk, drop, length};
+ghost use Rattle.qm_index.specs.Indexed.{indexed, statistics};
+ghost use Rattle.birchagain_bytes.specs.Bytes.{AreBytesOf};
+ghost use Rattle.birchagain_bytes.specs.Refusals.{IsToBytesRefusal, IsWriteRefusal};
+
 use crate::index_files::pack_index;
 use crate::numbering::number_files;
 use crate::open_documents::open_documents;
@@ -25,7 +30,13 @@ pub fn to_bytes(
     index: &mut Index,
     moment: u64,
     known: &[u64],
-) -> Result<Vec<u8>, BytesRefusal> {
+) -> Result<Vec<u8>, BytesRefusal>
+    ensures bytes { (indexed index.old).current.block_len ≡ 128 → IfOk result (λ bytes. AreBytesOf known.now index.old bytes.items) }
+    ensures open { IsErrOf result BytesRefusal.OpenSegment ↔ ((indexed index.old).current.documents ≢ []) }
+    ensures documents { indexed index.new ≡ indexed index.old }
+    ensures statistics { statistics index.new ≡ statistics index.old }
+    ensures refused { IfErr result (IsToBytesRefusal (indexed index.old)) }
+{
     if open_documents(index) > 0 {
         return Err(BytesRefusal::OpenSegment);
     }
@@ -50,7 +61,16 @@ pub fn write_bytes(
     known: &[u64],
     out: &mut [u8],
     size: &mut usize,
-) -> Result<(), BytesRefusal> {
+) -> Result<(), BytesRefusal>
+    ensures bytes { (indexed index.old).current.block_len ≡ 128 → OnOk result ((bytes : List ℕ) × AreBytesOf known.now index.old bytes
+        × (size.new ≡ length bytes) × (out.new ≡ bytes ++ drop size.new out.old)) }
+    ensures untouched { OnErr result (out.new ≡ out.old) }
+    ensures size { ¬ IsErrOf result BytesRefusal.NoRoom → OnErr result (size.new ≡ size.old) }
+    ensures open { IsErrOf result BytesRefusal.OpenSegment ↔ ((indexed index.old).current.documents ≢ []) }
+    ensures documents { indexed index.new ≡ indexed index.old }
+    ensures statistics { statistics index.new ≡ statistics index.old }
+    ensures refused { IfErr result (IsWriteRefusal (indexed index.old) out.old size.new) }
+{
     let bytes = to_bytes(alloc, index, moment, known)?;
     *size = bytes.len();
     if bytes.len() > out.len() {
