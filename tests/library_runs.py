@@ -7,7 +7,8 @@ The library is built with its checks, and with the makefile of bindings/c, whose
 warning. Header and package have to declare what the library exports (library_header.py). The example and all calls are
 run under valgrind, which must find no fault and nothing lost. Then each of its requests for memory is refused in turn,
 some of them under valgrind. It is installed, and taken away again. The example in Rust is built and run, the tests of
-the Python package, and what `pip install` makes of the package. FOLDER has libraries that were built before. Prints what
+the Python package, and what `pip install` makes of the package. What Python saves in a folder is opened by a program
+in Rattle, and the other way. FOLDER has libraries that were built before. Prints what
 went wrong, and then how many runs went as wanted. Called by tests/gate.py.
 """
 
@@ -22,6 +23,7 @@ sys.dont_write_bytecode = True
 
 from library_header import declared, differ_in_python, exported, unlike_statuses
 from program_runs.report import Report
+from unproved import give
 
 ROOT = os.path.realpath(os.path.join(os.path.dirname(os.path.abspath(__file__)), ".."))
 C, PYTHON, RUST = f"{ROOT}/bindings/c", f"{ROOT}/bindings/python", f"{ROOT}/examples/rust"
@@ -56,6 +58,26 @@ with Index(texts) as index:
     for hit in index.top("bool 0 2 ? term old ? term apple"):
         print(f"{hit.score}  {texts[hit.document]}")
 """
+
+
+# saves the index of a text in a folder, of which each line is a document, and one is deleted
+SAVES = """
+import sys
+from birchagain import Index
+with open(sys.argv[1], encoding="utf-8") as it, Index(it.read().splitlines()) as index:
+    index.delete(1)
+    index.save(sys.argv[2])
+"""
+# opens the index of a text in a folder, adds a document and saves it again; prints what it finds
+GOES_ON = """
+import sys
+from birchagain import Index
+with Index.open(sys.argv[1]) as index:
+    print(len(index), index.frequencies(["old", "apple", "owl"]), [it.document for it in index.top("term apple")])
+    index.add("an owl")
+    index.save(sys.argv[1])
+"""
+TEXT = "an old apple tree\nan apple a day\nwoodpeckers nest in old trees\n"
 
 
 def shown_in_readme():
@@ -160,6 +182,22 @@ class Runs:
         if text:
             self.count += int(re.search(r"(\d+) passed", text)[1]) - 1
 
+    def beside_a_program(self):
+        """A program in Rattle opens what Python saves in a folder, and Python opens what it saves."""
+        program, text, python = f"{self.room}/bench_store", f"{self.room}/text", python_with("ctypes")
+        if not give("bench_store", program, "--optimised"):
+            self.report.expect_same("bench_store", "built", "not built")
+            return
+        with open(text, "w", encoding="utf-8") as it:
+            it.write(TEXT)
+        environment = {"PYTHONPATH": PYTHON, "BIRCHAGAIN_LIBRARY": f"{self.folder}/libbirchagain.so"}
+        self.expect("Python saves", "", python, "-c", SAVES, text, f"{self.room}/python", **environment)
+        self.expect("a program opens it", r"open \d+\ndocuments 3\n", program, "open", f"{self.room}/python")
+        self.expect("a program saves", r"(?s:.*)", program, "save", text, f"{self.room}/program")
+        found = r"3 \[2, 2, 0\] \[0, 1\]\n"
+        self.expect("Python opens it, and saves there", found, python, "-c", GOES_ON, f"{self.room}/program", **environment)
+        self.expect("a program opens that", r"open \d+\ndocuments 4\n", program, "open", f"{self.room}/program")
+
     def wheel(self):
         """Builds a wheel where no index of packages is reached, and takes the package that is in it."""
         python, copy, target = python_with("setuptools", "wheel", "pip"), f"{self.room}/package", f"{self.room}/installed"
@@ -179,6 +217,7 @@ class Runs:
         self.install()
         self.rust_caller()
         self.python_package()
+        self.beside_a_program()
         self.wheel()
 
 

@@ -42,14 +42,10 @@ IsFromBytesRefusal NoNumber = ⊥
 IsFromBytesRefusal NoRoom = ⊥
 IsFromBytesRefusal refusal = Unit {0}
 
--- the first bytes are not those of an index, or of one of another version
-abbrev pub IsHeadRefusal : BytesRefusal → Type 0
-IsHeadRefusal OtherFile = Unit {0}
-IsHeadRefusal OtherVersion = Unit {0}
-IsHeadRefusal refusal = ⊥
-
--- the same; or what stands behind them is not files; or there is no memory
+-- the first bytes are not those of an index of this version; what stands behind them is not files; or there is no memory
 abbrev pub IsFilesRefusal : BytesRefusal → Type 0
 IsFilesRefusal Memory = Unit {0}
+IsFilesRefusal OtherFile = Unit {0}
+IsFilesRefusal OtherVersion = Unit {0}
 IsFilesRefusal Damaged = Unit {0}
-IsFilesRefusal refusal = IsHeadRefusal refusal
+IsFilesRefusal refusal = ⊥

@@ -1,10 +1,10 @@
 //! Files as bytes, one behind the other.
 
-ghost use Rattle.std.specs.Prelude.{◌≡◌, ◌++◌, List, ℕ, IfErr, IfOk, IsOk, OnOk, Some, option_map};
+ghost use Rattle.std.specs.Prelude.{◌≡◌, ◌++◌, IfOk, OnOk, option_map};
+ghost use Rattle.std.specs.Result.{result_map_both};
 ghost use Rattle.qm_store.specs.Heads.{head_bytes};
 ghost use Rattle.qm_store.specs.Items.{parted_at};
-ghost use Rattle.birchagain_bytes.specs.Packed.{File, IsFile, file_bytes, packed_kind, there_of};
-ghost use Rattle.birchagain_bytes.specs.Refusals.{IsHeadRefusal};
+ghost use Rattle.birchagain_bytes.specs.Packed.{File, IsFile, file_at, file_bytes, head_at, packed_kind, there_of};
 
 use crate::refusal::BytesRefusal;
 use crate::words::{WORD_BYTES, push_word, read_word};
@@ -44,9 +44,7 @@ pub(crate) fn push_file(out: &mut Vec<u8>, name: &str, bytes: &[u8]) -> Result<(
 
 // What stands behind the first bytes, where these are those of an index as bytes.
 pub(crate) fn read_head(bytes: &[u8]) -> Result<&[u8], BytesRefusal>
-    ensures files { (files : List ℕ) → bytes.now ≡ head_bytes packed_kind ++ files → IfOk result (λ rest. rest.now ≡ files) }
-    ensures head { (files : List ℕ) → bytes.now ≡ head_bytes packed_kind ++ files → IsOk result }
-    ensures refused { IfErr result IsHeadRefusal }
+    ensures { result_map_both (λ rest. rest.now) (λ refusal. refusal) result ≡ head_at bytes.now }
 {
     if bytes.len() < HEAD_BYTES {
         return Err(BytesRefusal::OtherFile);
@@ -62,9 +60,9 @@ pub(crate) fn read_head(bytes: &[u8]) -> Result<&[u8], BytesRefusal>
 }
 
 // The name and the bytes of the file that some bytes begin with, and the bytes behind it; none where they begin with none.
+#[tactic(auto, unfolding(crate::specs::Packed::file_at))]
 pub(crate) fn read_file(bytes: &[u8]) -> Option<(&[u8], &[u8], &[u8])>
-    ensures { (f : File) (rest : List ℕ) → IsFile f → bytes.now ≡ file_bytes f ++ rest
-        → option_map (λ r. (r.0.now, (r.1.now, r.2.now))) result ≡ Some (f.name, (there_of f, rest)) }
+    ensures { option_map (λ r. ((r.0.now, r.1.now), r.2.now)) result ≡ file_at bytes.now }
 {
     let (name_length, rest) = read_word(bytes)?;
     let (length, rest) = read_word(rest)?;

@@ -1,10 +1,11 @@
 //! Bytes of which an index is made.
 
-ghost use Rattle.std.specs.Prelude.{◌≡◌, [], IfErr, IfOk, IsOkUnless};
+ghost use Rattle.std.specs.Prelude.{◌≡◌, ◌↔◌, [], Err, IfErr, IfOk, IsErrOf, IsOkUnless};
 ghost use Rattle.std.specs.List.Sorted.{IsNonDecreasing};
 ghost use Rattle.qm_index.specs.Indexed.{indexed, statistics};
 ghost use Rattle.qm_index.specs.declared.index.Index.{Index};
 ghost use Rattle.birchagain_bytes.specs.Bytes.{AreBytesOf};
+ghost use Rattle.birchagain_bytes.specs.Packed.{head_at};
 ghost use Rattle.birchagain_bytes.specs.Refusals.{IsFromBytesRefusal};
 
 use crate::index_files::BLOCK_LEN;
@@ -29,6 +30,8 @@ pub fn from_bytes(alloc: Global, bytes: &[u8]) -> Result<Index, BytesRefusal>
     // What is the bytes of an index is refused for want of memory alone; its norms do not fall, as no searcher's do.
     ensures whole { (saved : Index) → AreBytesOf [] saved bytes.now → IsNonDecreasing (statistics saved).norms
         → IsOkUnless result BytesRefusal.Memory }
+    ensures other_file { IsErrOf result BytesRefusal.OtherFile ↔ (head_at bytes.now ≡ Err BytesRefusal.OtherFile) }
+    ensures other_version { head_at bytes.now ≡ Err BytesRefusal.OtherVersion → IsErrOf result BytesRefusal.OtherVersion }
     ensures refused { IfErr result IsFromBytesRefusal }
 {
     let mut files = PackedFiles::read(alloc, bytes)?;

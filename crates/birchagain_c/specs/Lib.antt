@@ -2,3 +2,4 @@ pub mod Statuses
 pub mod Held
 pub mod Frequencies
 pub mod Queries
+pub mod Bytes
