@@ -207,7 +207,7 @@ static void merged(void) {
     filled = 9;
     CHECK(birchagain_merge(one, 3, rising, 2, UINT64_MAX, out, 6, &filled) == BIRCHAGAIN_NOT_RANKED && filled == 9);
     CHECK(birchagain_merge(rising, 2, other, 2, 0, out, 6, &filled) == BIRCHAGAIN_NOT_RANKED && filled == 9);
-    CHECK(birchagain_merge(one, 3, other, 2, UINT64_MAX, out, 6, &filled) == BIRCHAGAIN_NO_NUMBER && filled == 9);
+    CHECK(birchagain_merge(one, 3, other, 2, UINT64_MAX, out, 6, &filled) == BIRCHAGAIN_NUMBER_TOO_HIGH && filled == 9);
     CHECK(out[0].document == 4 && birchagain_merge(one, 3, other, 1, UINT64_MAX, out, 2, &filled) == BIRCHAGAIN_DONE);
     CHECK(filled == 2 && out[1].document == UINT64_MAX && out[1].score == 7);
 }

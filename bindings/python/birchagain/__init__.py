@@ -8,7 +8,7 @@
             print(hit.document, hit.score)
 """
 
-from .errors import BirchagainError, ClosedError, MergeError, NoDocumentError, QueryError, WordError
+from .errors import BirchagainError, ClosedError, FormatError, MergeError, NoDocumentError, QueryError, WordError
 from .index import Index, rarity
 from .merging import merged
 from .queries import Hit, Language, query_words
@@ -16,6 +16,7 @@ from .queries import Hit, Language, query_words
 __all__ = [
     "BirchagainError",
     "ClosedError",
+    "FormatError",
     "Hit",
     "Index",
     "Language",

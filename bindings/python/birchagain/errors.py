@@ -6,8 +6,10 @@ from typing import Optional
 from . import _library
 
 _NO_MEMORY, _EMPTY, NO_DOCUMENT = 13, 64, 67
+# what bytes may be refused for, and what an index may be that is to be made bytes
+_FORMAT, OPEN_SEGMENT, _NO_NUMBER, NO_ROOM = (80, 81, 82, 83), 84, 85, 86
 # what the text of a query may be refused for
-_QUERY = (1, 2, 8, 9, 65, 80, 81, 82)
+_QUERY = (1, 2, 8, 9, 65, 73, 74)
 # what two answers may be refused for that are to be merged
 _MERGE = (71, 72)
 _ROOM = 256
@@ -28,6 +30,10 @@ class BirchagainError(Exception):
 
 class ClosedError(BirchagainError, ValueError):
     """The index was closed."""
+
+
+class FormatError(BirchagainError, ValueError):
+    """Bytes, or the files of a folder, that are no index, or one that is damaged or of another version."""
 
 
 class MergeError(BirchagainError, ValueError):
@@ -71,4 +77,8 @@ def raise_for(status: int) -> None:
         raise NoDocumentError(status)
     if status in _MERGE:
         raise MergeError(status)
+    if status in _FORMAT:
+        raise FormatError(status)
+    if status in (OPEN_SEGMENT, _NO_NUMBER, NO_ROOM):
+        raise BirchagainError(status)
     raise (QueryError if status in _QUERY else WordError)(status)

@@ -6,6 +6,7 @@
 //! refused, and 64 that the handle is empty; then what the index holds is as it was.
 #![tactic(auto)]
 
+mod bytes;
 mod documents;
 mod lifetime;
 mod merging;
@@ -14,6 +15,7 @@ mod query_texts;
 mod statuses;
 mod words;
 
+pub use bytes::{birchagain_from_bytes, birchagain_to_bytes};
 pub use documents::{
     birchagain_add_text, birchagain_add_words, birchagain_delete, birchagain_documents,
     birchagain_end_segment, birchagain_refresh,

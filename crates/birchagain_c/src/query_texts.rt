@@ -27,9 +27,9 @@ pub extern "C" fn birchagain_query_words(
     ensures told { result ≡ 0 → (laid : LaidWords) × AreWordsOf language query.now laid × AreTold laid bytes_filled.new words.new
         × (bytes.new ≡ laid.bytes.items ++ drop bytes_filled.new bytes.old)
         × (ends.new ≡ laid.ends.items ++ drop words.new ends.old) }
-    ensures room { result ≡ 82 → (laid : LaidWords) × AreWordsOf language query.now laid × AreTold laid bytes_filled.new words.new }
+    ensures room { result ≡ 86 → (laid : LaidWords) × AreWordsOf language query.now laid × AreTold laid bytes_filled.new words.new }
     ensures untouched { result ≢ 0 → (bytes.new ≡ bytes.old) × (ends.new ≡ ends.old) }
-    ensures numbers { result ≢ 0 → result ≢ 82 → (bytes_filled.new ≡ bytes_filled.old) × (words.new ≡ words.old) }
+    ensures numbers { result ≢ 0 → result ≢ 86 → (bytes_filled.new ≡ bytes_filled.old) × (words.new ≡ words.old) }
     ensures status { IsTextStatus (IsWordsRefusal language query.now (length bytes.old) (length ends.old)) result }
 {
     status_after_query(write_words(alloc, language, query, bytes, ends, bytes_filled, words))

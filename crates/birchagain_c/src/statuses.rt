@@ -5,6 +5,7 @@ ghost use Rattle.birchagain.specs.Statuses.{status_of};
 ghost use Rattle.birchagain_c.specs.Statuses.{status_after, status_after_query};
 
 use birchagain::{Refusal, status_text};
+use birchagain_bytes::status_text as bytes_status_text;
 use birchagain_partitions::merge_status_text;
 use birchagain_queries::{QueryRefusal, query_status_text};
 
@@ -46,8 +47,11 @@ pub extern "C" fn birchagain_status_text(status: u32, out: &mut [u8]) -> usize
     text.len()
 }
 
-// What a status says.
+// What a status says, whichever call answers it.
 fn text_of(status: u32) -> &'static str {
+    if let Some(text) = bytes_status_text(status) {
+        return text;
+    }
     if let Some(text) = merge_status_text(status) {
         return text;
     }

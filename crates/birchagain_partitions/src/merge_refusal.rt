@@ -8,7 +8,7 @@ pub enum MergeRefusal {
     /// A hit of one of them scores more than the one before it.
     NotRanked,
     /// A document of the second would have a number above 18446744073709551615.
-    NoNumber,
+    NumberTooHigh,
 }
 
 impl MergeRefusal {
@@ -20,7 +20,7 @@ impl MergeRefusal {
     {
         match self {
             MergeRefusal::NotRanked => 71,
-            MergeRefusal::NoNumber => 72,
+            MergeRefusal::NumberTooHigh => 72,
         }
     }
 }

@@ -14,7 +14,7 @@ use qm_script::Hit;
 /// So where one index was asked for its best and another for its own, and words weigh the same in both, the answer is
 /// that of an index which has the segments of both. Takes no memory, and costs a step for each hit.
 ///
-/// Refused with [`MergeRefusal::NotRanked`] and [`MergeRefusal::NoNumber`], in that order, and then `out` is as it was.
+/// Refused with [`MergeRefusal::NotRanked`] and [`MergeRefusal::NumberTooHigh`], in that order, and then `out` is as it was.
 pub fn merge_hits(
     first: &[Hit],
     second: &[Hit],
@@ -24,14 +24,14 @@ pub fn merge_hits(
     ensures best { IfOk result (HasBestOfBoth offset first.now second.now out.old out.new) }
     ensures untouched { OnErr result (out.new ≡ out.old) }
     ensures not_ranked { IsErrOf result MergeRefusal.NotRanked ↔ (AreRanked first.now second.now → ⊥) }
-    ensures no_number { IsErrOf result MergeRefusal.NoNumber → (HaveNumbers offset second.now → ⊥) }
+    ensures no_number { IsErrOf result MergeRefusal.NumberTooHigh → (HaveNumbers offset second.now → ⊥) }
     ensures numbered { IfOk result (λ _. HaveNumbers offset second.now) }
 {
     if !is_ranked(first) || !is_ranked(second) {
         return Err(MergeRefusal::NotRanked);
     }
     if !have_numbers(second, offset) {
-        return Err(MergeRefusal::NoNumber);
+        return Err(MergeRefusal::NumberTooHigh);
     }
     Ok(write_best(first, second, offset, out))
 }

@@ -26,16 +26,16 @@ pub enum QueryRefusal {
 impl QueryRefusal {
     ghost use Rattle.birchagain_queries.specs.Statuses.{status_of};
 
-    /// The status of a call that was refused so: a number of [`QueryError::number`], 65, or one from 80 on.
+    /// The status of a call that was refused so: a number of [`QueryError::number`], 65, or one from 73 on.
     pub fn status(self) -> u32
         ensures { result ≡ status_of self }
     {
         match self {
             QueryRefusal::Query(error) => u32::from(error.number()),
             QueryRefusal::NotUnderstood => 65,
-            QueryRefusal::NamesField => 80,
-            QueryRefusal::NoLanguage => 81,
-            QueryRefusal::NoRoom => 82,
+            QueryRefusal::NamesField => 73,
+            QueryRefusal::NoLanguage => 74,
+            QueryRefusal::NoRoom => 86,
             QueryRefusal::Untyped(refusal) => untyped_status(refusal.kind),
         }
     }

@@ -19,7 +19,7 @@ pub enum PartitionError {
     /// One of them refused the query.
     Query(QueryError),
     /// A document of the second would have a number above 18446744073709551615.
-    NoNumber,
+    NumberTooHigh,
 }
 
 impl From<QueryError> for PartitionError {
@@ -46,7 +46,7 @@ pub fn best_of_both(
     let others = best_hits(alloc, second, query, out.len())?;
     match merge_hits(&best, &others, first.document_count(), out) {
         Ok(count) => Ok(count),
-        Err(MergeRefusal::NoNumber) => Err(PartitionError::NoNumber),
+        Err(MergeRefusal::NumberTooHigh) => Err(PartitionError::NumberTooHigh),
         // each index gives its best first
         Err(MergeRefusal::NotRanked) => unreachable!(),
     }
