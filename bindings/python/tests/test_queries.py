@@ -69,7 +69,7 @@ REFUSED = {
     "(a": (103, 0, "the parenthesis isn't ended (at character 0)"),
     "old ap*le": (106, 6, "* stands only alone, or at the end of a word or a phrase, and ? nowhere (at character 6)"),
     "a OR": (118, 2, "a clause must stand on each side of AND and OR (at character 2)"),
-    "title:old": (80, None, "a query names a field, and the documents have no fields"),
+    "title:old": (71, None, "a query names a field, and the documents have no fields"),
 }
 
 

@@ -60,7 +60,7 @@ def wanted(text, ask):
     try:
         return ask(typed_model.query_of(text))
     except typed_model.NamesField:
-        return 80, None
+        return 71, None
     except parser_model.Refused as refused:
         return 101 + KINDS.index(refused.kind), len(text.encode()[: refused.at].decode())
     except script_model.Refused as refused:
