@@ -59,10 +59,10 @@ enum {
     BIRCHAGAIN_NOT_WORDS = 68,          /* ends that do not ascend within the bytes, or a word that has a space */
     BIRCHAGAIN_NEGATIVE_WEIGHT = 69,
     BIRCHAGAIN_UNEVEN_ROWS = 70,        /* two arrays that are to have one length have not */
-    BIRCHAGAIN_NOT_RANKED = 71,         /* a hit scores more than the one before it */
-    BIRCHAGAIN_NUMBER_TOO_HIGH = 72,    /* a document would have a number above 18446744073709551615 */
-    BIRCHAGAIN_NAMES_FIELD = 73,        /* a typed query names a field, and documents have none */
-    BIRCHAGAIN_NO_LANGUAGE = 74,        /* there is no language of that number */
+    BIRCHAGAIN_NAMES_FIELD = 71,        /* a typed query names a field, and documents have none */
+    BIRCHAGAIN_NO_LANGUAGE = 72,        /* there is no language of that number */
+    BIRCHAGAIN_NOT_RANKED = 73,         /* a hit scores more than the one before it */
+    BIRCHAGAIN_NUMBER_TOO_HIGH = 74,    /* a document would have a number above 18446744073709551615 */
     BIRCHAGAIN_OTHER_FILE = 80,         /* bytes are no index at all */
     BIRCHAGAIN_OTHER_VERSION = 81,      /* they are one of another version, or have a file of one */
     BIRCHAGAIN_DAMAGED = 82,            /* something of them is missing, or not what was written */

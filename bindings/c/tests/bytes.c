@@ -60,10 +60,10 @@ static void holds(birchagain_index *index) {
     CHECK(birchagain_documents(index, &out) == BIRCHAGAIN_DONE && out == 5);
     CHECK(birchagain_frequencies(index, BYTES("abcd"), ends, 4, held, 4) == BIRCHAGAIN_DONE);
     CHECK(held[0] == 2 && held[1] == 2 && held[2] == 2 && held[3] == 1);
-    CHECK(birchagain_count(index, BYTES("term c"), &out) == BIRCHAGAIN_DONE && out == 1);
-    CHECK(birchagain_count(index, BYTES("phrase 0 2 b a"), &out) == BIRCHAGAIN_DONE && out == 1);
+    CHECK(birchagain_count(index, BIRCHAGAIN_SCRIPT, BYTES("term c"), &out) == BIRCHAGAIN_DONE && out == 1);
+    CHECK(birchagain_count(index, BIRCHAGAIN_SCRIPT, BYTES("phrase 0 2 b a"), &out) == BIRCHAGAIN_DONE && out == 1);
     /* 2000 * 2 / (2 + 3), and 2000 / (1 + 2) */
-    CHECK(birchagain_top(index, BYTES("term a"), best, 3, &filled) == BIRCHAGAIN_DONE && filled == 2);
+    CHECK(birchagain_top(index, BIRCHAGAIN_SCRIPT, BYTES("term a"), best, 3, &filled) == BIRCHAGAIN_DONE && filled == 2);
     CHECK(best[0].document == 0 && best[0].score == 800 && best[1].document == 2 && best[1].score == 666);
 }
 

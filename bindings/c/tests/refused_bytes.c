@@ -23,7 +23,7 @@ static int done(uint32_t status) {
 static void holds(birchagain_index *index) {
     uint64_t count = 0, found = 99;
     wrong += birchagain_documents(index, &count) != BIRCHAGAIN_DONE || count != 3;
-    if (done(birchagain_count(index, BYTES("term a"), &found))) wrong += found != 2;
+    if (done(birchagain_count(index, BIRCHAGAIN_SCRIPT, BYTES("term a"), &found))) wrong += found != 2;
     else wrong += found != 99;
 }
 

@@ -9,9 +9,9 @@ _NO_MEMORY, _EMPTY, NO_DOCUMENT = 13, 64, 67
 # what bytes may be refused for, and what an index may be that is to be made bytes
 _FORMAT, OPEN_SEGMENT, _NO_NUMBER, NO_ROOM = (80, 81, 82, 83), 84, 85, 86
 # what the text of a query may be refused for
-_QUERY = (1, 2, 8, 9, 65, 73, 74)
+_QUERY = (1, 2, 8, 9, 65, 71, 72)
 # what two answers may be refused for that are to be merged
-_MERGE = (71, 72)
+_MERGE = (73, 74)
 _ROOM = 256
 
 

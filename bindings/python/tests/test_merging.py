@@ -48,12 +48,12 @@ def test_what_is_refused():
     for answers in ((rising, []), ([], rising), (rising, rising)):
         with pytest.raises(MergeError, match="scores more than the one before it") as refused:
             merged(*answers, 0)
-        assert refused.value.status == 71
+        assert refused.value.status == 73
     last = (1 << 64) - 1
     assert merged([], [Hit(0, 1)], last) == [Hit(last, 1)] and merged([Hit(last, 5)], [], last) == [Hit(last, 5)]
     with pytest.raises(MergeError, match="18446744073709551615") as refused:
         merged([], [Hit(1, 1)], last)
-    assert refused.value.status == 72
+    assert refused.value.status == 74
     for hits, offset in (([Hit(-1, 0)], 0), ([Hit(1 << 64, 0)], 0), ([Hit(0, 1 << 63)], 0), ([], -1), ([], 1 << 64)):
         with pytest.raises(OverflowError):
             merged(hits, [], offset)

@@ -19,8 +19,8 @@ pub extern "C" fn birchagain_merge(
 ) -> u32
     ensures best { result ≡ 0 → HasBestOfBoth offset first.now second.now out.old out.new filled.new }
     ensures untouched { result ≢ 0 → (out.new ≡ out.old) × (filled.new ≡ filled.old) }
-    ensures not_ranked { result ≡ 71 ↔ (AreRanked first.now second.now → ⊥) }
-    ensures no_number { result ≡ 72 → HaveNumbers offset second.now → ⊥ }
+    ensures not_ranked { result ≡ 73 ↔ (AreRanked first.now second.now → ⊥) }
+    ensures no_number { result ≡ 74 → HaveNumbers offset second.now → ⊥ }
     ensures numbered { result ≡ 0 → HaveNumbers offset second.now }
 {
     match merge_hits(first, second, offset, out) {

@@ -4,10 +4,11 @@ ghost use Rattle.std.specs.Prelude.{◌≡◌, ◌≢◌, ◌<◌, ◌≤◌, �
 ghost use Rattle.birchagain_c.specs.QueryTexts.{AreTold, AreWordsOf, IsUnderstood, IsUntypedAt, IsWordsRefusal};
 ghost use Rattle.birchagain_c.specs.Statuses.{IsTextStatus};
 ghost use Rattle.birchagain_queries.specs.Found.{IsQueryRefusal};
-ghost use Rattle.birchagain_queries.specs.declared.query_words.LaidWords.{LaidWords};
+ghost use Rattle.birchagain_queries.specs.declared.laid_words.LaidWords.{LaidWords};
 
 use crate::queries::understood;
-use crate::statuses::{DONE, status_after_query};
+use crate::query_statuses::status_after_query;
+use crate::statuses::DONE;
 use birchagain_queries::{LaidWords, QueryRefusal, query_words};
 use std::alloc::Global;
 
@@ -46,7 +47,8 @@ fn write_words(
     words: &mut usize,
 ) -> Result<(), QueryRefusal> {
     let query = understood(alloc, language, text)?;
-    let laid = query_words(alloc, &query)?;
+    let found = query_words(alloc, &query)?;
+    let laid = LaidWords::new(alloc, &found)?;
     *bytes_filled = laid.bytes.len();
     *words = laid.ends.len();
     if bytes.len() < laid.bytes.len() || ends.len() < laid.ends.len() {

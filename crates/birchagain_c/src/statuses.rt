@@ -2,12 +2,12 @@
 
 ghost use Rattle.std.specs.Prelude.{◌≡◌, ◌<◌, ◌≢◌, ◌++◌, ℕ, List, drop, length, min, take};
 ghost use Rattle.birchagain.specs.Statuses.{status_of};
-ghost use Rattle.birchagain_c.specs.Statuses.{status_after, status_after_query};
+ghost use Rattle.birchagain_c.specs.Statuses.{status_after};
 
 use birchagain::{Refusal, status_text};
 use birchagain_bytes::status_text as bytes_status_text;
 use birchagain_partitions::merge_status_text;
-use birchagain_queries::{QueryRefusal, query_status_text};
+use birchagain_queries::query_status_text;
 
 /// The call has done what it was asked.
 pub(crate) const DONE: u32 = 0;
@@ -18,16 +18,6 @@ pub(crate) const EMPTY: u32 = 64;
 /// The status of a call that was refused, or wasn't: never that of an empty handle.
 pub(crate) fn status_after(done: Result<(), Refusal>) -> u32
     ensures { result ≡ status_after done }
-{
-    match done {
-        Ok(()) => DONE,
-        Err(refusal) => refusal.status(),
-    }
-}
-
-/// The same of a call that takes a query.
-pub(crate) fn status_after_query(done: Result<(), QueryRefusal>) -> u32
-    ensures { result ≡ status_after_query done }
 {
     match done {
         Ok(()) => DONE,

@@ -4,5 +4,5 @@ use Rattle.birchagain_partitions.specs.declared.merge_refusal.MergeRefusal.{Merg
 use Rattle.birchagain_partitions.specs.declared.merge_refusal.MergeRefusal.TheVariants.{NotRanked, NumberTooHigh}
 
 abbrev pub status_of : MergeRefusal → ℕ
-status_of NotRanked = 71
-status_of NumberTooHigh = 72
+status_of NotRanked = 73
+status_of NumberTooHigh = 74

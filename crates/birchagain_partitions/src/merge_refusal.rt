@@ -19,8 +19,8 @@ impl MergeRefusal {
         ensures { result ≡ status_of self }
     {
         match self {
-            MergeRefusal::NotRanked => 71,
-            MergeRefusal::NumberTooHigh => 72,
+            MergeRefusal::NotRanked => 73,
+            MergeRefusal::NumberTooHigh => 74,
         }
     }
 }
@@ -28,8 +28,8 @@ impl MergeRefusal {
 /// What a status of this crate's own says, in English.
 pub fn merge_status_text(status: u32) -> Option<&'static str> {
     match status {
-        71 => Some("a hit scores more than the one before it"),
-        72 => Some("a document would have a number above 18446744073709551615"),
+        73 => Some("a hit scores more than the one before it"),
+        74 => Some("a document would have a number above 18446744073709551615"),
         _ => None,
     }
 }
