@@ -6,11 +6,20 @@ import os
 import select
 import shutil
 import subprocess
+import sys
 import tempfile
 import time
 
 # in seconds: how long an answer is waited for
 PATIENCE = 60
+# becomes the program of the words behind two pipes, which it finds under the numbers of the protocol, 3 and 4
+LAUNCH = """
+import fcntl, os, sys
+pipes = [fcntl.fcntl(int(it), fcntl.F_DUPFD, 10) for it in sys.argv[1:3]]
+for number, pipe in zip((3, 4), pipes):
+    os.dup2(pipe, number)
+os.execv(sys.argv[3], sys.argv[3:])
+"""
 KEYS = {"Enter": (13, "\r"), "Tab": (9, ""), "Space": (32, " ")}
 
 
@@ -28,10 +37,9 @@ class Browser:
         self.answers, said = os.pipe()
         words = [command(), "--headless", "--no-sandbox", "--disable-gpu", "--disable-dev-shm-usage"]
         words += ["--hide-scrollbars", "--remote-debugging-pipe", f"--user-data-dir={self.folder}", "about:blank"]
-        # the protocol's pipes are those of number 3 and 4
-        shell = ["sh", "-c", f'exec "$@" 3<&{told} 4>&{said}', "sh", *words]
         quiet = {"stdin": subprocess.DEVNULL, "stdout": subprocess.DEVNULL, "stderr": subprocess.DEVNULL}
-        self.process = subprocess.Popen(shell, pass_fds=(told, said), **quiet)
+        launch = [sys.executable, "-c", LAUNCH, str(told), str(said), *words]
+        self.process = subprocess.Popen(launch, pass_fds=(told, said), **quiet)
         os.close(told)
         os.close(said)
         self.number, self.buffer, self.events, self.session = 0, b"", [], None

@@ -53,7 +53,16 @@ def test_what_is_left_out(tmp_path):
     os.symlink("a.txt", folder / "within.txt")
     os.mkfifo(folder / "pipe")
     collection = Collection(str(folder), MOST)
-    seen = ["a.txt", "bom.txt", "deep/er/b.md", "just.txt", "latin.txt", "no-utf8-\udcff.txt", "utf16.txt", "utf16be.txt"]
+    seen = [
+        "a.txt",
+        "bom.txt",
+        "deep/er/b.md",
+        "just.txt",
+        "latin.txt",
+        "no-utf8-\udcff.txt",
+        "utf16.txt",
+        "utf16be.txt",
+    ]
     # those of one text are one passage, with each file that holds it
     assert found(collection, "owl") == seen
     assert found(collection, "caf") == ["latin.txt"] and found(collection, "secret") == []

@@ -32,7 +32,9 @@ class Model:
         """How often words stand in a document, one behind the other."""
         ends = range(len(document) - len(words) + 1)
         here = (document[at : at + len(words)] for at in ends)
-        return sum(it[:-1] == words[:-1] and (it[-1].startswith(words[-1]) if goes_on else it[-1] == words[-1]) for it in here)
+        return sum(
+            it[:-1] == words[:-1] and (it[-1].startswith(words[-1]) if goes_on else it[-1] == words[-1]) for it in here
+        )
 
     def matches(self, tree, document):
         return self.score(tree, document, False) is not None
@@ -71,7 +73,9 @@ class Model:
 
 def random_tree(chance, depth):
     if depth and chance.random() < 0.6:
-        clauses = [(chance.choice("???+-"), random_tree(chance, depth - 1)) for _ in range(chance.choice([0, 1, 2, 2, 3, 4]))]
+        clauses = [
+            (chance.choice("???+-"), random_tree(chance, depth - 1)) for _ in range(chance.choice([0, 1, 2, 2, 3, 4]))
+        ]
         return ("list", clauses)
     if depth and chance.random() < 0.3:
         return ("boost", (chance.choice([0, 1, 2, 7, 1000]), random_tree(chance, depth - 1)))
@@ -124,7 +128,7 @@ def test_beside_the_model(seed, tmp_path):
 
 
 def check_explanations(query, answer):
-    """The shares come to the score, each list to the sum of what is in it, and each word to what the page says of it."""
+    """The shares come to the score, each list to the sum of what is in it, and each word to what the page says."""
     for result, explanation in zip(answer.results, explain(query, [it.text for it in answer.results], answer.weights)):
         assert explanation.shares[0].score == result.score
         for at, share in enumerate(explanation.shares):

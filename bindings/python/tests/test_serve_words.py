@@ -18,7 +18,10 @@ LONG = "a paragraph that is long enough to stand for itself, with more than sixt
         ("Caf\u00e9 cafe\u0301 CAF\u00c9", ["cafe", "cafe", "cafe"]),
         ("Stra\u00dfe STRASSE", ["strasse", "strasse"]),
         ("\ufb01n \u00bd \u2460", ["fin", "1", "2", "1"]),
-        ("\u0130stanbul \u03a3\u0399\u03a3\u03a5\u03a6\u039f\u03a3", ["istanbul", "\u03c3\u03b9\u03c3\u03c5\u03c6\u03bf\u03c3"]),
+        (
+            "\u0130stanbul \u03a3\u0399\u03a3\u03a5\u03a6\u039f\u03a3",
+            ["istanbul", "\u03c3\u03b9\u03c3\u03c5\u03c6\u03bf\u03c3"],
+        ),
         # marks that write vowels count, and what only steers the writing doesn't part a word
         ("\u0915\u093f \u0915\u093e", ["\u0915\u093f", "\u0915\u093e"]),
         ("exam\u00adple a\u200db", ["example", "ab"]),

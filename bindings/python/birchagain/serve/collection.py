@@ -27,7 +27,7 @@ class Place(NamedTuple):
 
 
 class Found(NamedTuple):
-    """A passage that was found: its text and score, where it stands first, and some of the other files that hold it, of so many."""
+    """A passage that was found: its text and score, where it stands first, and some of the others of so many files."""
 
     text: str
     score: int
@@ -44,7 +44,7 @@ class Weighed(NamedTuple):
 
 
 class Weights(NamedTuple):
-    """What the words of a query weigh, and the words and phrases of it that are only beginnings; the mean length of passages."""
+    """What the words of a query weigh, and its words and phrases that go on; the mean length of passages."""
 
     words: Dict[str, Weighed]
     beginnings: Dict[Words, Weighed]
@@ -142,7 +142,7 @@ class Collection:
         leaves = [*scoring_leaves(query)]
         words = {word: self._weighed(Words((word,))) for word in whole_words(leaves)}
         self._passages.index.weigh({word: it.weight for word, it in words.items()})
-        beginnings = {it: self._weighed(it) for it in leaves if it.goes_on}
+        beginnings = {it: self._weighed(it) for it in dict.fromkeys(leaves) if it.goes_on}
         return Weights(words, beginnings, self._passages.mean_length())
 
     def _weighed(self, part: Words) -> Weighed:

@@ -28,7 +28,9 @@ def add_to(commands: argparse._SubParsersAction) -> None:
     )
     parser = commands.add_parser("serve", help="a page that searches the text files of a folder", description=text)
     parser.add_argument("folder", metavar="FOLDER", help="the folder whose text files are searched")
-    parser.add_argument("--port", type=_port, default=8000, metavar="N", help="the port, or 0 for any that is free (8000)")
+    parser.add_argument(
+        "--port", type=_port, default=8000, metavar="N", help="the port, or 0 for any that is free (8000)"
+    )
     size = "larger files are left out, in megabytes (16)"
     parser.add_argument("--max-size", type=_megabytes, default=16, metavar="MB", help=size)
     parser.add_argument("--open", action="store_true", help="open the page in a browser")

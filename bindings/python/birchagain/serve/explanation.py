@@ -14,7 +14,7 @@ MOST_LENGTH = 255
 
 
 class Share(NamedTuple):
-    """What a part of a query gives a passage: how deep it stands in the query, and its score, or None where it is not found."""
+    """What a part of a query gives a passage: how deep it stands, and the score, or None where it is not found."""
 
     depth: int
     part: Part
@@ -50,7 +50,10 @@ def explain(query: Part, texts: Sequence[str], weights: Weights) -> List[Explana
     with Index(folded_text(it) for it in texts) as index:
         index.weigh({word: it.weight for word, it in weights.words.items()})
         of_beginnings = weights.of_beginnings()
-        scored = [(depth, part, _scores(index, part.script(of_beginnings), len(texts))) for depth, part in _scoring_parts(query)]
+        scored = [
+            (depth, part, _scores(index, part.script(of_beginnings), len(texts)))
+            for depth, part in _scoring_parts(query)
+        ]
     return [Explanation([*_shares_of(place, scored)], words_of(text)) for place, text in enumerate(texts)]
 
 

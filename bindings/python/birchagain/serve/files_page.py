@@ -44,5 +44,7 @@ def _leaves(query: str) -> List[Words]:
 
 def _passage(passage: Passage, place: int, leaves: List[Words]) -> Markup:
     text = marked(passage.text, marks_in(passage.text, leaves), 0, len(passage.text))
-    line = element("a", number(passage.line), href=f"#p{place}", class_="line", aria_label=f"Line {number(passage.line)}")
+    line = element(
+        "a", number(passage.line), href=f"#p{place}", class_="line", aria_label=f"Line {number(passage.line)}"
+    )
     return element("section", line, element("pre", text, dir="auto", lang=""), id=f"p{place}", tabindex="-1")

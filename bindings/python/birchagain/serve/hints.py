@@ -12,7 +12,7 @@ _MOST_WORDS, _MOST_LETTERS, _LEAST_LETTERS = 5, 40, 3
 
 
 class Hint(NamedTuple):
-    """What is so, and a query that finds something instead, with how many passages it finds. Without one it is empty."""
+    """What is so, and a query that finds something instead, if there is one, with how many passages it finds."""
 
     said: str
     query: str = ""
@@ -31,7 +31,11 @@ def hints_for(query: Part, answer: Answer, collection: Collection) -> Iterator[H
     there = [it for it in words if it not in missing]
     if there and (len(words) > 1):
         alone = Joined(tuple(("?", Words((it,))) for it in there))
-        said = "Any of the words that there are:" if missing else "Each word is there, but not as it is asked for. Any of them:"
+        said = (
+            "Any of the words that there are:"
+            if missing
+            else "Each word is there, but not as it is asked for. Any of them:"
+        )
         yield Hint(said, " ".join(there), collection.count(alone))
 
 

@@ -10,6 +10,7 @@ from .collection import Summary
 from .markup import Markup, element, joined
 from .reading import told
 
+_EXAMPLE = 'Words, +must, -not, "a phrase", begin*'
 _HELP = (
     ("old apple", "any of the words; what holds more of them, and rarer ones, comes first"),
     ("old AND apple", "both words"),
@@ -49,18 +50,29 @@ def shown_path(path: str) -> Markup:
 def form(query: str, refusal: Optional[str] = None, is_first: bool = False) -> Markup:
     """The box. `refusal` is the id of what says why the query is refused, and `is_first` puts the caret into it."""
     label = element("label", "Search", for_="q", class_="label")
+    said = {"aria_invalid": "true", "aria_describedby": refusal} if refusal else {}
+    typed_as_it_is = {"autocomplete": "off", "autocapitalize": "none", "spellcheck": "false", "enterkeyhint": "search"}
     box = element(
-        "input", type="search", id="q", name="q", value=query, autofocus=is_first, autocomplete="off", autocapitalize="none",
-        spellcheck="false", enterkeyhint="search", placeholder="Words, +must, -not, \"a phrase\", begin*",
-        aria_invalid="true" if refusal else None, aria_describedby=refusal,
-    )  # fmt: skip
-    return element("form", label, box, element("button", "Search", type="submit"), action="/", method="get", role="search")
+        "input",
+        type="search",
+        id="q",
+        name="q",
+        value=query,
+        placeholder=_EXAMPLE,
+        autofocus=is_first,
+        **typed_as_it_is,
+        **said,
+    )
+    return element(
+        "form", label, box, element("button", "Search", type="submit"), action="/", method="get", role="search"
+    )
 
 
 def help_fold(is_open: bool) -> Markup:
     """What a query may say."""
     rows = [
-        element("tr", element("td", element("a", typed, href=address("/", q=typed))), element("td", finds)) for typed, finds in _HELP
+        element("tr", element("td", element("a", typed, href=address("/", q=typed))), element("td", finds))
+        for typed, finds in _HELP
     ]
     head = element("thead", element("tr", element("th", "Typed", scope="col"), element("th", "Finds", scope="col")))
     table = element("table", head, element("tbody", *rows))
@@ -68,7 +80,9 @@ def help_fold(is_open: bool) -> Markup:
         "Capitals and accents don't count. What is joined by other signs, as spin_lock, is a phrase of its words. "
         "A passage is a paragraph of a file; all that a query asks for has to stand in one."
     )
-    return element("details", element("summary", "What a query may say"), table, element("p", notes), open=is_open, class_="help")
+    return element(
+        "details", element("summary", "What a query may say"), table, element("p", notes), open=is_open, class_="help"
+    )
 
 
 def footer(folder: str, summary: Summary) -> Markup:
@@ -115,10 +129,9 @@ def page_links(path: str, pages: Tuple[int, int], label: str, values: Dict[str, 
     at, last = pages
     if last == 1:
         return Markup("")
-    links: List[str] = []
+    shown: List[str] = [element("span", f"Page {number(at)} of {number(last)}")]
     if at > 1:
-        links.append(element("a", "\u2190 Previous", href=address(path, **values, **{name: at - 1}), rel="prev"))
-    links.append(element("span", f"Page {number(at)} of {number(last)}"))
+        shown[:0] = [element("a", "\u2190 Previous", href=address(path, **values, **{name: at - 1}), rel="prev"), " "]
     if at < last:
-        links.append(element("a", "Next \u2192", href=address(path, **values, **{name: at + 1}), rel="next"))
-    return element("nav", *links, aria_label=label)
+        shown += [" ", element("a", "Next \u2192", href=address(path, **values, **{name: at + 1}), rel="next")]
+    return element("nav", *shown, aria_label=label)

@@ -28,7 +28,9 @@ def element(name: str, /, *inside: str, **attributes: Attribute) -> Markup:
 
     An attribute that is True stands without a value, and one that is None or False doesn't stand.
     """
-    written = "".join(_attribute(key, value) for key, value in attributes.items() if value is not None and value is not False)
+    written = "".join(
+        _attribute(key, value) for key, value in attributes.items() if value is not None and value is not False
+    )
     if name in _VOID:
         return Markup(f"<{name}{written}>")
     return Markup(f"<{name}{written}>{joined(*inside)}</{name}>")

@@ -16,6 +16,8 @@ class PassageIndex:
 
     def __init__(self) -> None:
         self.index = Index()
+        # how many documents the index has, deleted ones too
+        self._added = 0
         self._numbers: Dict[str, int] = {}
         self._holders: Dict[int, List[str]] = {}
         self._texts: Dict[int, str] = {}
@@ -41,8 +43,9 @@ class PassageIndex:
         number = self._numbers.get(text)
         if number is None:
             folded = folded_text(text)
-            number = len(self.index)
+            number = self._added
             self.index.add(folded)
+            self._added += 1
             self._words += len(folded.split())
             self._numbers[text], self._texts[number], self._holders[number] = number, text, []
         self._holders[number].append(path)
@@ -71,4 +74,4 @@ class PassageIndex:
 
     def is_worn(self) -> bool:
         """Whether more documents are deleted than are left, so that it is better made anew."""
-        return len(self.index) - len(self) > max(len(self), _FEW_DELETED)
+        return self._added - len(self) > max(len(self), _FEW_DELETED)

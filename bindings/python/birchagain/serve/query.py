@@ -1,4 +1,4 @@
-"""What a query asks of passages: the tree of what was typed, with words that are cut and folded as those of passages."""
+"""What a query asks of passages: the tree of what was typed, with words cut and folded as those of passages."""
 
 from __future__ import annotations
 
@@ -30,7 +30,9 @@ class Words(NamedTuple):
         if self.goes_on:
             beginning = f"prefix {_ALL_BEGINNINGS} {len(self.words)} {words}"
             return _boost(self.factor, f"const {weights[self]} {beginning}" if self in weights else beginning)
-        return _boost(self.factor, f"phrase {self.slop} {len(self.words)} {words}" if len(self.words) > 1 else f"term {words}")
+        return _boost(
+            self.factor, f"phrase {self.slop} {len(self.words)} {words}" if len(self.words) > 1 else f"term {words}"
+        )
 
     def found_in(self, words: Sequence[str], at: int) -> int:
         """How many of the words from a place on are what is asked for: all of it, or 0."""

@@ -11,6 +11,7 @@ from typing import Dict, Iterator, NamedTuple, Tuple
 # why a file is left out, as it is told of one and of more
 BINARY, TOO_LARGE, LINK, NO_FILE, UNREADABLE = "binary file", "file too large", "link", "no plain file", "unreadable"
 _OF_MORE = {BINARY: "binary files", TOO_LARGE: "files too large", LINK: "links", NO_FILE: "no plain files"}
+_HEAD = 8192
 _UTF_16 = {codecs.BOM_UTF16_LE: "utf-16-le", codecs.BOM_UTF16_BE: "utf-16-be"}
 
 
@@ -86,7 +87,10 @@ def read_text(path: str, most: int) -> Tuple[Stamp, str]:
             status = os.fstat(descriptor)
             if not stat.S_ISREG(status.st_mode):
                 raise LeftOut(NO_FILE)
-            data = file.read(most + 1)
+            # most binary files show it soon, and needn't be read on
+            data = file.read(min(_HEAD, most + 1))
+            if not _is_binary(data):
+                data += file.read(most + 1 - len(data))
     except OSError as error:
         raise LeftOut(UNREADABLE) from error
     if len(data) > most:
@@ -96,14 +100,15 @@ def read_text(path: str, most: int) -> Tuple[Stamp, str]:
 
 def _text_of(data: bytes) -> str:
     """A text is UTF-8, or UTF-16 where a mark in front says so; U+FFFD stands for bytes that are neither."""
-    encoding = _UTF_16.get(data[:2])
-    if encoding:
-        text = data[2:].decode(encoding, "replace")
-    elif b"\0" in data:
+    if _is_binary(data):
         raise LeftOut(BINARY)
-    else:
-        text = data.decode("utf-8-sig", "replace")
+    encoding = _UTF_16.get(data[:2])
+    text = data[2:].decode(encoding, "replace") if encoding else data.decode("utf-8-sig", "replace")
     return text.replace("\r\n", "\n").replace("\r", "\n")
+
+
+def _is_binary(data: bytes) -> bool:
+    return data[:2] not in _UTF_16 and b"\0" in data
 
 
 def told(left_out: Counter) -> Iterator[str]:

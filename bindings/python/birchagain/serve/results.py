@@ -75,7 +75,8 @@ def _why(found: Found, explanation: Explanation, weights: Weights) -> Markup:
         "w \u00d7 f \u00f7 (f + l), rounded down. The more passages hold a word, the less it weighs."
     )
     if weights.beginnings:
-        rule += f" The beginning of a word gives what stands once in a passage of mean length, {counted(weights.length, 'word')}."
+        mean = counted(weights.length, "word")
+        rule += f" The beginning of a word gives what stands once in a passage of mean length, {mean}."
     head = element("thead", element("tr", *(element("th", it, scope="col") for it in _HEADS)))
     # what is asked for as a whole gives the score, which stands below
     shares = explanation.shares[1:] if isinstance(explanation.shares[0].part, Joined) else explanation.shares
@@ -83,7 +84,9 @@ def _why(found: Found, explanation: Explanation, weights: Weights) -> Markup:
     more = len(shares) - MOST_ROWS
     if more > 0:
         rows.append(element("tr", element("td", f"and {number(more)} more", colspan="5")))
-    total = element("tfoot", element("tr", element("th", "Score", scope="row", colspan="4"), element("td", number(found.score))))
+    total = element(
+        "tfoot", element("tr", element("th", "Score", scope="row", colspan="4"), element("td", number(found.score)))
+    )
     table = element("table", head, element("tbody", *rows), total)
     name = f"Why this passage scores {number(found.score)}"
     summary = element("summary", f"Score {number(found.score)}: why")

@@ -18,8 +18,8 @@ ADDRESS = "127.0.0.1"
 _HOST = re.compile(r"(?:127\.0\.0\.1|localhost)(?::[0-9]{1,5})?", re.I)
 _METHODS = ("GET", "HEAD")
 _HEADERS = {
-    "Content-Security-Policy": "default-src 'none'; style-src 'self'; img-src 'self'; form-action 'self'; base-uri 'none'; "
-    "frame-ancestors 'none'",
+    "Content-Security-Policy": "default-src 'none'; style-src 'self'; img-src 'self'; form-action 'self'; "
+    "base-uri 'none'; frame-ancestors 'none'",
     "X-Content-Type-Options": "nosniff",
     "X-Frame-Options": "DENY",
     "Referrer-Policy": "no-referrer",
@@ -62,6 +62,8 @@ class Handler(BaseHTTPRequestHandler):
 
     server: Server
     timeout = _PATIENCE
+    # an answer has its headers also where the request is too old or too odd to name a version
+    default_request_version = "HTTP/1.0"
 
     def version_string(self) -> str:
         return "birchagain"
@@ -80,12 +82,23 @@ class Handler(BaseHTTPRequestHandler):
         if len(hosts) != 1 or not _HOST.fullmatch(hosts[0].strip()):
             self._send(self.server.site.refuse(421, "This page answers at 127.0.0.1 and localhost alone."), has_body)
             return
+        if self._is_built_into_another_site():
+            self._send(self.server.site.refuse(403, "This page is no part of another."), has_body)
+            return
         try:
             response = self.server.site.respond(self.path)
         except Exception:
             traceback.print_exc()
             response = self.server.site.refuse(500, "This went wrong. The terminal says more.")
         self._send(response, has_body)
+
+    def _is_built_into_another_site(self) -> bool:
+        """Whether a page of another site asks for this one as a picture, a frame and the like, as browsers tell.
+
+        A link there that a reader follows is none of these.
+        """
+        is_elsewhere = self.headers.get("Sec-Fetch-Site", "none") in ("cross-site", "same-site")
+        return is_elsewhere and self.headers.get("Sec-Fetch-Dest") != "document"
 
     def send_error(self, code: int, message: Optional[str] = None, explain: Optional[str] = None) -> None:
         """What is no request that is answered, in a page like all others."""

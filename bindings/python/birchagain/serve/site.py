@@ -42,7 +42,10 @@ class Site:
 
     def __init__(self, collection: Collection, name: str) -> None:
         self.collection, self.name = collection, name
-        self._files = {"/style.css": Response(200, _CSS, _file_here("style.css")), "/icon.svg": Response(200, _SVG, _file_here("icon.svg"))}
+        self._files = {
+            "/style.css": Response(200, _CSS, _file_here("style.css")),
+            "/icon.svg": Response(200, _SVG, _file_here("icon.svg")),
+        }
 
     def respond(self, target: str) -> Response:
         """The answer to a request for an address. Nothing of it names a file: a key is looked up among the texts."""
@@ -67,12 +70,16 @@ class Site:
 
     def _page(self, status: int, title: str, main: Markup, query: str, box: Optional[Markup] = None) -> Response:
         header = site_header(self.name, form(query) if box is None else box)
-        body = page(f"{title} \u2013 {self.name}", header, main, footer(self.collection.folder, self.collection.summary()))
+        body = page(
+            f"{title} \u2013 {self.name}", header, main, footer(self.collection.folder, self.collection.summary())
+        )
         return Response(status, _HTML, body)
 
     def _search(self, text: str, at: int) -> Response:
         if not text.strip():
-            main = main_part(element("h1", f"Search {counted(self.collection.summary().texts, 'text')}"), help_fold(True))
+            main = main_part(
+                element("h1", f"Search {counted(self.collection.summary().texts, 'text')}"), help_fold(True)
+            )
             return self._page(200, "Search", main, "", form("", is_first=True))
         if len(text) > MOST_LETTERS:
             return self._refused(text[:MOST_LETTERS], f"a query has {number(MOST_LETTERS)} letters at most", None)
@@ -95,7 +102,8 @@ class Site:
             page_links("/", (answer.page, answer.pages), "Pages of results", {"q": text}),
             help_fold(False),
         )
-        return self._page(200, f"{text} \u2013 {number(answer.found)}", main, text)
+        on_page = f" \u2013 page {answer.page}" if answer.page > 1 else ""
+        return self._page(200, f"{text}{on_page}", main, text)
 
     def _empty(self, text: str, query: Part, answer: Answer) -> Response:
         items = []
@@ -120,7 +128,9 @@ class Site:
             why = f"Not understood at letter {number(place + 1)}: {why}."
         else:
             why = f"Refused: {why}."
-        main = main_part(element("h1", "The query is refused"), element("p", why, id="why", role="alert"), shown, help_fold(True))
+        main = main_part(
+            element("h1", "The query is refused"), element("p", why, id="why", role="alert"), shown, help_fold(True)
+        )
         return self._page(400, f"{text[:60]} \u2013 refused", main, text, form(text, refusal="why", is_first=True))
 
     def _file(self, key: str, asked: Dict[str, str]) -> Response:

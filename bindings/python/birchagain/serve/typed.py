@@ -18,7 +18,7 @@ _DIGITS = re.compile("[0-9]*")
 _MISPLACED = {"^": "StrayBoost", "~": "Fuzzy", "*": "Wildcard", "?": "Wildcard", ":": "FieldWithoutName", "/": "Regex"}
 _MISPLACED.update(dict.fromkeys("[]{}<>", "Range"))
 _SAID = {
-    "StrayEscape": "a \\ stands before one of the signs \\ \" ( ) * ? : ^ ~ [ ] { } + - / < > alone",
+    "StrayEscape": 'a \\ stands before one of the signs \\ " ( ) * ? : ^ ~ [ ] { } + - / < > alone',
     "OpenQuote": "the quote isn't ended",
     "OpenParenthesis": "the parenthesis isn't ended",
     "StrayParenthesis": "no parenthesis is open here",
@@ -131,7 +131,7 @@ class _Cutter:
         letter = self._peek()
         if letter in _MISPLACED and letter != "*":
             raise Refusal(_MISPLACED[letter], place)
-        if letter not in "()+-\"*":
+        if letter not in '()+-"*':
             return self._word(place)
         self.at += 1
         if letter == "(":

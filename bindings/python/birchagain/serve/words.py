@@ -24,7 +24,7 @@ class _Folded(Dict[int, str]):
 
 
 def _kept(letter: str) -> str:
-    """What is left of a letter: nothing of an accent and of what only steers the writing, a space of what parts words."""
+    """What is left of a letter: nothing of an accent or what only steers the writing, a space of what parts words."""
     kind = unicodedata.category(letter)
     if "\u0300" <= letter <= "\u036f" or kind == "Cf":
         return ""
