@@ -98,6 +98,7 @@ class Collection:
             self._take_in(it)
         if self._passages.is_worn():
             self._passages = self._made_anew()
+        self._summary = Summary(len(self._files.texts()), len(self._passages), self._files.left_out())
         ended = time.monotonic()
         self._next_look = ended + _BETWEEN_LOOKS * (ended - begun)
 
@@ -171,6 +172,5 @@ class Collection:
             return None if file and file.left_out else file
 
     def summary(self) -> Summary:
-        """What was read, and what was left out."""
-        with self._lock:
-            return Summary(len(self._files.texts()), len(self._passages), self._files.left_out())
+        """What was read at the last look, and what was left out."""
+        return self._summary
