@@ -165,7 +165,7 @@ def test_a_file_that_vanishes_between_two_searches(served):
     assert served.page("/?q=oak").text("h1") == "2 passages found"
     os.remove(served.folder / "a.txt")
     (served.folder / "d.txt").write_text("an oak and a fox")
-    until = time.monotonic() + 30
+    until = time.monotonic() + 120
     while served.page("/?q=fox").text("h1") == "Nothing found" and time.monotonic() < until:
         time.sleep(0.05)
     assert served.page("/?q=oak").text("h2") == "b.txt line 1 d.txt line 1"
