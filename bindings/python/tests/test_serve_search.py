@@ -10,7 +10,7 @@ from birchagain.serve.explanation import explain, times_in
 from birchagain.serve.query import Joined, Words, read_query
 from birchagain.serve.typed import Refusal
 
-SEEDS = 60
+SEEDS = 40
 WORDS = ["owl", "owls", "oak", "old", "apple", "ant", "a", "b"]
 # as they may be typed
 SPELLED = {"owl": ["OWL", "\u00f3wl"], "oak": ["o\u0301ak", "Oak"], "a": ["\u00c5"]}
