@@ -7,9 +7,9 @@ The library is built with its checks, and with the makefile of bindings/c, whose
 warning. Header and package have to declare what the library exports (library_header.py). The example and all calls are
 run under valgrind, which must find no fault and nothing lost. Then each of its requests for memory is refused in turn,
 some of them under valgrind. It is installed, and taken away again. The example in Rust is built and run, the tests of
-the Python package, and what `pip install` makes of the package. What Python saves in a folder is opened by a program
-in Rattle, and the other way. FOLDER has libraries that were built before. Prints what
-went wrong, and then how many runs went as wanted. Called by tests/gate.py.
+the Python package, and what `pip install` makes of the package. Its search page is drawn by chromium; a line says so
+where there is none. What Python saves in a folder is opened by a program in Rattle, and the other way. FOLDER has
+libraries that were built before. Prints what went wrong, and then how many runs went as wanted. Called by tests/gate.py.
 """
 
 import os
@@ -64,6 +64,18 @@ with Index(texts) as index:
         print(f"{hit.score}  {texts[hit.document]}")
     for document in index.search("tre*"):
         print(f"tre*: {texts[document]}")
+"""
+# serves the notes of the repository by the package that is installed, and asks for what README asks the command
+SERVED = """
+import re, signal, subprocess, sys, urllib.request
+words = [sys.executable, "-m", "birchagain", "serve", f"{sys.argv[1]}/examples/notes", "--port", "0"]
+process = subprocess.Popen(words, stdout=subprocess.PIPE, text=True)
+process.stdout.readline()
+address = process.stdout.readline().split()[0]
+page = urllib.request.urlopen(f"{address}?q=%22old+apple%22+nest*").read().decode()
+process.send_signal(signal.SIGINT)
+if process.wait(60) == 0:
+    print(re.search("<h1>(.*?)</h1>", page)[1])
 """
 
 
@@ -189,10 +201,12 @@ class Runs:
 
     def python_package(self):
         python = python_with("pytest")
-        words = [python, "-m", "pytest", "-q", "-p", "no:cacheprovider", "tests"]
+        words = [python, "-m", "pytest", "-q", "-rs", "-p", "no:cacheprovider", "tests"]
         text = self.expect("pytest", r"\d+ passed.*\n", *words, cwd=PYTHON, BIRCHAGAIN_LIBRARY=f"{self.folder}/libbirchagain.so")
         if text:
             self.count += int(re.search(r"(\d+) passed", text)[1]) - 1
+            # what was left out, and why
+            print("".join(re.findall(r"^SKIPPED .*\n", text, re.M)), end="", flush=True)
 
     def beside_a_program(self):
         """A program in Rattle opens what Python saves in a folder, and Python opens what it saves."""
@@ -218,8 +232,11 @@ class Runs:
         words = ["-m", "pip", "install", "-q", "--no-index", "--no-deps", "--no-build-isolation", "--disable-pip-version-check"]
         library = f"{self.folder}/libbirchagain.so"
         self.expect("pip install", r"(?s:.*)", python, *words, "--root-user-action=ignore", "--target", target, copy, BIRCHAGAIN_LIBRARY=library)
-        for name, printed, program in (("the installed package", EXAMPLE, INSTALLED), ("what README shows", *shown_in_readme())):
-            self.expect(name, printed, python, "-c", program, cwd=self.room, PYTHONPATH=target, BIRCHAGAIN_LIBRARY="")
+        programs = [("the installed package", EXAMPLE, INSTALLED), ("what README shows", *shown_in_readme())]
+        programs.append(("the search page", "3 passages found\n", SERVED))
+        for name, printed, program in programs:
+            words = [python, "-c", program, ROOT]
+            self.expect(name, printed, *words, cwd=self.room, PYTHONPATH=target, BIRCHAGAIN_LIBRARY="")
 
     def play(self):
         if not self.make("all", *(f"{self.folder}/{name}" for name in ("calls", "refused", "bytes", "refused_bytes"))):
