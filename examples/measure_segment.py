@@ -1,6 +1,8 @@
 #!/usr/bin/env python3
 """Measures how fast the program takes documents, and how many bytes a posting takes.
 
+    python3 examples/measure_segment.py [PROGRAM]
+
 It writes 100,000 documents of 50 words out of 20,000 to the program, ends the segment, and asks the
 program how many bytes it holds then. A posting is a word and a document that holds it. The bytes
 are those of the whole program, so of the words and of the length ids too.
@@ -24,7 +26,7 @@ def start(room):
     counter = os.path.join(room, "live_memory.so")
     subprocess.run(["cc", "-O2", "-shared", "-fPIC", "-o", counter, COUNTER], check=True)
     return subprocess.Popen(
-        [PROGRAM],
+        [sys.argv[1] if len(sys.argv) > 1 else PROGRAM],
         stdin=subprocess.PIPE,
         stdout=subprocess.PIPE,
         stderr=subprocess.PIPE,
@@ -38,6 +40,13 @@ def live_bytes(program):
     return int(program.stderr.readline())
 
 
+def seconds_of(program):
+    """The seconds of a processor that it took so far, by what Linux tells of it."""
+    with open(f"/proc/{program.pid}/stat", encoding="utf-8") as it:
+        ticks = it.read().rpartition(")")[2].split()[11:13]
+    return sum(map(int, ticks)) / os.sysconf("SC_CLK_TCK")
+
+
 def main():
     chance = random.Random(1)
     lines, postings = [], 0
@@ -48,19 +57,19 @@ def main():
     script = "".join(lines).encode()
     with tempfile.TemporaryDirectory() as room, start(room) as program:
         empty = live_bytes(program)
-        begun = time.monotonic()
+        begun = seconds_of(program)
         program.stdin.write(script)
         # more empty answers than the program's buffer holds, so that the first are seen
         program.stdin.write(b"segment\n" + 20_000 * b"docs none\n")
         program.stdin.flush()
         program.stdout.read(8192)
-        seconds = time.monotonic() - begun
+        seconds = seconds_of(program) - begun
         held = live_bytes(program) - empty
         program.stdout.close()
         program.stdin.close()
         program.kill()
-    print(f"{DOCUMENTS / seconds:,.0f} documents a second")
-    print(f"{held / postings:.2f} bytes a posting, of {postings:,} postings")
+    print("| Documents a second of a processor | Bytes a posting | Postings |\n|---|---|---|")
+    print(f"| {DOCUMENTS / seconds:,.0f} | {held / postings:.2f} | {postings:,} |")
 
 
 if __name__ == "__main__":

@@ -10,6 +10,12 @@ flat.case, of very many parts and none of them deep, are played with a stack of 
 an allocator that refuses the requests for memory that a case names (tests/refuse_memory.c). The programs are
 those that `rt ci` has left in crates/PROGRAM/out, or those in a FOLDER. Prints the rows that are wrong, and last
 how many rows were played; the exit status is 1 where one is wrong, or where a program plays none.
+
+What no contract says stands in rows, as data, and not in `#[test]` functions: a test is proved as any function is,
+which costs more than what it tests. A row costs nothing, can be generated, and is played under memory that is refused
+at any request. What a row can't say is said by a caller whose contract is proved (crates/example_callers). The cases'
+own cursors keep the laws of their traits in awkward manners: least bounds, nonsensical hints, document 0 where they
+aren't placed.
 """
 
 import os

@@ -11,7 +11,7 @@ there, at the top of the repository.
 - A fenced block `rust` stands, line by line, in the file that is named last before it.
 - A table of a script, `| Line | Prints | |`, has the lines of the file that is named last before it, and what the
   program prints for them.
-- A file that is named is there.
+- A file that is named, or that a link leads to, is there.
 
 Commands of one document are run one after another, and documents beside each other; one that stands twice is run
 once. Each has to end with status 0.
@@ -31,6 +31,7 @@ NOT_RUN = {
     "python3 tests/gate.py": "it runs this",
     "python3 tests/documented_commands.py": "it is this",
     "python3 tests/definitions.py": "it writes; the gate and quick.py run it with --check",
+    "python3 tests/growth.py": "quick.py and the gate run it",
     "python3 tests/layers.py": "it writes; the gate and quick.py run it with --check",
     "python3 tests/limits.py": "quick.py and the gate run it",
     "python3 tests/using_runs.py": "quick.py and the gate run it",
@@ -106,6 +107,9 @@ class Document:
         for path in {it[1] for it in NAMED.finditer(self.prose)}:
             if not STOOD_FOR.search(path) and not is_there(path):
                 self.says(f"there is no {path}")
+        for path in re.findall(r"\]\((?!\w+:)([^)#\s]+)[^)]*\)", self.prose):
+            if not os.path.exists(f"{ROOT}/{os.path.dirname(self.path)}/{path}"):
+                self.says(f"a link leads to {path}, which is not there")
 
     def check_code(self):
         for kind, block, at in self.blocks:

@@ -1,4 +1,4 @@
-"""What a query asks for, by docs/BIRCH.md: the language is that of tests/parser_model.py, the words are those of
+"""What a query asks for, by docs/SEARCH.md: the language is that of tests/parser_model.py, the words are those of
 word_model, and a tree of tests/model.py has the meaning."""
 
 import model

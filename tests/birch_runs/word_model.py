@@ -1,4 +1,4 @@
-"""Words by the rule of docs/BIRCH.md, for texts of scripts whose words are runs of letters, as Latin, Greek and Cyrillic
+"""Words by the rule of docs/SEARCH.md, for texts of scripts whose words are runs of letters, as Latin, Greek and Cyrillic
 ones are. It knows nothing of the program."""
 
 import unicodedata
