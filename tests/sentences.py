@@ -4,7 +4,8 @@
     python3 tests/sentences.py
 
 A sentence has at most MOST words. Code blocks, tables and headings are left out, and a piece of code counts as one
-word. No sentence tells history: what was once so, or when it changed. The changelog and git have that.
+word. No sentence tells history: what was once so, or when it changed. The changelog and git have that. All pages of
+docs/ together have at most MOST_WORDS words, tables and all, but for those of figures that a command prints.
 """
 
 import os
@@ -12,7 +13,9 @@ import re
 import sys
 
 ROOT = os.path.realpath(os.path.join(os.path.dirname(os.path.abspath(__file__)), ".."))
-MOST = 30
+MOST, MOST_WORDS = 30, 20_000
+# its tables are what commands print
+FIGURES = "docs/COSTS.md"
 MONTH = "January|February|March|April|May|June|July|August|September|October|November|December"
 # words of history, and dates
 HISTORY = re.compile(
@@ -26,7 +29,8 @@ END = re.compile(r"(?<=[^.][.!?])[)\"]?\s+")
 
 
 def pages():
-    return ["README.md", "CONTRIBUTING.md", *sorted(f"docs/{it}" for it in os.listdir(f"{ROOT}/docs") if it.endswith(".md"))]
+    docs = sorted(f"docs/{it}" for it in os.listdir(f"{ROOT}/docs") if it.endswith(".md"))
+    return ["README.md", "CONTRIBUTING.md", *docs]
 
 
 def paragraphs(text):
@@ -65,14 +69,18 @@ def faults_of(text):
 
 
 def main():
-    told, count = 0, 0
+    told, words = 0, 0
     for page in pages():
         with open(f"{ROOT}/{page}", encoding="utf-8") as it:
-            faults = [*faults_of(it.read())]
-        for number, fault in faults:
+            text = it.read()
+        words += len(text.split()) if page.startswith("docs/") and page != FIGURES else 0
+        for number, fault in faults_of(text):
             print(f"{page}:{number}: {fault}")
-        told, count = told + len(faults), count + 1
-    print(f"sentences: {told} NOT AS WANTED" if told else f"sentences: {count} pages as wanted")
+            told += 1
+    if words > MOST_WORDS:
+        print(f"docs/ has {words:,} words, where {MOST_WORDS:,} are the most")
+        told += 1
+    print(f"sentences: {told} NOT AS WANTED" if told else f"sentences: {len(pages())} pages as wanted")
     return 1 if told else 0
 
 
