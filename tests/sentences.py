@@ -5,7 +5,8 @@
 
 A sentence has at most MOST words. Code blocks, tables and headings are left out, and a piece of code counts as one
 word. No sentence tells history: what was once so, or when it changed. The changelog and git have that. All pages of
-docs/ together have at most MOST_WORDS words, tables and all, but for those of figures that a command prints.
+docs/ together have at most MOST_WORDS words, tables and all, but for those of figures that a command prints. These
+stand in tables alone, below a line that has the command and what it was run on.
 """
 
 import os
@@ -14,8 +15,8 @@ import sys
 
 ROOT = os.path.realpath(os.path.join(os.path.dirname(os.path.abspath(__file__)), ".."))
 MOST, MOST_WORDS = 30, 20_000
-# its tables are what commands print
-FIGURES = "docs/COSTS.md"
+# its tables are what commands print, and what a line begins with that has a command
+FIGURES, COMMAND = "docs/COSTS.md", "`python3 "
 MONTH = "January|February|March|April|May|June|July|August|September|October|November|December"
 # words of history, and dates
 HISTORY = re.compile(
@@ -39,7 +40,7 @@ def paragraphs(text):
     for number, line in enumerate(text.split("\n"), 1):
         fence = line.strip().startswith("```")
         is_code = is_code != fence
-        if fence or is_code or not line.strip() or line.lstrip().startswith(("|", "#", "<", "![", "    ")):
+        if fence or is_code or not line.strip() or line.startswith(("|", "#", "<", "![", "    ")):
             found.append((number, ""))
         elif ITEM.match(line):
             found.append((number, ITEM.sub("", line, count=1)))
@@ -68,13 +69,22 @@ def faults_of(text):
                 yield number, f"tells history, by `{word[0]}`: {sentence[:70]} .."
 
 
+def figures_in(text):
+    """The sentences of the page of figures that have a number."""
+    for number, paragraph in paragraphs(text):
+        if not paragraph.startswith(COMMAND):
+            for sentence in END.split(plain(paragraph)):
+                if re.search(r"\d", sentence):
+                    yield number, f"a figure in a sentence: {sentence[:70]} .."
+
+
 def main():
     told, words = 0, 0
     for page in pages():
         with open(f"{ROOT}/{page}", encoding="utf-8") as it:
             text = it.read()
         words += len(text.split()) if page.startswith("docs/") and page != FIGURES else 0
-        for number, fault in faults_of(text):
+        for number, fault in [*faults_of(text), *(figures_in(text) if page == FIGURES else [])]:
             print(f"{page}:{number}: {fault}")
             told += 1
     if words > MOST_WORDS:
