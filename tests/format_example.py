@@ -15,11 +15,11 @@ import tempfile
 
 sys.dont_write_bytecode = True
 
-from index_files_model import Told, deletions_bytes, manifest_bytes, places_bytes
-from segment_model import segment_bytes
+from model.index_files import Told, deletions_bytes, manifest_bytes, places_bytes
+from model.segment_files import segment_bytes
 
 ROOT = os.path.realpath(os.path.join(os.path.dirname(os.path.abspath(__file__)), ".."))
-PAGE, CASES = "docs/FORMAT.md", "cases/qm_store"
+PAGE, CASES = "docs/FORMAT.md", "tests/cases/qm_store"
 KEY, FIELDS = 7, ["positions+lengths", "freqs"]
 ROWS = [(0, b"a", [0], [[0, 2]]), (0, b"b", [0, 1], [[1], [0]]), (1, b"x", [0], [1])]
 DOCUMENTS, DELETED = 5, [1, 4]

@@ -1,5 +1,6 @@
 #!/usr/bin/env python3
-"""Whether the pages that are written by hand can be read at once: README.md, CONTRIBUTING.md and docs/.
+"""Whether the pages that are written by hand can be read at once: README.md, CONTRIBUTING.md, docs/
+and tests/cases/.
 
     python3 tests/sentences.py
 
@@ -30,8 +31,8 @@ END = re.compile(r"(?<=[^.][.!?])[)\"]?\s+")
 
 
 def pages():
-    docs = sorted(f"docs/{it}" for it in os.listdir(f"{ROOT}/docs") if it.endswith(".md"))
-    return ["README.md", "CONTRIBUTING.md", *docs]
+    found = [f"{at}/{it}" for at in ("docs", "tests/cases") for it in os.listdir(f"{ROOT}/{at}") if it.endswith(".md")]
+    return ["README.md", "CONTRIBUTING.md", *sorted(found)]
 
 
 def paragraphs(text):

@@ -1,7 +1,7 @@
 #!/usr/bin/env python3
 """Measures the search command `birch`, and beside it what a person would use instead.
 
-    python3 examples/measure_birch.py [PROGRAM] [MEGABYTES]
+    python3 bench/measure_birch.py [PROGRAM] [MEGABYTES]
 
 Writes text of so many megabytes (100) by a seed: 200,000 words, the second half as frequent as the first and so on,
 in paragraphs of some 50. Indexes it, and asks 1,000 queries of one to four words, and prints a table. Then SQLite's FTS5 (Python's own

@@ -1,7 +1,7 @@
 #!/usr/bin/env python3
 """Measures how fast the program takes documents, and how many bytes a posting takes.
 
-    python3 examples/measure_segment.py [PROGRAM]
+    python3 bench/measure_segment.py [PROGRAM]
 
 It writes 100,000 documents of 50 words out of 20,000 to the program, ends the segment, and asks the
 program how many bytes it holds then. A posting is a word and a document that holds it. The bytes
@@ -18,7 +18,7 @@ import time
 
 HERE = os.path.dirname(os.path.abspath(__file__))
 PROGRAM = os.path.join(HERE, "..", "crates", "qm_search", "out", "qm_search")
-COUNTER = os.path.join(HERE, "..", "tests", "live_memory.c")
+COUNTER = os.path.join(HERE, "..", "tests", "native", "live_memory.c")
 DOCUMENTS, WORDS, VOCABULARY = 100_000, 50, 20_000
 
 

@@ -1,7 +1,7 @@
 #!/usr/bin/env python3
 """Counts what MustNot clauses cost: the instructions of a query with 500, 1,000 and 2,000 of them.
 
-    python3 examples/measure_exclusions.py [PROGRAM]
+    python3 bench/measure_exclusions.py [PROGRAM]
 
 The program `qm_search`, or the one that is named, is handed 10,000 documents, each of which holds `a`, `always`
 and one of 4,000 words, and the query for those with `a` and without so many of the words; then the same query

@@ -1,7 +1,7 @@
 #!/usr/bin/env python3
 """Measures what passing over blocks saves: the ten best documents by a pruned run, beside the plain loop.
 
-    python3 examples/measure_pruning.py [--documents N] [--searches N]
+    python3 bench/measure_pruning.py [--documents N] [--searches N]
 
 It builds the program of measure_pruning/main.txt beside the crates of this repository, with no proof, and lets
 it find the ten best of N documents (100,000) by one, two and five frequent words, with the documents in the
