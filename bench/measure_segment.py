@@ -1,5 +1,5 @@
 #!/usr/bin/env python3
-"""Measures how fast the program takes documents, and how many bytes a posting takes.
+"""Measures how many bytes a posting takes.
 
     python3 bench/measure_segment.py [PROGRAM]
 
@@ -40,13 +40,6 @@ def live_bytes(program):
     return int(program.stderr.readline())
 
 
-def seconds_of(program):
-    """The seconds of a processor that it took so far, by what Linux tells of it."""
-    with open(f"/proc/{program.pid}/stat", encoding="utf-8") as it:
-        ticks = it.read().rpartition(")")[2].split()[11:13]
-    return sum(map(int, ticks)) / os.sysconf("SC_CLK_TCK")
-
-
 def main():
     chance = random.Random(1)
     lines, postings = [], 0
@@ -57,19 +50,17 @@ def main():
     script = "".join(lines).encode()
     with tempfile.TemporaryDirectory() as room, start(room) as program:
         empty = live_bytes(program)
-        begun = seconds_of(program)
         program.stdin.write(script)
         # more empty answers than the program's buffer holds, so that the first are seen
         program.stdin.write(b"segment\n" + 20_000 * b"docs none\n")
         program.stdin.flush()
         program.stdout.read(8192)
-        seconds = seconds_of(program) - begun
         held = live_bytes(program) - empty
         program.stdout.close()
         program.stdin.close()
         program.kill()
-    print("| Documents a second of a processor | Bytes a posting | Postings |\n|---|---|---|")
-    print(f"| {DOCUMENTS / seconds:,.0f} | {held / postings:.2f} | {postings:,} |")
+    print("| Postings | Bytes a posting |\n|---|---|")
+    print(f"| {postings:,} | {held / postings:.2f} |")
 
 
 if __name__ == "__main__":
