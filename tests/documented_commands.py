@@ -32,6 +32,7 @@ NOT_RUN = {
     "python3 tests/documented_commands.py": "it is this",
     "python3 tests/definitions.py": "it writes; the gate and quick.py run it with --check",
     "python3 tests/growth.py": "quick.py and the gate run it",
+    "python3 tests/sentences.py": "quick.py and the gate run it",
     "python3 tests/layers.py": "it writes; the gate and quick.py run it with --check",
     "python3 tests/limits.py": "quick.py and the gate run it",
     "python3 tests/using_runs.py": "quick.py and the gate run it",
