@@ -143,9 +143,13 @@ def read(path):
         return it.read()
 
 
+def lines_of(crate, name):
+    return read(f"crates/{crate}/specs/{name}.antt").split("\n")
+
+
 def words_of(crate, name):
-    """The words of one file, each behind the title of its section where one begins, and whether it is a definition."""
-    lines = read(f"crates/{crate}/specs/{name}.antt").split("\n")
+    """The words of one file, and whether each is a definition; and between them the titles of its sections."""
+    lines = lines_of(crate, name)
     for at, line in enumerate(lines):
         if is_section(line):
             yield line.strip("- "), None, False
@@ -167,7 +171,7 @@ def file_of(crate, name):
             bare.append(code(word.name))
     while rows and rows[-1].startswith("| | *"):
         rows.pop()
-    text = f"### {name}\n\n{head_of(read(f'crates/{crate}/specs/{name}.antt').split(chr(10)))}\n"
+    text = f"### {name}\n\n{head_of(lines_of(crate, name))}\n"
     if rows:
         text += "\n| Word | What it means |\n|---|---|\n" + "\n".join(rows) + "\n"
     if bare:
@@ -208,7 +212,7 @@ def faults_of_specs(found):
         for name in sorted(there - {"Lib"} - {*files_of(crate)}):
             yield f"crates/{crate}/specs/{name}.antt is not in Lib.antt"
         for name in files_of(crate):
-            if not head_of(read(f"crates/{crate}/specs/{name}.antt").split("\n")):
+            if not head_of(lines_of(crate, name)):
                 yield f"crates/{crate}/specs/{name}.antt begins with no comment"
     for crate, name, word in found:
         if not word.meaning():
