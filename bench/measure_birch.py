@@ -4,9 +4,9 @@
     python3 bench/measure_birch.py [PROGRAM] [MEGABYTES]
 
 Writes text of so many megabytes (100) by a seed: 200,000 words, the second half as frequent as the first and so on,
-in paragraphs of some 50. Indexes it, and asks 1,000 queries of one to four words, and prints a table. Then SQLite's FTS5 (Python's own
-`sqlite3`, in memory) takes in the same paragraphs and answers the same queries, and `grep -rlw`, ripgrep and
-Xapian's `omindex` and `quest` look for a word where the machine has them. Times are of the processor, since that is
+in paragraphs of some 50. Indexes it, and asks 1,000 queries of one to four words, and prints a table. Then SQLite's
+FTS5 (Python's own `sqlite3`, in memory) takes in the same paragraphs and answers the same queries, and `grep -rlw`,
+ripgrep and Xapian's `omindex` and `quest` look for a word where the machine has them. Times are of the processor, since that is
 what other programs on the machine change least. The program is the one that `rt run` leaves in crates/birch/out.
 """
 
@@ -92,7 +92,8 @@ def row(*cells):
 
 def told_times(times):
     times = sorted(times)
-    return f"median {median(times):.2f} ms, 99 in 100 below {times[len(times) * 99 // 100]:.2f} ms, slowest {times[-1]:.2f} ms"
+    most = times[len(times) * 99 // 100]
+    return f"median {median(times):.2f} ms, 99 in 100 below {most:.2f} ms, slowest {times[-1]:.2f} ms"
 
 
 def measure_birch(program, folder, asked, megabytes):
@@ -104,7 +105,8 @@ def measure_birch(program, folder, asked, megabytes):
         text, told, _, room = run(words, folder)
     took = int(re.search(r"in (\d+) ms", told)[1]) / 1000
     times = [int(it) / 1000 for it in re.findall(r"in (\d+) us", told)]
-    row("birch", f"{took:.1f} s, {megabytes / took:.1f} MB a second", f"{room:.0f} MB of memory at most", told_times(times))
+    reads = f"{took:.1f} s, {megabytes / took:.1f} MB a second"
+    row("birch", reads, f"{room:.0f} MB of memory at most", told_times(times))
     found, these = [], []
     for line in text.splitlines():
         if line.startswith('{"query"'):

@@ -67,7 +67,8 @@ def search(program, documents, order, words, way, times):
 def main(words):
     documents, times = int(option(words, "--documents", 100_000)), int(option(words, "--searches", 200))
     is_well = True
-    heads = [f"Of {documents:,} documents", "Words", "Postings", "Scored", *(["Time, of the plain loop's"] if times else [])]
+    heads = [f"Of {documents:,} documents", "Words", "Postings", "Scored"]
+    heads += ["Time, of the plain loop's"] if times else []
     print(f"| {' | '.join(heads)} |\n{'|---' * len(heads)}|")
     with tempfile.TemporaryDirectory() as room:
         program = build(room)

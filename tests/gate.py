@@ -15,8 +15,8 @@ each other, tests/program_runs.py and tests/birch_runs.py run the programs `qm_s
 tests/library_runs.py calls the library from C, Rust and Python; at last what docs/ has of specs/, of crates.txt and of
 limits is compared with these, its sentences are looked through, a repository of one's own takes a crate, the API pages
 are made and looked through, the commands that the documents show are run, and tests/installed_runs.py installs `birch`.
-Then two tables say how many minutes each crate and each stage took, for docs/TESTS.md. The last line counts what passed; the exit status is 1 where
-anything did not. Called by .ci/run.
+Then two tables say how many minutes each crate and each stage took, for docs/TESTS.md. The last line counts what
+passed; the exit status is 1 where anything did not. Called by .ci/run.
 """
 
 import os

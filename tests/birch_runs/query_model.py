@@ -1,5 +1,5 @@
-"""What a query asks for, by docs/SEARCH.md: the language is that of tests/model/typed_queries.py, the words are those of
-word_model, and a tree of tests/model has the meaning."""
+"""What a query asks for, by docs/SEARCH.md: the language is that of tests/model/typed_queries.py, the words are those
+of word_model, and a tree of tests/model has the meaning."""
 
 import model
 from model.typed_queries import Cutter, Refused, parse
