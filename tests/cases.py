@@ -10,6 +10,12 @@ flat.case, of very many parts and none of them deep, are played with a stack of 
 an allocator that refuses the requests for memory that a case names (tests/refuse_memory.c). The programs are
 those that `rt ci` has left in crates/PROGRAM/out, or those in a FOLDER. Prints the rows that are wrong, and last
 how many rows were played; the exit status is 1 where one is wrong, or where a program plays none.
+
+What no contract says stands in rows, as data, and not in `#[test]` functions: a test is proved as any function is,
+which costs more than what it tests. A row costs nothing, can be generated, and is played under memory that is refused
+at any request. What a row can't say is said by a caller whose contract is proved (crates/example_callers). The cases'
+own cursors keep the laws of their traits in awkward manners: least bounds, nonsensical hints, document 0 where they
+aren't placed.
 """
 
 import os
@@ -62,12 +68,12 @@ def files_of(crates, are_flat=False):
     others."""
     text = []
     for crate in crates:
-        folder = f"{ROOT}/cases/{crate}"
+        folder = f"{ROOT}/tests/cases/{crate}"
         for name in sorted(os.listdir(folder)):
             if (name == FLAT) != are_flat:
                 continue
             with open(f"{folder}/{name}", encoding="utf-8") as it:
-                text.append(f"file cases/{crate}/{name}\n{it.read()}\n")
+                text.append(f"file tests/cases/{crate}/{name}\n{it.read()}\n")
     return "".join(text)
 
 
@@ -109,7 +115,7 @@ def runs_of(program, seed, rows):
     flat."""
     parts, rows = os.cpu_count() or 1, rows or ROWS[program]
     texts = [(lambda: files_of(PROGRAMS[program]), False)]
-    if any(os.path.exists(f"{ROOT}/cases/{crate}/{FLAT}") for crate in PROGRAMS[program]):
+    if any(os.path.exists(f"{ROOT}/tests/cases/{crate}/{FLAT}") for crate in PROGRAMS[program]):
         texts.insert(0, (lambda: files_of(PROGRAMS[program], True), True))
     for part in range(parts):
         texts.append((lambda part=part: generated(program, seed * parts + part, rows // parts, parts), False))
@@ -139,7 +145,7 @@ def option(words, name, default):
 
 
 def main(words):
-    if subprocess.run([sys.executable, f"{ROOT}/tests/model.py"], check=False).returncode != 0:
+    if subprocess.run([sys.executable, "-B", "-m", "model"], cwd=f"{ROOT}/tests", check=False).returncode != 0:
         return 1
     seed, rows = int(option(words, "--seed", 1)), int(option(words, "--rows", 0))
     folder = option(words, "--built", None)

@@ -1,12 +1,14 @@
 #!/usr/bin/env python3
-"""Writes docs/DEFINITIONS.md: the words of the contracts, by the comments above them in crates/*/specs.
+"""Writes out/definitions.md: the words of the contracts, by the comments above them in crates/*/specs.
 
     python3 tests/definitions.py [--check]
 
 Crates stand in the order of crates.txt, files in that of specs/Lib.antt, words in that of their file. Of a word
-without a comment of its own its equations are shown, where they are short, and else its type. On top stands
-docs/FIRST_DEFINITIONS.md, which is written by hand. With --check nothing is written: the exit status is 1 where
-the file is not what would be written.
+without a comment of its own its equations are shown, where they are short, and else its type.
+
+With --check nothing is written. The exit status is 1 where a file of specs/ is in no Lib.antt or begins with no
+comment, where a definition says nothing, and where docs/LAYERS.md does not say what the sources do. Each word of its
+dozen has to be defined, and is handed as many things as there; each link has to lead to a file that declares the word.
 """
 
 import os
@@ -14,12 +16,15 @@ import re
 import sys
 
 ROOT = os.path.realpath(os.path.join(os.path.dirname(os.path.abspath(__file__)), ".."))
-MADE, FIRST = "docs/DEFINITIONS.md", "docs/FIRST_DEFINITIONS.md"
+MADE, PAGE, DOZEN = "out/definitions.md", "docs/LAYERS.md", "A dozen words to read first"
+# the members of a cursor are words of its trait
+TRAIT = "crates/qm_docset/src/docset.rt"
 HEAD = """# The words of the contracts
 
-Made by `python3 tests/definitions.py` of `docs/FIRST_DEFINITIONS.md` and of the comments in `crates/*/specs`: change these, and not this file.
+Made by `python3 tests/definitions.py` of the comments in `crates/*/specs`. `docs/LAYERS.md` has a dozen to read first.
 """
-HOW = """A word that begins with `Is` or `Are`, or is a verb, is a fact; every other one is a value. Files whose names end in `Facts` have what is proved of the words of others, for callers.
+HOW = """A word that begins with `Is` or `Are`, or is a verb, is a fact; every other one is a value. Files whose names end
+in `Facts` have what is proved of the words of others, for callers.
 """
 # a line that declares a public name, and what kind of thing that is
 DECLARED = re.compile(r" *(?:(abbrev|unfoldable) )?pub (?:(record|data) )?(?!mod\b|use\b|ruleset\b|infix|syntax\b)(\S+)")
@@ -138,31 +143,40 @@ def read(path):
         return it.read()
 
 
-def file_of(crate, name):
-    """What is written of one file, and how many definitions it has."""
-    lines = read(f"crates/{crate}/specs/{name}.antt").split("\n")
-    rows, bare, count = [], [], 0
+def lines_of(crate, name):
+    return read(f"crates/{crate}/specs/{name}.antt").split("\n")
+
+
+def words_of(crate, name):
+    """The words of one file, and whether each is a definition; and between them the titles of its sections."""
+    lines = lines_of(crate, name)
     for at, line in enumerate(lines):
         if is_section(line):
-            rows.append(f"| | *{line.strip('- ')}* |")
+            yield line.strip("- "), None, False
         match = DECLARED.match(line)
         defines = is_definition(lines, at, match) if match else None
-        if defines is None:
-            continue
-        word = Word(lines, at, match, defines)
-        count += defines
-        if defines or word.comment:
+        if defines is not None:
+            yield None, Word(lines, at, match, defines), defines
+
+
+def file_of(crate, name):
+    """What is written of one file."""
+    rows, bare = [], []
+    for title, word, defines in words_of(crate, name):
+        if title is not None:
+            rows.append(f"| | *{title}* |")
+        elif defines or word.comment:
             rows.append(f"| {code(word.handed)} | {word.meaning()} |")
         else:
             bare.append(code(word.name))
     while rows and rows[-1].startswith("| | *"):
         rows.pop()
-    text = f"### {name}\n\n{head_of(lines)}\n"
+    text = f"### {name}\n\n{head_of(lines_of(crate, name))}\n"
     if rows:
         text += "\n| Word | What it means |\n|---|---|\n" + "\n".join(rows) + "\n"
     if bare:
         text += f"\nFacts besides: {', '.join(bare)}.\n"
-    return text, count
+    return text
 
 
 def crates():
@@ -172,27 +186,81 @@ def crates():
     return [name for name in names if os.path.isfile(f"{ROOT}/crates/{name}/specs/Lib.antt")]
 
 
+def files_of(crate):
+    """The files of a crate's specs/, in the order of its Lib.antt."""
+    return re.findall(r"^pub mod (\w+)", read(f"crates/{crate}/specs/Lib.antt"), re.M)
+
+
 def written():
-    """The whole file, and how many definitions it has."""
-    first = read(FIRST).partition("\n")[2]
-    text, count = HEAD + first + "\n" + HOW, 0
+    """The whole file."""
+    parts = [HEAD, HOW]
     for crate in crates():
-        text += f"\n## {crate}\n"
-        for name in re.findall(r"^pub mod (\w+)", read(f"crates/{crate}/specs/Lib.antt"), re.M):
-            made, found = file_of(crate, name)
-            text, count = f"{text}\n{made}", count + found
-    return text, count
+        parts += [f"## {crate}\n", *(file_of(crate, name) for name in files_of(crate))]
+    return "\n".join(parts)
+
+
+def definitions():
+    """The definitions of all crates, each with its file."""
+    files = [(crate, name) for crate in crates() for name in files_of(crate)]
+    return [(crate, name, word) for crate, name in files for _, word, defines in words_of(crate, name) if defines]
+
+
+def faults_of_specs(found):
+    """What specs/ lacks: a file that no Lib.antt has, the comment that a file begins with, what a definition says."""
+    for crate in crates():
+        there = {it.removesuffix(".antt") for it in os.listdir(f"{ROOT}/crates/{crate}/specs") if it.endswith(".antt")}
+        for name in sorted(there - {"Lib"} - {*files_of(crate)}):
+            yield f"crates/{crate}/specs/{name}.antt is not in Lib.antt"
+        for name in files_of(crate):
+            if not head_of(lines_of(crate, name)):
+                yield f"crates/{crate}/specs/{name}.antt begins with no comment"
+    for crate, name, word in found:
+        if not word.meaning():
+            yield f"{word.name} of crates/{crate}/specs/{name}.antt says nothing"
+
+
+def faults_of_page(found):
+    """What the page says otherwise than the sources, of each word and link."""
+    page, words = read(PAGE), {}
+    for _, _, word in found:
+        words.setdefault(word.name, set()).add(len(word.handed.split()))
+    members = {*re.findall(r"^    ghost (\w+): ", read(TRAIT), re.M)}
+    dozen = page.partition(f"\n## {DOZEN}\n")[2].partition("\n## ")[0]
+    rows = re.findall(r"^\| `([^`]+)` \|", dozen, re.M)
+    for said in rows:
+        name, count = said.split()[0], len(said.split())
+        # a word that is defined by several equations is handed what its type says
+        if name not in members and not words.get(name, set()) & {count, 1}:
+            yield f"{PAGE}: `{said}` is not defined so in specs/"
+    links = re.findall(r"\[`(\w+)`\]\(\.\./([^)]+)\)", page)
+    for name, path in links:
+        if not os.path.isfile(f"{ROOT}/{path}") or not re.search(declared_as(name, path), read(path), re.M):
+            yield f"{PAGE}: {path} does not declare `{name}`"
+    if not rows or not links:
+        yield f"{PAGE}: has no words or no links"
+
+
+def declared_as(name, path):
+    """How a file declares a name."""
+    kinds = r"(?:record |data )?" if path.endswith(".antt") else r"(?:fn|trait|struct|enum) "
+    return rf"^ *(?:unfoldable |abbrev )?(?:pub )?(?:extern \S+ )?{kinds}{name}\b"
+
+
+def check():
+    found = definitions()
+    faults = [*faults_of_specs(found), *faults_of_page(found)]
+    print("\n".join(faults), end="\n" if faults else "")
+    print("definitions: NOT AS WANTED" if faults else f"definitions: {len(found)} as specs/ says")
+    return 1 if faults else 0
 
 
 def main(words):
-    text, count = written()
-    if words != ["--check"]:
-        with open(f"{ROOT}/{MADE}", "w", encoding="utf-8") as it:
-            it.write(text)
-    elif read(MADE) != text:
-        print(f"{MADE} is not what specs/ says: run python3 tests/definitions.py")
-        return 1
-    print(f"definitions: {count} as specs/ says")
+    if words == ["--check"]:
+        return check()
+    os.makedirs(f"{ROOT}/out", exist_ok=True)
+    with open(f"{ROOT}/{MADE}", "w", encoding="utf-8") as it:
+        it.write(written())
+    print(f"definitions: {MADE} is written")
     return 0
 
 

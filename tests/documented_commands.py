@@ -1,6 +1,6 @@
 #!/usr/bin/env python3
-"""Whether what the documents show is so: runs each command of README.md, CONTRIBUTING.md and docs/ as it stands
-there, at the top of the repository.
+"""Whether what the documents show is so: runs each command of README.md, CONTRIBUTING.md, docs/ and
+tests/cases/ as it stands there, at the top of the repository.
 
     python3 tests/documented_commands.py
 
@@ -11,7 +11,7 @@ there, at the top of the repository.
 - A fenced block `rust` stands, line by line, in the file that is named last before it.
 - A table of a script, `| Line | Prints | |`, has the lines of the file that is named last before it, and what the
   program prints for them.
-- A file that is named is there.
+- A file that is named, or that a link leads to, is there.
 
 Commands of one document are run one after another, and documents beside each other; one that stands twice is run
 once. Each has to end with status 0.
@@ -31,15 +31,16 @@ NOT_RUN = {
     "python3 tests/gate.py": "it runs this",
     "python3 tests/documented_commands.py": "it is this",
     "python3 tests/definitions.py": "it writes; the gate and quick.py run it with --check",
+    "python3 tests/growth.py": "quick.py and the gate run it",
+    "python3 tests/sentences.py": "quick.py and the gate run it",
     "python3 tests/layers.py": "it writes; the gate and quick.py run it with --check",
     "python3 tests/limits.py": "quick.py and the gate run it",
     "python3 tests/using_runs.py": "quick.py and the gate run it",
     "python3 tests/api.py": "it needs python3-markdown; tests/api_runs.py makes the pages",
     "python3 tests/cases.py": "quick.py and the gate run it; with other seeds it takes as long as one likes",
     "python3 tests/wrong_bodies.py": "the gate runs it; it takes proofs",
-    "python3 examples/measure_": "a measurement: it takes minutes, some of them a proof or valgrind",
-    "python3 tests/store_costs.py": "a measurement: it takes minutes",
-    "python3 examples/many_documents.py": "a measurement, by the proved program",
+    "python3 bench/measure_": "a measurement: it takes minutes, some of them a proof or valgrind",
+    "python3 bench/store_costs.py": "a measurement: it takes minutes",
     "(cd crates/": "it proves, or compiles, for minutes; the gate proves and runs all programs",
     "./birch --proved": "it proves, for an hour; tests/installed_runs.py runs it over a stand-in",
     "make install": "tests/installed_runs.py runs it, into a folder of its own",
@@ -48,7 +49,7 @@ NOT_RUN = {
     "python -m birchagain serve": "it ends when it is interrupted; tests/library_runs.py runs it",
     "cd crates/": "it proves, or compiles, for minutes; the gate proves and runs all programs",
 }
-NAMED = re.compile(r"`((?:bindings|crates|tests|docs|examples|cases|packaging)/[\w./+-]+|[A-Z]+\.md|crates\.txt|\.ci/run)`")
+NAMED = re.compile(r"`((?:bindings|crates|tests|docs|examples|bench|packaging)/[\w./+-]+|[A-Z]+\.md|crates\.txt|\.ci/run)`")
 COMMAND = re.compile(r"`((?:(?:python3|cd|out/|\./birch)[ \w]|make \w)[^`]*)`")
 STOOD_FOR = re.compile(r"(?<![A-Z])(CRATE|FILE|FOLDER|NAME|PATH|PROGRAM|TOPIC)(?![A-Z])")
 PROGRAM = "out/qm_search"
@@ -57,7 +58,8 @@ RUNS, LOCK = {}, threading.Lock()
 
 
 def documents():
-    return ["README.md", "CONTRIBUTING.md", *sorted(f"docs/{it}" for it in os.listdir(f"{ROOT}/docs") if it.endswith(".md"))]
+    pages = [f"{at}/{it}" for at in ("docs", "tests/cases") for it in os.listdir(f"{ROOT}/{at}") if it.endswith(".md")]
+    return ["README.md", "CONTRIBUTING.md", *sorted(pages)]
 
 
 def read(path):
@@ -107,6 +109,9 @@ class Document:
         for path in {it[1] for it in NAMED.finditer(self.prose)}:
             if not STOOD_FOR.search(path) and not is_there(path):
                 self.says(f"there is no {path}")
+        for path in re.findall(r"\]\((?!\w+:)([^)#\s]+)[^)]*\)", self.prose):
+            if not os.path.exists(f"{ROOT}/{os.path.dirname(self.path)}/{path}"):
+                self.says(f"a link leads to {path}, which is not there")
 
     def check_code(self):
         for kind, block, at in self.blocks:

@@ -15,11 +15,11 @@ import tempfile
 
 sys.dont_write_bytecode = True
 
-from index_files_model import Told, deletions_bytes, manifest_bytes, places_bytes
-from segment_model import segment_bytes
+from model.index_files import Told, deletions_bytes, manifest_bytes, places_bytes
+from model.segment_files import segment_bytes
 
 ROOT = os.path.realpath(os.path.join(os.path.dirname(os.path.abspath(__file__)), ".."))
-PAGE, CASES = "docs/FORMAT.md", "cases/qm_store"
+PAGE, CASES = "docs/FORMAT.md", "tests/cases/qm_store"
 KEY, FIELDS = 7, ["positions+lengths", "freqs"]
 ROWS = [(0, b"a", [0], [[0, 2]]), (0, b"b", [0, 1], [[1], [0]]), (1, b"x", [0], [1])]
 DOCUMENTS, DELETED = 5, [1, 4]
@@ -33,9 +33,12 @@ def read(path):
 
 
 def page_bytes(title):
-    """The bytes of the table under a title, each row once or as often as it says."""
+    """The bytes of the listing under a title, each line once or as often as it says. Behind the name of a part they
+    stand up to two spaces."""
     example = read(PAGE).partition(f"\n## {title}\n")[2].partition("\n## ")[0]
-    rows = re.findall(r"^\| [^|]*\| `([0-9a-f ]+)`(?: (\d+) times)? \|", example, re.MULTILINE)
+    listing = example.partition("```text\n")[2].partition("```")[0]
+    rows = re.findall(r"^.{18}((?:[0-9a-f]{2}| (?=[0-9a-f]{2}))+)(?: (\d+) times)?(?:  |$)", listing, re.MULTILINE)
+    assert len(rows) == listing.count("\n"), f"{PAGE}: a line of {title} is not understood"
     return b"".join(bytes.fromhex(found) * int(often or 1) for found, often in rows)
 
 

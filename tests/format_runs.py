@@ -17,10 +17,10 @@ sys.dont_write_bytecode = True
 from generators.index_files import COUNTS, manifest_of_chance, numbered, small_deletions, small_manifest, small_places
 from generators.stored import ascending
 from generators.stored_segments import segment_by_chance, small
-from index_files_model import deletions_bytes, manifest_bytes, places_bytes
+from model.index_files import deletions_bytes, manifest_bytes, places_bytes
 from read_index_files import deletions, manifest, places
 from read_stored import Segment
-from segment_model import segment_bytes
+from model.segment_files import segment_bytes
 
 SEGMENTS, OTHERS = 60, 60
 KINDS = ("not a stored segment", "a stored segment of another version")

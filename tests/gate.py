@@ -13,10 +13,10 @@ has rows of what counts as refused. Then tests/refused_calls.py looks whether ea
 refused memory, tests/cases.py plays the cases, tests/format_runs.py holds two plain readings of docs/FORMAT.md against
 each other, tests/program_runs.py and tests/birch_runs.py run the programs `qm_search` and `birch`, and
 tests/library_runs.py calls the library from C, Rust and Python; at last what docs/ has of specs/, of crates.txt and of
-limits is compared with these, a repository of one's own takes a crate, the API pages are made and looked through, the
-commands that the documents show are run, and tests/installed_runs.py installs `birch`. Then two tables say how many
-minutes each crate and each stage took, for docs/GATE.md. The last line counts what passed; the exit status is 1 where
-anything did not. Called by .ci/run.
+limits is compared with these, its sentences are looked through, a repository of one's own takes a crate, the API pages
+are made and looked through, the commands that the documents show are run, and tests/installed_runs.py installs `birch`.
+Then two tables say how many minutes each crate and each stage took, for docs/TESTS.md. The last line counts what
+passed; the exit status is 1 where anything did not. Called by .ci/run.
 """
 
 import os
@@ -52,6 +52,7 @@ COUNTED = {
     "crates drawn": r"layers: (\d+) crates as crates.txt says",
     "limits": r"limits: (\d+) as the sources say",
     "programs' assumptions": r"assumptions: (\d+) programs as crates.txt says",
+    "readable pages": r"sentences: (\d+) pages as wanted",
     "uses elsewhere": r"use elsewhere: (\d+) as wanted",
     "items of the API pages": r"api pages: (\d+) as wanted",
     "documented commands": r"documented commands: (\d+) as wanted",
@@ -71,6 +72,7 @@ PLAYED = {
     "crates drawn": ["layers.py", "--check"],
     "limits": ["limits.py"],
     "programs' assumptions": ["assumptions.py"],
+    "readable pages": ["sentences.py"],
     "uses elsewhere": ["using_runs.py"],
     "items of the API pages": ["api_runs.py"],
     "documented commands": ["documented_commands.py"],

@@ -163,7 +163,7 @@ def main():
         return 1
     forms, wrong, square = [it for it in FORMS if given.only in it.name], 0, 0
     if given.table:
-        print(f"by {way}\n| Form | n | at n | at 2n | at 4n | each beside the one before |")
+        print(f"by {way}\n| Form | n | at n | at 2n | at 4n | each beside the one before |\n|---|---|---|---|---|---|")
     # times are taken one behind the other
     with ThreadPoolExecutor(1 if way == "time" else given.jobs) as pool:
         all_found = pool.map(lambda form: costs(way, program, form, given.times), forms)

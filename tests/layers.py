@@ -5,7 +5,7 @@
 
 A crate stands above all that it uses; a line is left out where another way leads down to the same crate. What a
 box says is how the crate's own documentation begins. With --check nothing is written: the exit status is 1 where
-the file is not what would be drawn.
+the file is not what would be drawn, or where a table of docs/LAYERS.md has no row for a crate, or for one that isn't.
 """
 
 import os
@@ -15,7 +15,9 @@ import textwrap
 from xml.sax.saxutils import escape
 
 ROOT = os.path.realpath(os.path.join(os.path.dirname(os.path.abspath(__file__)), ".."))
-MADE = "docs/layers.svg"
+MADE, PAGE = "docs/layers.svg", "docs/LAYERS.md"
+# the parts of the page that have a table of all crates
+TABLES = ("What each crate is for", "How far each is proved")
 # by how its name begins, what a crate is, and its colour
 KINDS = [
     ("qm_", "the library, and the program of scripts", "#dbe9f6"),
@@ -187,6 +189,17 @@ def drawn():
     return "\n".join([*parts, *lines, *boxes, legend(foot), "</svg>"]) + "\n", len(boxes)
 
 
+def faults_of_page():
+    """What the tables of the page lack, and what they have beside the crates."""
+    for title in TABLES:
+        part = read(PAGE).partition(f"\n## {title}\n")[2].partition("\n## ")[0]
+        named = re.findall(r"\w+", " ".join(re.findall(r"^\| ([a-z_, 0-9]+) \|", part, re.M)))
+        for name in sorted({*named} ^ {*uses_of()}):
+            yield f"{PAGE}: {title}: {name} {'is no crate' if name in named else 'has no row'}"
+        for name in sorted({it for it in named if named.count(it) > 1}):
+            yield f"{PAGE}: {title}: {name} has two rows"
+
+
 def main(words):
     text, count = drawn()
     if words != ["--check"]:
@@ -194,6 +207,9 @@ def main(words):
             it.write(text)
     elif read(MADE) != text:
         print(f"{MADE} is not what crates.txt says: run python3 tests/layers.py")
+        return 1
+    if faults := [*faults_of_page()]:
+        print("\n".join([*faults, "layers: NOT AS crates.txt SAYS"]))
         return 1
     print(f"layers: {count} crates as crates.txt says")
     return 0

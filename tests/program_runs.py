@@ -5,10 +5,11 @@
     python3 tests/program_runs.py --show "right 1 17"
 
 Prints each difference, and then how many runs went as wanted, or how much did not. The exit status is 1
-where something did not, or where the program is missing. tests/faulty_io.c is built, and preloaded where
+where something did not, or where the program is missing. tests/native/faulty_io.c is built, and preloaded where
 reads, writes or requests for memory are to go badly. N scripts by chance, and ten times as many hostile lines, are
-compared with the plain model: 1,000 in the gate, and 100,000 by night. `--show` prints one of them by its name.
-Called by .ci/run after `rt ci`.
+compared with the plain model: 1,000 in the gate, and 100,000 by night. Runs are made outside of `rt ci`, since what the
+program shows, texts and statuses, can be seen from outside; numbers past 4294967295 can't, and are proved. `--show`
+prints one of them by its name. Called by .ci/run after `rt ci`.
 """
 
 import argparse

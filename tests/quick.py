@@ -61,6 +61,7 @@ def main(words):
             [f"{ROOT}/tests/layers.py", "--check"],
             [f"{ROOT}/tests/limits.py"],
             [f"{ROOT}/tests/assumptions.py"],
+            [f"{ROOT}/tests/sentences.py"],
             [f"{ROOT}/tests/using_runs.py"],
             [f"{ROOT}/tests/api_runs.py"],
             [f"{ROOT}/tests/documented_commands.py"],

@@ -173,9 +173,9 @@ def read_table():
 def all_rows():
     """The rows of all cases, by how requests are refused."""
     rows = {"each": [], "all": [], "none": []}
-    for crate in os.listdir(f"{ROOT}/cases"):
-        for name in sorted(os.listdir(f"{ROOT}/cases/{crate}")):
-            for block, row, how in rows_of(f"{ROOT}/cases/{crate}/{name}"):
+    for crate in next(os.walk(f"{ROOT}/tests/cases"))[1]:
+        for name in sorted(os.listdir(f"{ROOT}/tests/cases/{crate}")):
+            for block, row, how in rows_of(f"{ROOT}/tests/cases/{crate}/{name}"):
                 if how:
                     rows[how].append((crate, block, row))
     return rows

@@ -14,6 +14,10 @@ batch begins with the work that this one kept. Right behind `rt ci`, which has p
 without that, and the others begin with the work that the first one kept, two beside each other where there are
 processors and memory for them.
 
+A wrong body changes a value in the function nearest to callers, where there is a choice, and keeps the names, so that
+a clause refuses it and not a name that a proof lost. None but one lies in crates/CRATE/must-fail, where `rt ci` tries it
+anew whenever anything below changed, over one more proof of the whole crate: it names no function.
+
 An edit whose line says `refused by: the compiler, CODE` must not reach the prover: it is tried alone, and the
 check must end with that error.
 

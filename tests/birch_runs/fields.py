@@ -8,7 +8,7 @@ import random
 
 import model
 from generators.typed import by_grammar
-from parser_model import Refused
+from model.typed_queries import Refused
 
 from .formulas import norm
 from .query_model import Collection, Meaning

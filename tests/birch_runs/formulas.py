@@ -1,4 +1,4 @@
-"""What words weigh and documents score, by the formulas of docs/BIRCH.md, with as many digits as it takes."""
+"""What words weigh and documents score, by the formulas of docs/SEARCH.md, with as many digits as it takes."""
 
 from decimal import Decimal, getcontext
 from fractions import Fraction

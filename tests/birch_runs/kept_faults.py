@@ -18,7 +18,7 @@ TURNED = 100
 MANY_BYTES = 5000
 QUERY = 'fox "quick brown"~2 do* name:g1'
 ASKED = ["--json", "--repeats", "-k", "10000", QUERY, "some"]
-LIBRARY = os.path.join(os.path.dirname(os.path.abspath(__file__)), "..", "faulty_files.c")
+LIBRARY = os.path.join(os.path.dirname(os.path.abspath(__file__)), "..", "native", "faulty_files.c")
 # no run makes so many calls on the files of such a small index
 MANY = 300
 

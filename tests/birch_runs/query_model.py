@@ -1,8 +1,8 @@
-"""What a query asks for, by docs/BIRCH.md: the language is that of tests/parser_model.py, the words are those of
-word_model, and a tree of tests/model.py has the meaning."""
+"""What a query asks for, by docs/SEARCH.md: the language is that of tests/model/typed_queries.py, the words are those
+of word_model, and a tree of tests/model has the meaning."""
 
 import model
-from parser_model import Cutter, Refused, parse
+from model.typed_queries import Cutter, Refused, parse
 
 from .formulas import weight
 from .word_model import words

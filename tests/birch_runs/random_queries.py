@@ -1,5 +1,5 @@
 """Random queries over random files, each answer compared with what the plain models say: of words (word_model), of
-queries (query_model) and of what these find (tests/model.py)."""
+queries (query_model) and of what these find (tests/model)."""
 
 import json
 import os
@@ -7,7 +7,7 @@ import random
 
 import model
 from generators.typed import by_grammar, changed
-from parser_model import Refused
+from model.typed_queries import Refused
 
 from .formulas import norm
 from .query_model import Collection, Meaning

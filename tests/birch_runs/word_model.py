@@ -1,5 +1,5 @@
-"""Words by the rule of docs/BIRCH.md, for texts of scripts whose words are runs of letters, as Latin, Greek and Cyrillic
-ones are. It knows nothing of the program."""
+"""Words by the rule of docs/SEARCH.md, for texts of scripts whose words are runs of letters, as Latin, Greek and
+Cyrillic ones are. It knows nothing of the program."""
 
 import unicodedata
 

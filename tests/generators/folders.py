@@ -1,7 +1,7 @@
 """Cases of updates of an index in a folder, by chance: each call of the folder refused in turn. Cases of files that an
 index has kept beside files that are found."""
 
-from folder_model import MANIFEST, SETTLING, STAGED, Change, changed, is_clean, is_settled
+from model.folders import MANIFEST, SETTLING, STAGED, Change, changed, is_clean, is_settled
 from generators.spelled import row
 
 NAMES = ("a", "b", "c", "d", "e")

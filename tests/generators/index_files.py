@@ -2,7 +2,7 @@
 
 from generators.spelled import row
 from generators.stored import ascending, damaged, joined, spelled
-from index_files_model import (
+from model.index_files import (
     DELETIONS,
     KEPT,
     MANIFEST,
@@ -21,7 +21,7 @@ from index_files_model import (
     places_opened,
     sealed,
 )
-from segment_model import NoSegment
+from model.segment_files import NoSegment
 
 COUNTS = (0, 1, 2, 64, 65, 300)
 KEYS = (0, 1, 2**64 - 1)

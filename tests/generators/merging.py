@@ -1,7 +1,7 @@
 """Cases of segments that are merged, by chance, by a plain model of their documents."""
 
 from generators.spelled import row
-from merge_model import Segment
+from model.merging import Segment
 
 WORDS = ("a", "b", "ba", "c", "cc", "d")
 KEPT = ("positions", "positions", "freqs", "basic", "nothing")

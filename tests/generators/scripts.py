@@ -1,7 +1,7 @@
 """Runs of scripts by chance, in some manner of reading and writing, with what the model of the language answers."""
 
 from program_runs.chance_scripts import script
-from script_model import answers, lines_of, status
+from model.scripts import answers, lines_of, status
 
 # refusals of a form: where nothing is to be built behind it, such a line asks for no memory
 OF_FORMS = {b"refused 1", b"refused 2", b"refused 8"}

@@ -1,7 +1,7 @@
 """Cases of rows and terms as bytes, by chance: those that are written and read again, and bytes that were damaged."""
 
 from generators.spelled import row
-from store_model import begun_term, read_row, row_bytes, term_bytes
+from model.row_bytes import begun_term, read_row, row_bytes, term_bytes
 
 # below which number documents, frequencies and positions are
 BOUNDS = (4, 70, 300, 20000, 4294967295)

@@ -3,8 +3,8 @@ which bits were turned, parts were changed, or some were cut off."""
 
 from generators.spelled import row
 from generators.stored import ascending, damaged, joined, spelled
-from segment_model import NoSegment, Opened, Written, segment_bytes, write
-from store_model import row_bytes
+from model.segment_files import NoSegment, Opened, Written, segment_bytes, write
+from model.row_bytes import row_bytes
 
 KINDS = ("positions", "positions", "freqs", "basic", "none")
 COUNTS = (0, 0, 1, 2, 2, 3, 127, 128, 129, 257, 400)

@@ -1,7 +1,7 @@
 """Texts of queries by chance: of anything, of the language, and of the language with one letter changed."""
 
 from generators.spelled import row
-from parser_model import answer
+from model.typed_queries import answer
 
 ROWS = 10
 

@@ -8,7 +8,7 @@ import random as chances
 
 from generators import chance
 from model import GREATEST, LEAST, All, Boolean, Boost, Constant, DisjunctionMax, Nothing, Phrase, Prefix, Term
-from script_model import GREATEST_COUNT, GREATEST_NUMBER, answers, lines_of, status
+from model.scripts import GREATEST_COUNT, GREATEST_NUMBER, answers, lines_of, status
 
 from .report import in_parallel
 

@@ -3,7 +3,7 @@
 import errno
 import os
 
-from script_model import answers, text_of
+from model.scripts import answers, text_of
 
 from .program import Call, calls_of
 from .report import in_parallel

@@ -1,4 +1,4 @@
-"""Runs of the program, on scripts in memory, as tests/faulty_io.c makes them go."""
+"""Runs of the program, on scripts in memory, as tests/native/faulty_io.c makes them go."""
 
 import os
 import resource
@@ -10,7 +10,7 @@ LIMIT = 100
 
 
 # what is preloaded
-LIBRARY = os.path.join(os.path.dirname(os.path.abspath(__file__)), "..", "faulty_io.c")
+LIBRARY = os.path.join(os.path.dirname(os.path.abspath(__file__)), "..", "native", "faulty_io.c")
 
 
 def build_library(room):

@@ -1,7 +1,7 @@
 """Runs in which a request for memory is refused, each in turn: a query is refused for it, or the run ends, and no line
 shows another answer in place of these two."""
 
-from script_model import answers, lines_of, text_of
+from model.scripts import answers, lines_of, text_of
 
 from .cut_scripts import SCRIPTS
 from .program import calls_of

@@ -10,7 +10,7 @@ from birchagain import Index, NoDocumentError, QueryError, WordError
 sys.path.append(os.path.join(os.path.dirname(os.path.abspath(__file__)), "..", "..", "..", "tests"))
 
 import model  # noqa: E402
-import script_model  # noqa: E402
+import model.scripts as script_model  # noqa: E402
 
 SEEDS = 1000
 LETTERS = "ab\u00e9\u6f22\U0001f332\t\n\0"

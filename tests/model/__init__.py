@@ -2,10 +2,9 @@
 to positions. Nothing is known here of cursors, blocks, windows or postings, so that what is built of these can be
 compared with it. All numbers are whole.
 
-Run by itself it is tried against worked rows (`model_rows.py`), and its status is 1 where one differs.
+`python3 -m model`, in the folder of the tests, tries it against worked rows.
 """
 
-import sys
 from dataclasses import dataclass
 
 END = 2147483647  # what a cursor answers past its last document
@@ -469,11 +468,3 @@ def slices(tree, documents):
     if isinstance(tree, Term) and not documents:
         return []
     return [SLICE] * (len(documents) // SLICE) + [len(documents) % SLICE]
-
-
-if __name__ == "__main__":
-    from model_rows import differences
-
-    found = list(differences())
-    print("\n".join(found) if found else "the model answers the worked rows")
-    sys.exit(1 if found else 0)

@@ -4,7 +4,7 @@ its answer, how deep it could so be on the 8 megabytes that a Linux system gives
 it are answered. The forms are those of tests/program_runs/deep_queries.py, among them a Boolean of each sign, and of
 each pair and triple of signs. The last line has the least stack with which all of them are answered.
 
-    python3 examples/measure_stack.py [PROGRAM]
+    python3 bench/measure_stack.py [PROGRAM]
 
 Wants `objdump` and `gdb`. The functions of the program that call themselves, one by way of others too, are found in
 what `objdump` says of it; then a query is answered at two depths, and each of them notes where the stack is whenever it

@@ -1,12 +1,12 @@
 #!/usr/bin/env python3
 """Measures the search command `birch`, and beside it what a person would use instead.
 
-    python3 examples/measure_birch.py [PROGRAM] [MEGABYTES]
+    python3 bench/measure_birch.py [PROGRAM] [MEGABYTES]
 
 Writes text of so many megabytes (100) by a seed: 200,000 words, the second half as frequent as the first and so on,
-in paragraphs of some 50. Indexes it, and asks 1,000 queries of one to four words. Then SQLite's FTS5 (Python's own
-`sqlite3`, in memory) takes in the same paragraphs and answers the same queries, and `grep -rlw`, ripgrep and
-Xapian's `omindex` and `quest` look for a word where the machine has them. Times are of the processor, since that is
+in paragraphs of some 50. Indexes it, and asks 1,000 queries of one to four words, and prints a table. Then SQLite's
+FTS5 (Python's own `sqlite3`, in memory) takes in the same paragraphs and answers the same queries, and `grep -rlw`,
+ripgrep and Xapian's `omindex` and `quest` look for a word where the machine has them. Times are of the processor, since that is
 what other programs on the machine change least. The program is the one that `rt run` leaves in crates/birch/out.
 """
 
@@ -86,9 +86,14 @@ def queries(chance, words):
         yield [words[chance.randrange(*chance.choice(ranks))] for _ in range(chance.choice((1, 2, 2, 3, 4)))]
 
 
-def told_times(name, times):
+def row(*cells):
+    print(f"| {' | '.join(cells)} |", flush=True)
+
+
+def told_times(times):
     times = sorted(times)
-    print(f"  {name}: median {median(times):.2f} ms, 99 in 100 below {times[len(times) * 99 // 100]:.2f} ms, slowest {times[-1]:.2f} ms")
+    most = times[len(times) * 99 // 100]
+    return f"median {median(times):.2f} ms, 99 in 100 below {most:.2f} ms, slowest {times[-1]:.2f} ms"
 
 
 def measure_birch(program, folder, asked, megabytes):
@@ -99,9 +104,9 @@ def measure_birch(program, folder, asked, megabytes):
         words = [program, "--json", "--stats", "-k", str(BEST), "--queries", file.name, "."]
         text, told, _, room = run(words, folder)
     took = int(re.search(r"in (\d+) ms", told)[1]) / 1000
-    print(f"birch: {megabytes / took:.1f} MB a second, {took:.1f} s; {room:.0f} MB of memory at most")
     times = [int(it) / 1000 for it in re.findall(r"in (\d+) us", told)]
-    told_times(f"{len(times)} queries, best {BEST}", times)
+    reads = f"{took:.1f} s, {megabytes / took:.1f} MB a second"
+    row("birch", reads, f"{room:.0f} MB of memory at most", told_times(times))
     found, these = [], []
     for line in text.splitlines():
         if line.startswith('{"query"'):
@@ -121,7 +126,6 @@ def measure_fts5(texts, places, asked, megabytes, found):
         store.executemany("insert into documents values (?)", ((text,) for text in texts))
     took = time.process_time() - start
     room = store.execute("pragma page_count").fetchone()[0] * store.execute("pragma page_size").fetchone()[0]
-    print(f"FTS5: {megabytes / took:.1f} MB a second, {took:.1f} s; a store of {room / 1e6:.0f} MB, with the texts")
     times, shared, of = [], 0, 0
     for words, mine in zip(asked, found):
         wanted = " OR ".join(f'"{word}"' for word in words)
@@ -133,8 +137,9 @@ def measure_fts5(texts, places, asked, megabytes, found):
         mine = {(path, starts(places, path, int(line))) for path, line in mine}
         theirs = {places[row - 1] for (row,) in rows}
         shared, of = shared + len(mine & theirs), of + len(theirs)
-    told_times(f"{len(times)} queries, best {BEST}", times)
-    print(f"  of its best {BEST} birch lists {100 * shared / max(of, 1):.0f} in 100")
+    told = f"{told_times(times)}; birch lists {100 * shared / max(of, 1):.0f} in 100 of its best {BEST}"
+    reads = f"{took:.1f} s, {megabytes / took:.1f} MB a second"
+    row("SQLite's FTS5", reads, f"a store of {room / 1e6:.0f} MB, with the texts", told)
 
 
 def starts(places, path, line, known={}):
@@ -150,18 +155,14 @@ def measure_others(folder, words):
     word = words[100]
     for name, line in (("grep", ["grep", "-rlw", word, "."]), ("rg", ["rg", "-lw", "-j1", word, "."])):
         if shutil.which(name):
-            text, _, took, _ = run(line, folder)
-            print(f"{' '.join(line[:2])} of one word: {took * 1000:.0f} ms, {len(text.splitlines())} files")
-        else:
-            print(f"{name}: not on this machine")
+            _, _, took, _ = run(line, folder)
+            row(f"`{' '.join(line[:2])}` of one word", "", "", f"{took * 1000:.0f} ms")
     if shutil.which("omindex") and shutil.which("quest"):
         with tempfile.TemporaryDirectory() as room:
-            _, _, took, most = run(["omindex", "--db", f"{room}/db", "--url", "/", folder], folder)
-            print(f"omindex: {took:.1f} s, {most:.0f} MB of memory at most; whole files, no paragraphs")
+            _, _, first, most = run(["omindex", "--db", f"{room}/db", "--url", "/", folder], folder)
             _, _, took, _ = run(["quest", "--db", f"{room}/db", "--msize", str(BEST), word], folder)
-            print(f"quest of one word: {took * 1000:.0f} ms")
-    else:
-        print("omindex: not on this machine")
+        found = f"`quest` of one word: {took * 1000:.0f} ms"
+        row("Xapian's `omindex`, of whole files", f"{first:.1f} s", f"{most:.0f} MB of memory at most", found)
 
 
 def main():
@@ -173,7 +174,8 @@ def main():
     asked = list(queries(chance, words))
     with tempfile.TemporaryDirectory() as folder:
         places = write_files(folder, texts)
-        print(f"{megabytes} MB in {len(texts)} paragraphs; seconds of a processor")
+        row(f"Of {megabytes} MB", "Reads it", "Takes", f"{QUERIES:,} queries, the best {BEST}")
+        print("|---|---|---|---|")
         found = measure_birch(program, folder, asked, megabytes)
         measure_fts5(texts, places, asked, megabytes, found)
         measure_others(folder, words)

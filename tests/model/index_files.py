@@ -6,8 +6,8 @@ is the digest of all before. A file of places has such a word behind its first 3
 
 from typing import NamedTuple
 
-from segment_model import VERSION, Damaged, Names, check_head, digest, word_bytes
-from store_model import MOST, NotThere, gap_bytes, number_bytes, term_bytes
+from model.segment_files import VERSION, Damaged, Names, check_head, digest, word_bytes
+from model.row_bytes import MOST, NotThere, gap_bytes, number_bytes, term_bytes
 
 DELETIONS = b"birchdel"
 MANIFEST = b"birchman"

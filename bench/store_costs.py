@@ -1,7 +1,7 @@
 #!/usr/bin/env python3
 """What stored segments and saved indexes cost: time of the processor, memory at most, and bytes on disk.
 
-    python3 tests/store_costs.py [--documents N] [--times K] [--only NAME]
+    python3 bench/store_costs.py [--documents N] [--times K] [--only NAME]
 
 Makes two texts, has the program `bench_store` write them as segments, read what a query wants and all of it, and save
 and open them as indexes, and prints a table for docs/COSTS.md: milliseconds, and megabytes at most. One text has N

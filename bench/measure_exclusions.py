@@ -1,7 +1,7 @@
 #!/usr/bin/env python3
 """Counts what MustNot clauses cost: the instructions of a query with 500, 1,000 and 2,000 of them.
 
-    python3 examples/measure_exclusions.py [PROGRAM]
+    python3 bench/measure_exclusions.py [PROGRAM]
 
 The program `qm_search`, or the one that is named, is handed 10,000 documents, each of which holds `a`, `always`
 and one of 4,000 words, and the query for those with `a` and without so many of the words; then the same query
@@ -31,12 +31,14 @@ def main():
     program = sys.argv[1] if len(sys.argv) > 1 else PROGRAM
     documents = "".join(f"doc a always w{number % VOCABULARY}\n" for number in range(DOCUMENTS))
     alone = instructions(program, documents)
-    for name, excluded in [("documents of their own", []), ("every document", ["always"])]:
-        for count in [500, 1_000, 2_000]:
+    print("| MustNot clauses | Each has two or three documents of its own | One has every document |\n|---|---|---|")
+    for count in [500, 1_000, 2_000]:
+        taken = []
+        for excluded in [[], ["always"]]:
             words = excluded + [f"w{number}" for number in range(count - len(excluded))]
             query = f"docs bool 0 {count + 1} + term a" + "".join(f" - term {word}" for word in words)
-            taken = instructions(program, f"{documents}{query}\n") - alone
-            print(f"{count} clauses that leave out {name}: {taken / 1e6:,.0f} million instructions", flush=True)
+            taken.append(instructions(program, f"{documents}{query}\n") - alone)
+        print(f"| {count:,} | " + " | ".join(f"{it / 1e6:,.0f} million" for it in taken) + " |", flush=True)
 
 
 if __name__ == "__main__":

@@ -1,5 +1,7 @@
 #!/usr/bin/env python3
-"""Measures how fast the program takes documents, and how many bytes a posting takes.
+"""Measures how many bytes a posting takes.
+
+    python3 bench/measure_segment.py [PROGRAM]
 
 It writes 100,000 documents of 50 words out of 20,000 to the program, ends the segment, and asks the
 program how many bytes it holds then. A posting is a word and a document that holds it. The bytes
@@ -16,7 +18,7 @@ import time
 
 HERE = os.path.dirname(os.path.abspath(__file__))
 PROGRAM = os.path.join(HERE, "..", "crates", "qm_search", "out", "qm_search")
-COUNTER = os.path.join(HERE, "..", "tests", "live_memory.c")
+COUNTER = os.path.join(HERE, "..", "tests", "native", "live_memory.c")
 DOCUMENTS, WORDS, VOCABULARY = 100_000, 50, 20_000
 
 
@@ -24,7 +26,7 @@ def start(room):
     counter = os.path.join(room, "live_memory.so")
     subprocess.run(["cc", "-O2", "-shared", "-fPIC", "-o", counter, COUNTER], check=True)
     return subprocess.Popen(
-        [PROGRAM],
+        [sys.argv[1] if len(sys.argv) > 1 else PROGRAM],
         stdin=subprocess.PIPE,
         stdout=subprocess.PIPE,
         stderr=subprocess.PIPE,
@@ -48,19 +50,17 @@ def main():
     script = "".join(lines).encode()
     with tempfile.TemporaryDirectory() as room, start(room) as program:
         empty = live_bytes(program)
-        begun = time.monotonic()
         program.stdin.write(script)
         # more empty answers than the program's buffer holds, so that the first are seen
         program.stdin.write(b"segment\n" + 20_000 * b"docs none\n")
         program.stdin.flush()
         program.stdout.read(8192)
-        seconds = time.monotonic() - begun
         held = live_bytes(program) - empty
         program.stdout.close()
         program.stdin.close()
         program.kill()
-    print(f"{DOCUMENTS / seconds:,.0f} documents a second")
-    print(f"{held / postings:.2f} bytes a posting, of {postings:,} postings")
+    print("| Postings | Bytes a posting |\n|---|---|")
+    print(f"| {postings:,} | {held / postings:.2f} |")
 
 
 if __name__ == "__main__":

@@ -8,7 +8,7 @@ field keeps no lengths.
 import functools
 from typing import NamedTuple
 
-from store_model import MOST, NotThere, Reading, begun_term, number_bytes, read_row, row_parts, term_bytes
+from model.row_bytes import MOST, NotThere, Reading, begun_term, number_bytes, read_row, row_parts, term_bytes
 
 KIND = b"birchseg"
 VERSION = [1, *bytes(7)]

@@ -1,7 +1,7 @@
 #!/usr/bin/env python3
 """Draws docs/pruning.svg: one pruned run over two words, and which blocks it passed over.
 
-    python3 examples/draw_pruning.py [--check]
+    python3 bench/draw_pruning.py [--check]
 
 The program of measure_pruning/main.txt is built with no proof and finds the ten best of 4,000 made-up documents by
 two frequent words, once with the shortest documents first and once in mixed order; it writes the blocks of each
@@ -148,7 +148,7 @@ def main(words):
     with open(MADE, encoding="utf-8") as it:
         is_same = it.read() == drawn
     if not is_same:
-        print("docs/pruning.svg is not what would be drawn: run python3 examples/draw_pruning.py")
+        print("docs/pruning.svg is not what would be drawn: run python3 bench/draw_pruning.py")
     return 0 if is_same else 1
 
 

@@ -1,5 +1,5 @@
 /* Counts the bytes that a program holds, and writes their number to standard error at each SIGUSR1.
-   Preloaded by examples/measure_segment.py. */
+   Preloaded by bench/measure_segment.py. */
 #define _GNU_SOURCE
 #include <dlfcn.h>
 #include <malloc.h>

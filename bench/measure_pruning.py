@@ -1,13 +1,14 @@
 #!/usr/bin/env python3
 """Measures what passing over blocks saves: the ten best documents by a pruned run, beside the plain loop.
 
-    python3 examples/measure_pruning.py [--documents N] [--searches N]
+    python3 bench/measure_pruning.py [--documents N] [--searches N]
 
 It builds the program of measure_pruning/main.txt beside the crates of this repository, with no proof, and lets
 it find the ten best of N documents (100,000) by one, two and five frequent words, with the documents in the
-order of their lengths and in mixed order: how many documents the run scored, of how many postings, and the
-processor time of a search, that of many less that of none, the least of three. Both ways must find the same.
-The times mean something on a quiet machine alone; no gate hangs on them.
+order of their lengths and in mixed order. It prints a table: how many documents the run scored, of how many postings,
+and the processor time of a search beside the plain loop's. That is the time of N searches (200) less that of none, the
+least of three; `--searches 0` leaves it out. Both ways must find the same. The times mean something on a quiet machine
+alone; no gate hangs on them.
 """
 
 import os
@@ -21,6 +22,7 @@ HERE = os.path.dirname(os.path.abspath(__file__))
 ROOT = os.path.dirname(HERE)
 CRATES = "qm_combine qm_docset qm_phrase qm_postings qm_schema qm_scorer qm_term qm_weight".split()
 ROUNDS = 3
+ORDERS = {"length": "the shortest first", "mixed": "in mixed order"}
 
 
 def option(words, name, default):
@@ -55,6 +57,8 @@ def run(program, *words):
 
 def search(program, documents, order, words, way, times):
     """Microseconds of a search, how many documents it scored, and what it found."""
+    if not times:
+        return None, *run(program, documents, order, words, way, 1)[1:]
     without = min(run(program, documents, order, words, "none", 1)[0] for _ in range(ROUNDS))
     runs = [run(program, documents, order, words, way, times) for _ in range(ROUNDS)]
     return (min(it[0] for it in runs) - without) / times * 1e6, *runs[0][1:]
@@ -63,6 +67,9 @@ def search(program, documents, order, words, way, times):
 def main(words):
     documents, times = int(option(words, "--documents", 100_000)), int(option(words, "--searches", 200))
     is_well = True
+    heads = [f"Of {documents:,} documents", "Words", "Postings", "Scored"]
+    heads += ["Time, of the plain loop's"] if times else []
+    print(f"| {' | '.join(heads)} |\n{'|---' * len(heads)}|")
     with tempfile.TemporaryDirectory() as room:
         program = build(room)
         for order in ("length", "mixed"):
@@ -71,11 +78,11 @@ def main(words):
                     pruned, scored, found = search(program, documents, order, count, f"pruned{kind}", times)
                     plain, _, expected = search(program, documents, order, count, f"plain{kind}", times)
                     is_well = is_well and found == expected
-                    print(
-                        f"{order} order, {count} words{' by the greatest' if kind else ''}: scored {scored}, "
-                        f"{pruned:.0f} of {plain:.0f} us, {pruned / plain:.2f}",
-                        flush=True,
-                    )
+                    asked = f"{count}{', the greatest' if kind else ''}"
+                    # every word stands in every other document
+                    cells = [ORDERS[order], asked, f"{count * documents // 2:,}", f"{scored:,}"]
+                    cells += [f"{pruned / plain:.2f}"] if times else []
+                    print(f"| {' | '.join(cells)} |", flush=True)
     print("both ways find the same" if is_well else "THE WAYS FIND DIFFERENT DOCUMENTS")
     return 0 if is_well else 1
 

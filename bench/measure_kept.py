@@ -1,7 +1,7 @@
 #!/usr/bin/env python3
 """Measures second searches and changed files on real text, by `birch` and by what a person would use instead.
 
-    python3 examples/measure_kept.py [PROGRAM]
+    python3 bench/measure_kept.py [PROGRAM]
 
 The text is the kernel's documentation and two dictionaries, GCIDE and FOLDOC, as Debian has them (`apt-get install
 linux-doc dict-gcide dict-foldoc ripgrep xapian-omega xapian-tools`). Of each engine it prints, in seconds of a processor: what a
