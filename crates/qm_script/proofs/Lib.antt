@@ -40,3 +40,4 @@ mod NarrowedListings
 mod CountLemmas
 pub mod BestListings
 mod PrunedParts
+mod Pages
