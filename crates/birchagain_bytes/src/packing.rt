@@ -1,10 +1,10 @@
 //! Files as bytes, one behind the other.
 
-ghost use Rattle.std.specs.Prelude.{◌≡◌, ◌++◌, IfOk, OnOk, option_map};
+ghost use Rattle.std.specs.Prelude.{◌≡◌, ◌<◌, ◌^◌, ◌++◌, IfOk, IsUtf8, OnOk, length, option_map};
 ghost use Rattle.std.specs.Result.{result_map_both};
 ghost use Rattle.qm_store.specs.Heads.{head_bytes};
 ghost use Rattle.qm_store.specs.Items.{parted_at};
-ghost use Rattle.birchagain_bytes.specs.Packed.{File, IsFile, file_at, file_bytes, head_at, packed_kind, there_of};
+ghost use Rattle.birchagain_bytes.specs.Packed.{file_at, head_at, named_bytes, packed_kind};
 
 use crate::refusal::BytesRefusal;
 use crate::words::{WORD_BYTES, push_word, read_word};
@@ -30,12 +30,14 @@ pub(crate) fn begin(alloc: Global) -> Result<Vec<u8>, AllocError>
 }
 
 // Adds a file.
+#[tactic(auto, unfolding(crate::specs::Packed::named_bytes))]
 pub(crate) fn push_file(out: &mut Vec<u8>, name: &str, bytes: &[u8]) -> Result<(), AllocError>
-    ensures added { (f : File) → f.name ≡ name.now → there_of f ≡ bytes.now → OnOk result (out.new.items ≡ out.old.items ++ file_bytes f) }
-    ensures fit { (f : File) → f.name ≡ name.now → there_of f ≡ bytes.now → IsFile f }
+    ensures added { OnOk result (out.new.items ≡ out.old.items ++ named_bytes name.now bytes.now) }
+    ensures name_length { length name.now < 2 ^ 64 }
+    ensures length { length bytes.now < 2 ^ 64 }
+    ensures text { IsUtf8 name.now }
 {
     let name = name.as_bytes();
-    out.reserve(2 * WORD_BYTES)?;
     push_word(out, name.len() as u64)?;
     push_word(out, bytes.len() as u64)?;
     out.extend_from_slice(name)?;
