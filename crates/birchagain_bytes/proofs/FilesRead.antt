@@ -10,7 +10,7 @@ use Rattle.qm_store.specs.Items.{parted_at}
 use Rattle.qm_store.specs.RowBytes.{followed_by}
 use Rattle.qm_store.specs.Words.{word_at}
 use Rattle.qm_store.proofs.PiecesRead.{word-read}
-use Rattle.birchagain_bytes.specs.Packed.{File, IsFile, file_at, file_bytes, there_of}
+use Rattle.birchagain_bytes.specs.Packed.{File, IsFile, file_at, file_bytes, named_bytes, there_of}
 
 -- as many bytes as some in front are these
 pub parted-read : (bs rest : List ℕ) → parted_at (length bs) (bs ++ rest) ≡ Some (bs, rest)
@@ -30,6 +30,7 @@ then_size name_length rest = followed_by (word_at rest) (then_name name_length)
 
 -- a file that was written is read again
 pub file-read : (f : File) (rest : List ℕ) → IsFile f → file_at (file_bytes f ++ rest) ≡ Some ((f.name, there_of f), rest)
+unfolding then_bytes then_name then_size file_at named_bytes
 file-read f rest is =
     let name = f.name in
     let bytes = there_of f in

@@ -1,7 +1,10 @@
 -- Files that lie in bytes are taken one after another, by their names.
-use Rattle.std.proofs.Common.{◌≡◌, ◌≢◌, ℕ, ◌||◌, Bool, true, false, cond, List, [], ◌∷◌, ◌++◌, All, Option, None, Some, String, option_map, is_some, map, append-nil, append_assoc, refl, sym, ap, subst, ◌∙◌, inl, inr}
-use Rattle.std.specs.Prelude.{IfSome}
-use Rattle.std.specs.BTreeMap.{Updates, get_by_text}
+use Rattle.std.proofs.Common.{◌≡◌, ◌≢◌, ℕ, ◌||◌, Bool, true, false, cond, List, [], ◌∷◌, ◌++◌, All, Option, None, Some, String, option_map, is_some, get_or, map, append-nil, append_assoc, refl, sym, ap, subst, ◌∙◌, inl, inr}
+use Rattle.std.specs.Prelude.{IfSome, unwrap_or}
+use Rattle.std.specs.Cmp.Lexicographic.{slice_cmp}
+use Rattle.std.specs.Map.{lookup}
+use Rattle.std.specs.Ordering.{nat_cmp}
+use Rattle.std.specs.BTreeMap.{Updates, get_by_text, is_at}
 use Rattle.std.specs.Str.{bytes_eq}
 use Rattle.std.specs.String.{string_bytes, string_cmp}
 use Rattle.std.specs.declared.alloc.Global.{Global}
@@ -14,7 +17,7 @@ use denote.Ref.{Bor}
 use Rattle.qm_folder.specs.Names.{AreDistinct, Name, is_among}
 use Rattle.qm_folder.proofs.GivenNames.{among_last, distinct_more, not_same}
 use Rattle.qm_folder.proofs.NameLists.{same_itself, same_name}
-use Rattle.birchagain_bytes.specs.Packed.{AreThere, File, IsFile, IsThere, file_bytes, files_bytes, there_of}
+use Rattle.birchagain_bytes.specs.Packed.{AreThere, File, IsFile, IsThere, file_bytes, files_bytes, named_bytes, there_of}
 use Rattle.birchagain_bytes.specs.PackedFolder.{Files, contents_in}
 use Rattle.birchagain_bytes.proofs.Packs.{All-right}
 
@@ -62,7 +65,7 @@ none-taken m fs none = record {
   all = refl;
   rest_is = refl;
   stand = All-nil (Stands m);
-  names = λ n. ap (λ (es : List (String Global × Bor (List ℕ))). is_some (contents_in (record { entries = es }) n)) none;
+  names = λ n. ap (λ (es : List (String Global × Bor (List ℕ))). is_some (option_map (λ (b : Bor (List ℕ)). b.now) (lookup (is_at (λ (k : String Global). slice_cmp nat_cmp n (string_bytes k))) es))) none;
   distinct = tt;
 }
 
@@ -107,7 +110,7 @@ module _ (key : String Global) (v : Bor (List ℕ)) (m after : Files) (is : IsIn
         all = are.all ∙ ap (λ (l : List File). are.done ++ l) left ∙ sym (append_assoc are.done (f ∷ []) others);
         rest_is = behind_is;
         stand = All-append (Stands after) are.done (f ∷ [])
-            (λ i d inside. still-stands _ fresh (are.stand i d inside))
+            (λ i d inside. still-stands (get_or are.done i d) fresh (are.stand i d inside))
             (All-cons (Stands after) f [] (last-stands f name bytes) (All-nil (Stands after)));
         names = λ n.
             ap is_some (inserted key v m after n is) ∙ is_some-cond (bytes_eq (string_bytes key) n) v.now (contents_in m n)
@@ -161,6 +164,7 @@ next-is-new m rest fs f others are left distinct there =
 -- ---- all of them
 
 no-file-left : (left : List File) → files_bytes left ≡ [] → left ≡ []
+unfolding named_bytes
 no-file-left [] none = refl
 no-file-left (f ∷ left) none = absurd (cc (sym (flat_map-cons file_bytes f left) ∙ none))
 
@@ -171,12 +175,12 @@ all-done m rest fs are none =
 there-of-stands : (m : Files) (f : File) → Stands m f → IsThere (contents_in m) f
 there-of-stands m f stands = elim f.bytes as (λ (b : Option (List ℕ)). f.bytes ≡ b → IfSome b (λ bytes. contents_in m f.name ≡ Some bytes)) [
   | None ↦ λ is. tt
-  | Some bytes ↦ λ is. stands ∙ ap Some (ap (λ (b : Option (List ℕ)). elim b [ None ↦ [] | Some bs ↦ bs ]) is)
+  | Some bytes ↦ λ is. stands ∙ ap Some (ap (λ (b : Option (List ℕ)). unwrap_or b []) is)
 ] refl
 
 pub all-there : (m : Files) (rest : List ℕ) (fs : List File) → AreTaken m rest fs → rest ≡ [] → AreThere (contents_in m) fs
 all-there m rest fs are none =
-    subst (All (IsThere (contents_in m))) (all-done m rest fs are none) (λ i d inside. there-of-stands m _ (are.stand i d inside))
+    subst (All (IsThere (contents_in m))) (all-done m rest fs are none) (λ i d inside. there-of-stands m (get_or are.done i d) (are.stand i d inside))
 
 pub all-distinct : (m : Files) (rest : List ℕ) (fs : List File) → AreTaken m rest fs → rest ≡ [] → AreDistinct (map name_of fs)
 all-distinct m rest fs are none = subst (λ (done : List File). AreDistinct (map name_of done)) (all-done m rest fs are none) are.distinct
