@@ -1,3 +1,4 @@
 pub mod FilesRead
 pub mod Packs
 pub mod Taken
+pub mod IndexBytes
