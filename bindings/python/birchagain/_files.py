@@ -18,6 +18,8 @@ _HEAD = b"birchall" + struct.pack("<Q", 1)
 _LENGTHS = struct.Struct("<QQ")
 # the name of a file that has a number
 _NUMBERED = re.compile(r"([0-9]+)\.(?:seg|del)")
+# above the number of each file
+NO_NUMBER = (1 << 64) - 1
 # how many bytes are read or written at once
 _PIECE = 1 << 24
 
@@ -25,7 +27,7 @@ _PIECE = 1 << 24
 def number_of(name: str) -> Optional[int]:
     """The number of a file of a segment, or of what is deleted of one; none of any other file."""
     found = _NUMBERED.fullmatch(name)
-    return int(found[1]) if found else None
+    return int(found[1]) if found and int(found[1]) < NO_NUMBER else None
 
 
 def split(data: Buffer) -> Iterator[Tuple[str, memoryview]]:

@@ -13,7 +13,6 @@ from .errors import NO_ROOM, OPEN_SEGMENT, raise_for
 
 # how many bytes there is room for at first
 _ROOM = 1 << 16
-_LAST_NUMBER = (1 << 64) - 1
 # what an index has for itself, and a copy of it for its own
 _OWN = ("_handle", "_lock", "_room", "_kept")
 
@@ -53,10 +52,10 @@ class StoredIndex:
     def save(self, path: Union[str, os.PathLike]) -> None:
         """Saves the index in a folder, which is made where it is missing. `open` reads it from there.
 
-        What of it is there already is not written again: a save after some changes writes these, and a small file. A
-        crash at any moment, and a save that raises, leaves the index that was there before, or this one. Others that save
-        there wait; others that open it meanwhile get the one or the other. Ends the segment that takes documents, where it
-        has any.
+        What of it is there already is not written again: a save after some changes writes these, and a small file.
+        A crash at any moment, and a save that raises, leaves the index that was there before, or this one. Others that
+        save there wait; others that open it meanwhile get the one or the other. Ends the segment that takes documents,
+        where it has any.
 
         Raises `OSError` where the folder cannot be written.
         """
@@ -66,7 +65,7 @@ class StoredIndex:
             there = set(folder.names())
             known = there & self._names_kept(folder)
             last = max(map(number_of, there), default=0)
-            moment = max(time.time_ns(), min(last + 1, _LAST_NUMBER))
+            moment = max(time.time_ns(), last + 1)
             files = dict(split(self._packed(sorted(map(number_of, known)), moment)))
             manifest = files.pop(MANIFEST)
             for name in files.keys() - known:
@@ -80,7 +79,8 @@ class StoredIndex:
     def open(cls: Type[Self], path: Union[str, os.PathLike]) -> Self:
         """The index that was saved in a folder, all of it in memory.
 
-        Raises `FileNotFoundError` where there is none, and `FormatError` where its files are damaged or of another version.
+        Raises `FileNotFoundError` where there is none, and `FormatError` where its files are damaged or of another
+        version.
         """
         folder = Folder(path)
         files = read_all(folder)

@@ -143,6 +143,18 @@ def test_a_file_of_another_index(tmp_path):
     assert Index.open(tmp_path / "b").count("x") == 1
 
 
+def test_files_of_others(tmp_path):
+    """What is no file of an index is left alone."""
+    others = {name: name.encode() for name in ("notes.txt", "x.seg", f"{(1 << 64) - 1}.seg", "9" * 30 + ".del", "12.plc", "new", "manifest.old")}
+    for name, data in others.items():
+        (tmp_path / name).write_bytes(data)
+    small_index().save(tmp_path)
+    with Index.open(tmp_path) as index:
+        index.add("new")
+        index.save(tmp_path)
+    assert others.items() <= files_of(tmp_path).items() and len(Index.open(tmp_path)) == 6
+
+
 class Died(BaseException):
     """The process ends here."""
 

@@ -1,2 +1,4 @@
 pub mod FilesRead
 pub mod Packs
+pub mod Taken
+pub mod IndexBytes

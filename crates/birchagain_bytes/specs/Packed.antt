@@ -34,8 +34,11 @@ packed_kind = 98 ∷ 105 ∷ 114 ∷ 99 ∷ 104 ∷ 97 ∷ 108 ∷ 108 ∷ []
 -- ---- written
 
 -- how many bytes the name has, and how many the file; then both
-unfoldable pub file_bytes : File → List ℕ
-file_bytes f = to_le_bytes w64 (length f.name) ++ (to_le_bytes w64 (length (there_of f)) ++ (f.name ++ there_of f))
+unfoldable pub named_bytes : Name → List ℕ → List ℕ
+named_bytes name bytes = to_le_bytes w64 (length name) ++ (to_le_bytes w64 (length bytes) ++ (name ++ bytes))
+
+abbrev pub file_bytes : File → List ℕ
+file_bytes f = named_bytes f.name (there_of f)
 
 -- files, one behind the other
 abbrev pub files_bytes : List File → List ℕ

@@ -1,20 +1,18 @@
 -- Files that lie in bytes, by their names, as a folder that never changes.
-use Rattle.std.specs.Prelude.{◌≡◌, ℕ, List, Option, option_map}
-use Rattle.std.specs.BTreeMap.{is_at}
-use Rattle.std.specs.Cmp.Lexicographic.{slice_cmp}
-use Rattle.std.specs.Map.{lookup}
-use Rattle.std.specs.Ordering.{nat_cmp}
+use Rattle.std.specs.Prelude.{◌≡◌, ℕ, List, String, option_map}
+use Rattle.std.specs.BTreeMap.{BTreeMap, get_by_text}
+use Rattle.std.specs.declared.alloc.Global.{Global}
 use denote.Ref.{Bor}
 use Rattle.qm_folder.specs.Disk.{Contents, Disk}
 use Rattle.qm_folder.specs.Names.{Name}
 
--- names, and the bytes of their files
-abbrev pub Entries : Type 0
-Entries = List (Bor Name × Bor (List ℕ))
+-- files by their names
+abbrev pub Files : Type 0
+Files = BTreeMap (String Global) (Bor (List ℕ))
 
 -- what stands under each name
-abbrev pub contents_in : Entries → Contents
-contents_in entries n = option_map (λ b. b.now) (lookup (is_at (λ k. slice_cmp nat_cmp n k.now)) entries)
+abbrev pub contents_in : Files → Contents
+contents_in files n = option_map (λ b. b.now) (get_by_text files n)
 
 -- a folder of these contents, which a crash leaves as they are
 abbrev pub still : Contents → Disk

@@ -16,7 +16,7 @@ use std::collections::BTreeMap;
 /// for want of memory.
 #[derive(Drop)]
 pub(crate) struct PackedFiles<'a> {
-    files: BTreeMap<&'a str, &'a [u8]>,
+    files: BTreeMap<String, &'a [u8]>,
 }
 
 impl<'a> PackedFiles<'a> {
@@ -25,7 +25,7 @@ impl<'a> PackedFiles<'a> {
     // Refused with `OtherFile` and `OtherVersion` by the first bytes alone; with `Damaged` where what stands behind them is
     // not files, one behind the other, of names that are text, each once; and else for want of memory.
     pub(crate) fn read(alloc: Global, bytes: &'a [u8]) -> Result<PackedFiles<'a>, BytesRefusal>
-        ensures files { (fs : List File) → All IsFile fs → bytes.now ≡ packed fs → IfOk result (λ p. AreThere (contents_in p.files.entries) fs) }
+        ensures files { (fs : List File) → All IsFile fs → bytes.now ≡ packed fs → IfOk result (λ p. AreThere (contents_in p.files) fs) }
         ensures distinct { (fs : List File) → All IsFile fs → bytes.now ≡ packed fs → OnOk result (AreDistinct (map (λ f. f.name) fs)) }
         ensures whole { (fs : List File) → All IsFile fs → bytes.now ≡ packed fs → AreDistinct (map (λ f. f.name) fs)
             → IsOkUnless result BytesRefusal.Memory }
@@ -43,6 +43,7 @@ impl<'a> PackedFiles<'a> {
             let Ok(name) = str::from_utf8(name) else {
                 return Err(BytesRefusal::Damaged);
             };
+            let name = String::from_str(alloc, name)?;
             if files.insert(name, file)?.is_some() {
                 return Err(BytesRefusal::Damaged);
             }
@@ -53,16 +54,16 @@ impl<'a> PackedFiles<'a> {
 
     // The bytes of a file; none where there is none of that name.
     pub(crate) fn file(&self, name: &str) -> Option<&'a [u8]>
-        ensures { option_map (λ b. b.now) result ≡ contents_in self.now.files.entries name.now }
+        ensures { option_map (λ b. b.now) result ≡ contents_in self.now.files name.now }
     {
-        self.files.get(&name).copied()
+        self.files.get(name).copied()
     }
 }
 
 impl<'a> Folder for PackedFiles<'a> {
     ghost use Rattle.birchagain_bytes.specs.PackedFolder.{contents_in, still};
 
-    ghost disk = { λ f. still (contents_in f.files.entries) };
+    ghost disk = { λ f. still (contents_in f.files) };
 
     ghost is_told = { Unit {0} };
 
@@ -101,7 +102,7 @@ impl<'a> Folder for PackedFiles<'a> {
         let mut names = Vec::new(alloc);
         // those before it are there
         for name in self.files.keys() {
-            names.push(String::from_str(alloc, name)?)?;
+            names.push(String::from_str(alloc, name.as_str())?)?;
         }
         Ok(names)
     }

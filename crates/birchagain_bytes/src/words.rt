@@ -1,6 +1,6 @@
 //! Numbers of eight bytes, the lowest first.
 
-ghost use Rattle.std.specs.Prelude.{◌≡◌, ◌++◌, OnOk, option_map};
+ghost use Rattle.std.specs.Prelude.{◌≡◌, ◌<◌, ◌++◌, IfSome, OnOk, length, option_map};
 ghost use Rattle.std.specs.Int.{w64, to_le_bytes};
 ghost use Rattle.qm_store.specs.Words.{word_at};
 
@@ -19,6 +19,7 @@ pub(crate) fn push_word(out: &mut Vec<u8>, number: u64) -> Result<(), AllocError
 // The number that some bytes begin with, and the bytes behind it; none where they are fewer than eight.
 pub(crate) fn read_word(bytes: &[u8]) -> Option<(u64, &[u8])>
     ensures read { option_map (λ r. (r.0, r.1.now)) result ≡ word_at bytes.now }
+    ensures shorter { IfSome result (λ r. length r.1.now < length bytes.now) }
 {
     if bytes.len() < WORD_BYTES {
         return None;
