@@ -1,7 +1,7 @@
 #!/usr/bin/env python3
 """What it costs to make an index of the library bytes, to save it in a folder, and to open it again.
 
-    python3 examples/measure_saved.py [DOCUMENTS]
+    python3 bench/measure_saved.py [DOCUMENTS]
 
 Makes an index of so many documents (100,000) by the package in bindings/python, each of 70 words that are as frequent as
 words are (Zipf), and prints a table for docs/COSTS.md: milliseconds of the processor, the median of five runs. The library
