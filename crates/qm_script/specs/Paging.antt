@@ -7,9 +7,9 @@ use Rattle.qm_script.specs.declared.paging.Page.{Page}
 use Rattle.qm_weight.specs.Tree.{Tree}
 
 -- a page without documents
-pub record IsBegun (first limit : ℕ) (page : Page) : Type 0 where
-  pub first : page.from ≡ first
-  pub limit : page.limit ≡ limit
+pub record IsBegun (number most : ℕ) (page : Page) : Type 0 where
+  pub first : page.from ≡ number
+  pub limit : page.limit ≡ most
   pub none : page.documents.items ≡ []
 
 -- It has these documents more, as far as there was room.
