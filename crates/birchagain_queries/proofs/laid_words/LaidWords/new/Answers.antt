@@ -19,6 +19,6 @@ loop-word-preserved c =
     c.in_ok-extend_from_slice.ensures.items ∙ (λ j. c.loop-word.invariant.bytes j ++ c.as_bytes.ensures.value j) in
     record {
       bytes = laid ∙ sym (bytes-more before word) ∙ ap bytes_of (sym more);
-      ends = c.in_ok-push.ensures.items ∙ (λ j. c.loop-word.invariant.ends j ++ (c.len.ensures ∙ ap length laid) j ∷ [])
+      ends = c.in_ok-push.ensures.items ∙ (λ j. c.loop-word.invariant.ends j ++ (c.len.ensures ∙ c.extend_from_slice.new.self.ok.0 ∙ ap length laid) j ∷ [])
           ∙ sym (ends-more 0 before word) ∙ ap (ends_from 0) (sym more);
     }
