@@ -1,5 +1,5 @@
 -- The clauses of a typed query, one after another: whether they name a field, and what they say.
-use Rattle.std.proofs.Common.{◌≡◌, ◌<◌, ◌≤◌, ◌+◌, ◌||◌, ◌∙◌, ℕ, zero, suc, Bool, true, false, List, [], ◌∷◌, absurd, ap, arith, drop, get_or, length, map, refl, sym}
+use Rattle.std.proofs.Common.{◌≡◌, ◌<◌, ◌≤◌, ◌+◌, ◌||◌, ◌∙◌, ℕ, zero, suc, Bool, true, false, List, [], ◌∷◌, ap, arith, drop, get_or, length, map, refl, sym}
 use Rattle.std.proofs.lemmas.List.{drop_more}
 use Rattle.std.specs.List.{drop-map}
 use Rattle.qm_parser.specs.Query.{clauses_of}

@@ -1,9 +1,8 @@
 -- The words of a query, one after another.
-use Rattle.std.proofs.Common.{◌≡◌, ◌∙◌, ◌<◌, ◌≤◌, ◌+◌, ◌-◌, ◌++◌, ℕ, zero, suc, List, [], ◌∷◌, String, ap, append_assoc, append-nil, arith, drop, get_or, length, length-append, map, refl, string_bytes, sym, take}
-use Rattle.std.specs.Global.{Global}
+use Rattle.std.proofs.Common.{◌≡◌, ◌∙◌, ◌<◌, ◌≤◌, ◌+◌, ◌++◌, ℕ, List, [], ◌∷◌, ap, append_assoc, append-nil, arith, drop, get_or, length, length-append, map, refl, sym}
 use Rattle.qm_schema.specs.declared.occur.Occur.{Occur}
 use Rattle.qm_script.specs.Script.{clauses_of, queries_of}
-use Rattle.qm_script.specs.Spelled.{clause_of, query_of, texts}
+use Rattle.qm_script.specs.Spelled.{clause_of, query_of}
 use Rattle.qm_script.specs.declared.spelled_query.SpelledQuery.{SpelledQuery}
 use Rattle.birchagain_queries.specs.QueryWords.{bytes_of, ends_from, full_words, weighing_words, words_of_clauses, words_of_queries}
 use Rattle.birchagain_queries.proofs.Clauses.{drop_mapped, none_left}
@@ -37,12 +36,10 @@ module _ (all : List (List ℕ)) where
 
 -- ---- all but the last
 
-pub full-front : (words : List (String Global)) → full_words (texts words) ≡ texts (take (length words - 1) words)
-full-front [] = refl
-full-front (w ∷ []) = refl
-full-front (w ∷ v ∷ words) =
-    let place : suc (length (v ∷ words) - 1) ≡ length (w ∷ v ∷ words) - 1 = omega arith in
-    ap (λ l. string_bytes w ∷ l) (full-front (v ∷ words)) ∙ ap (λ n. texts (take n (w ∷ v ∷ words))) place
+pub full-push : (words : List (List ℕ)) (w : List ℕ) → full_words (words ++ w ∷ []) ≡ words
+full-push [] w = refl
+full-push (v ∷ []) w = refl
+full-push (v ∷ u ∷ words) w = ap (λ l. v ∷ l) (full-push (u ∷ words) w)
 
 -- ---- words in bytes
 

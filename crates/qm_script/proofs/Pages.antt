@@ -1,5 +1,5 @@
 -- What a page takes: document by document of a segment, and segment by segment.
-use Rattle.std.proofs.Common.{◌≡◌, ◌+◌, ◌-◌, ◌++◌, ◌<◌, ◌≤◌, ◌∙◌, ◌&&◌, ℕ, zero, suc, Bool, true, false, not, cond, List, [], ◌∷◌, ap, append_assoc, sym, refl, arith, filter, length, map, nat_le, nat_lt, pos, take, drop, inl, inr}
+use Rattle.std.proofs.Common.{◌≡◌, ◌+◌, ◌-◌, ◌++◌, ◌<◌, ◌≤◌, ◌∙◌, ◌&&◌, ℕ, zero, suc, Bool, true, false, not, cond, List, [], ◌∷◌, ap, append_assoc, sym, refl, arith, filter, length, map, nat_le, nat_lt, pos, take, take_all, drop, inl, inr}
 use Rattle.std.proofs.lemmas.Bool.{cases_lt, le-leb}
 use Rattle.std.proofs.lemmas.Bool.Decides.{nat_tests}
 use Rattle.std.proofs.lemmas.List.{append-nil, map-append}
@@ -134,13 +134,10 @@ module _ (tree : Tree) (first : ℕ) (s : Segment) where
         take-taken limit (had ++ filter (nat_le least) (numbers_in tree first s)) behind
         ∙ ap (take limit) (append_assoc had (filter (nat_le least) (numbers_in tree first s)) behind ∙ ap (λ l. had ++ l) (sym wanted-next))
 
-    -- none of the segment's is wanted
-    pub segment-before : (limit : ℕ) (had : List ℕ) → first + length s.documents ≤ least →
-        take limit (had ++ behind) ≡ take limit (had ++ filter (nat_le least) (numbers_from tree first (s ∷ segments)))
-    segment-before limit had past = ap (λ l. take limit (had ++ l)) (sym (wanted-next ∙ ap (λ l. l ++ behind) (none-yet least past)))
+-- with nothing more, or with no room, it has what it had
+pub nothing-more : (limit : ℕ) (had more : List ℕ) → length had ≤ limit → more ≡ [] → had ≡ take limit (had ++ more)
+nothing-more limit had more most none =
+    sym (ap (λ l. take limit (had ++ l)) none ∙ ap (take limit) (append-nil had) ∙ take_all limit had most)
 
-    -- there is room for none
-    pub segment-full : (limit : ℕ) (had : List ℕ) → limit ≤ length had → length had ≤ limit →
-        take limit (had ++ behind) ≡ take limit (had ++ filter (nat_le least) (numbers_from tree first (s ∷ segments)))
-    segment-full limit had least_room most =
-        take-full limit had behind least_room most ∙ sym (take-full limit had (filter (nat_le least) (numbers_from tree first (s ∷ segments))) least_room most)
+pub no-room : (limit : ℕ) (had more : List ℕ) → length had ≤ limit → limit ≤ length had → had ≡ take limit (had ++ more)
+no-room limit had more most least = sym (take-full limit had more least most)

@@ -7,8 +7,8 @@ use Rattle.qm_script.specs.declared.paging.Page.{Page}
 use Rattle.qm_weight.specs.Tree.{Tree}
 
 -- a page without documents
-pub record IsBegun (from most : ℕ) (page : Page) : Type 0 where
-  pub first : page.from ≡ from
+pub record IsBegun (number most : ℕ) (page : Page) : Type 0 where
+  pub first : page.from ≡ number
   pub limit : page.limit ≡ most
   pub none : page.documents.items ≡ []
 

@@ -90,17 +90,13 @@ impl Page {
         let mut first: u64 = 0;
         // what the segments before this one have is taken
         for segment in segments {
-            let next = first + u64::from(segment.max_doc());
-            if self.from < next && self.documents.len() < self.limit {
-                self.take_segment(alloc, segment, weight, first)?;
-            }
-            first = next;
+            self.take_segment(alloc, segment, weight, first)?;
+            first += u64::from(segment.max_doc());
         }
         Ok(())
     }
 
-    // Takes what a weight finds in one segment, whose first document has this number, and which has the wanted number
-    // or documents behind it.
+    // Takes what a weight finds in one segment, whose first document has this number.
     fn take_segment(
         &mut self,
         alloc: Global,
@@ -109,11 +105,13 @@ impl Page {
         first: u64,
     ) -> Result<(), QueryError>
         requires few { first ≤ most_segments * TERMINATED }
-        requires room { length segment.now.segment.documents ≤ TERMINATED }
-        requires within { self.old.from < first + length segment.now.segment.documents }
         requires limited { length self.old.documents.items ≤ self.old.limit }
         ensures taken { OnOk result (Takes (numbers_in (tree_of weight.now) first segment.now.segment) self.old self.new) }
     {
+        let next = first + u64::from(segment.max_doc());
+        if next <= self.from || self.limit <= self.documents.len() {
+            return Ok(());
+        }
         let mut scorer: AnyScorer<EmptyScorer> = weight.scorer(alloc, segment, 1)?;
         let start = (self.from.max(first) - first) as DocId;
         self.take_from(&mut scorer, segment, first, start)?;

@@ -15,13 +15,13 @@ returns-then-names_field t c =
     sym (ap names_field tie
     ∙ ap (λ l. have_field (clauses_of (map clause_of l))) (sym c.deref-inner-items.ensures.value)
     ∙ fields-found xs c.loop-inner.inner-index (have_field (clauses_of (map clause_of xs))) c.loop-inner-item.result c.loop-inner-test.true
-    c.loop-inner-item.is (sym c.names_field.ensures ∙ c.if-names_field.true) c.loop-inner.invariant)
+    c.loop-inner-item.is (sym c.names_field-in-loop-inner.ensures ∙ c.if-names_field.true) c.loop-inner.invariant)
 
 pub loop-inner-preserved : goal.loop-inner-preserved
 loop-inner-preserved t c =
     let xs = c.deref-inner-items.result.now in
     fields-step xs c.loop-inner.inner-index (have_field (clauses_of (map clause_of xs))) c.loop-inner-item.result c.loop-inner-test.true
-    c.loop-inner-item.is (sym c.names_field.ensures ∙ c.if-names_field.false) c.loop-inner.invariant
+    c.loop-inner-item.is (sym c.names_field-in-loop-inner.ensures ∙ c.if-names_field.false) c.loop-inner.invariant
 
 pub returns-after-loop-inner : goal.returns-after-loop-inner
 returns-after-loop-inner t c =
