@@ -1,9 +1,10 @@
-use Rattle.std.proofs.Common.{◌≤◌, ◌*◌, ap, refl, subst, sym, ◌∙◌}
+use Rattle.std.proofs.Common.{◌≤◌, ◌*◌, ◌++◌, ap, arith, filter, length, nat_le, subst, sym, take, ◌∙◌}
+use Rattle.std.proofs.lemmas.List.{length-take}
 use Rattle.qm_docset.specs.declared.numbers.TheConstants.{TERMINATED}
 use Rattle.qm_index.specs.Indexed.{Indexed, indexed}
 use Rattle.qm_index.specs.Parts.{segments_of}
 use Rattle.qm_query.specs.Query.{query_of as built_query}
-use Rattle.qm_query.specs.Searches.{without_scores}
+use Rattle.qm_script.specs.BestListed.{alive_numbers}
 use Rattle.qm_script.specs.Parts.{document_count}
 use Rattle.qm_script.specs.ProgramNumbers.{most_segments}
 use Rattle.qm_script.specs.Served.{Serve}
@@ -27,15 +28,26 @@ returns-clause-page c =
     let searcher = c.searcher-searcher.result.now in
     let readers = searcher.segments in
     let same = c.in_ok-make_ready.ensures.documents in
-    let enable = without_scores searcher in
+    let asked = c.disabled_from_searcher-enable_scoring in
+    let enable = asked.result.entry in
     let query = built_query c.in_ok-query.query in
     let serve = subst (λ t. Serve q t readers) same (serve-ready i q readers c.searcher-searcher.ensures.searched c.searcher-searcher.ensures.merged
     c.searcher-searcher.ensures.parts c.in_ok-make_ready.ensures.ready.1) in
+    let begun = c.new-page.ensures in
+    let tree = c.in_ok-weight.ensures.tree in
+    let segments = c.segment_readers.ensures.segments in
     record {
       query = query;
       built = c.in_ok-query.ensures;
       enable = enable;
-      fields = ap (λ w. w.schema) c.searcher-searcher.ensures.statistics ∙ ap (λ (t : Indexed). t.current.schema) same;
-      scores = refl;
-      page = ?;
+      fields = asked.ensures.schema ∙ ap (λ w. w.schema) c.searcher-searcher.ensures.statistics ∙ ap (λ (t : Indexed). t.current.schema) same;
+      scores = asked.ensures.provider;
+      page = c.in_ok-fill.ensures.taken.documents
+          ∙ (λ j. take (begun.limit j) (begun.none j ++ filter (nat_le (begun.first j)) (alive_numbers (tree j) (segments_of (segments j)))))
+          ∙ ap (take c.args.limit) (page-same enable s q query readers c.in_ok-query.ensures c.args.from serve);
     }
+
+pub returns-clause-few : goal.returns-clause-few
+returns-clause-few c =
+    let all = c.in_ok-fill.ensures.taken.documents in
+    omega (arith, ap length all, length-take c.new-page.result.limit _, c.new-page.ensures.limit)
