@@ -2,7 +2,7 @@
 use Rattle.std.proofs.Common.{◌≡◌, ◌+◌, ◌-◌, ◌++◌, ◌<◌, ◌≤◌, ◌∙◌, ◌&&◌, ℕ, zero, suc, Bool, true, false, not, cond, List, [], ◌∷◌, ap, append_assoc, sym, refl, arith, filter, length, map, nat_le, nat_lt, pos, take, take_all, drop, inl, inr}
 use Rattle.std.proofs.lemmas.Bool.{cases_lt, le-leb}
 use Rattle.std.proofs.lemmas.Bool.Decides.{nat_tests}
-use Rattle.std.proofs.lemmas.List.{append-nil, map-append}
+use Rattle.std.proofs.lemmas.List.{append-nil, length-take, map-append}
 use Rattle.std.proofs.lemmas.List.Elements.{filter-append}
 use Rattle.qm_docset.specs.Entry.{Entry, documents, from, head_document}
 use Rattle.qm_docset.specs.EntryFacts.{from-keep, from-nil, from-skip}
@@ -141,3 +141,7 @@ nothing-more limit had more most none =
 
 pub no-room : (limit : ℕ) (had more : List ℕ) → length had ≤ limit → limit ≤ length had → had ≡ take limit (had ++ more)
 no-room limit had more most least = sym (take-full limit had more least most)
+
+-- it has no more than there is room for
+pub few-taken : (n : ℕ) (xs ys : List ℕ) → xs ≡ take n ys → length xs ≤ n
+few-taken n xs ys is = omega (arith, ap length is, length-take n ys)

@@ -71,10 +71,10 @@ returns c =
     record {
       hits = take n out;
       best = sym (
-        best-of_ranked (length before) (items xs) (map (moved c.args.offset) (items ys)) c.requires.ranked.first second
-        ∙ ap (take (length before)) (sym kept.best)
-        ∙ take-written (length before) n (items (take n out)) (left c.args.offset (drop c.loop-count.i xs) (drop c.loop-count.j ys)) length-hits
-            (omega (arith, few, kept.length)) ends);
+          best-of_ranked (length before) (items xs) (map (moved c.args.offset) (items ys)) c.requires.ranked.first second
+          ∙ ap (take (length before)) (sym kept.best)
+          ∙ take-written (length before) n (items (take n out)) (left c.args.offset (drop c.loop-count.i xs) (drop c.loop-count.j ys)) length-hits
+          (omega (arith, few, kept.length)) ends);
       counted = length-take-le n out few;
       front = sym (take-append-drop n out) ∙ ap (λ l. take n out ++ l) kept.behind;
     }

@@ -9,7 +9,9 @@ use Rattle.qm_script.specs.Parts.{document_count}
 use Rattle.qm_script.specs.ProgramNumbers.{most_segments}
 use Rattle.qm_script.specs.Served.{Serve}
 use Rattle.qm_script.specs.Spelled.{query_of}
+use Rattle.qm_weight.specs.Weights.{tree_of as weight_tree_of}
 use Rattle.qm_script.proofs.Answering.{page-same}
+use Rattle.qm_script.proofs.Pages.{few-taken}
 use Rattle.qm_script.proofs.PartLemmas.{count-readers}
 use Rattle.qm_script.proofs.SearchedIndexes.{serve-ready}
 use Rattle.qm_script.proofs.paging.page_hits.Goals as goal
@@ -29,12 +31,12 @@ returns-clause-page c =
     let readers = searcher.segments in
     let same = c.in_ok-make_ready.ensures.documents in
     let asked = c.disabled_from_searcher-enable_scoring in
-    let enable = asked.result.entry in
+    let enable = asked.result in
     let query = built_query c.in_ok-query.query in
     let serve = subst (λ t. Serve q t readers) same (serve-ready i q readers c.searcher-searcher.ensures.searched c.searcher-searcher.ensures.merged
     c.searcher-searcher.ensures.parts c.in_ok-make_ready.ensures.ready.1) in
-    let begun = c.new-page.ensures in
-    let tree = c.in_ok-weight.ensures.tree in
+    let begun = c.new-page.ensures.begun in
+    let tree = ap weight_tree_of c.deref.ensures ∙ c.in_ok-weight.ensures.tree in
     let segments = c.segment_readers.ensures.segments in
     record {
       query = query;
@@ -49,5 +51,5 @@ returns-clause-page c =
 
 pub returns-clause-few : goal.returns-clause-few
 returns-clause-few c =
-    let all = c.in_ok-fill.ensures.taken.documents in
-    omega (arith, ap length all, length-take c.new-page.result.limit _, c.new-page.ensures.limit)
+    subst (λ n. length c.fill.new.self.documents.items ≤ n) c.new-page.ensures.begun.limit
+    (few-taken _ _ _ c.in_ok-fill.ensures.taken.documents)
