@@ -1,4 +1,4 @@
-use Rattle.std.proofs.Common.{◌≡◌, ◌≤◌, ◌+◌, ◌++◌, ◌∙◌, arith, ap, drop, filter, length, map, nat_le, sym, take}
+use Rattle.std.proofs.Common.{◌≡◌, ◌≤◌, ◌+◌, ◌++◌, ◌∙◌, arith, ap, drop, false, filter, length, map, nat_le, sym, take}
 use Rattle.std.proofs.lemmas.List.{length-take}
 use Rattle.qm_script.specs.BestListed.{alive_numbers}
 use Rattle.qm_script.specs.Paging.{numbers_in}
