@@ -1,4 +1,4 @@
-"""The tree of a query in the language that people type, docs/QUERIES.md, of which the library has said that it is one."""
+"""The tree of a query in the language that people type (docs/QUERIES.md), which the library has read before."""
 
 from __future__ import annotations
 
@@ -21,7 +21,7 @@ _OPERATORS = {"AND": "AND", "OR": "OR", "NOT": "-"}
 
 
 class Leaf(NamedTuple):
-    """A word, the beginning of one, or a phrase; `*` alone is the beginning of any. It stands behind so many letters."""
+    """A word, the beginning of one, or a phrase; `*` alone begins any word. `place` is how many letters stand before it."""
 
     text: str
     is_phrase: bool
