@@ -21,7 +21,7 @@ _OPERATORS = {"AND": "AND", "OR": "OR", "NOT": "-"}
 
 
 class Leaf(NamedTuple):
-    """A word, the beginning of one, or a phrase; `*` alone begins any word. `place` is how many letters stand before it."""
+    """A word, the beginning of one, or a phrase, and how many letters stand before it; `*` alone begins any word."""
 
     text: str
     is_phrase: bool
