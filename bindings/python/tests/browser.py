@@ -112,6 +112,14 @@ class Browser:
             raise RuntimeError(answer["exceptionDetails"])
         return answer["result"].get("value")
 
+    def wait_until(self, script):
+        """Waits until an expression on the page holds, as that the box has the caret, which it has soon behind the load."""
+        until = time.monotonic() + PATIENCE
+        while not self.ask(script):
+            if time.monotonic() > until:
+                raise TimeoutError(script)
+            time.sleep(0.02)
+
     def type(self, text):
         """Types a text where the caret is."""
         self.call("Input.insertText", text=text)

@@ -58,6 +58,10 @@ def shown(browser, selector):
     return browser.ask(f"[...document.querySelectorAll({selector!r})].map(it => it.innerText)")
 
 
+def wait_for_caret(browser):
+    browser.wait_until("document.activeElement.id === 'q'")
+
+
 def focused(browser):
     return browser.ask(
         "document.activeElement.id || document.activeElement.innerText || document.activeElement.tagName"
@@ -66,7 +70,8 @@ def focused(browser):
 
 def test_a_query_is_typed(browser, served):
     browser.open(served.address)
-    assert focused(browser) == "q" and browser.ask("document.activeElement.labels[0].innerText") == "Search"
+    wait_for_caret(browser)
+    assert browser.ask("document.activeElement.labels[0].innerText") == "Search"
     browser.type('"old apple" nest*')
     browser.press_and_load("Enter")
     assert browser.ask("location.pathname + location.search") == "/?q=%22old+apple%22+nest*"
@@ -133,7 +138,8 @@ def test_the_policy_stops_scripts(browser, served):
 
 def test_an_empty_answer(browser, served):
     browser.open(f"{served.address}?q=woodpekcer")
-    assert shown(browser, "h1") == ["Nothing found"] and focused(browser) == "q"
+    wait_for_caret(browser)
+    assert shown(browser, "h1") == ["Nothing found"]
     assert shown(browser, ".hints a") == ["woodpe*"]
     browser.ask("document.querySelector('.hints a').focus()")
     browser.press_and_load("Enter")
@@ -152,6 +158,7 @@ def test_without_scripts(browser, served):
     browser.call("Emulation.setScriptExecutionDisabled", value=True)
     try:
         browser.open(served.address)
+        wait_for_caret(browser)
         browser.type("wren")
         browser.press_and_load("Enter")
         assert shown(browser, "h2 a") == ["birds.txt"]

@@ -9,7 +9,7 @@ from birchagain.serve.collection import Collection
 from birchagain.serve.explanation import explain, times_in
 from birchagain.serve.query import Joined, Refusal, Words, read_query
 
-SEEDS = 60
+SEEDS = 40
 WORDS = ["owl", "owls", "oak", "old", "apple", "ant", "a", "b"]
 # as they may be typed
 SPELLED = {"owl": ["OWL", "\u00f3wl"], "oak": ["o\u0301ak", "Oak"], "a": ["\u00c5"]}

@@ -23,13 +23,13 @@ HEADERS = {
 }
 
 
-@pytest.fixture(name="served")
-def served_folder(tmp_path):
-    (tmp_path / "a.txt").write_text("an owl in an oak")
-    (tmp_path / "b.txt").write_text("an oak")
-    (tmp_path / "c.bin").write_bytes(b"\0")
-    with Served(str(tmp_path)) as served:
-        served.folder = tmp_path
+@pytest.fixture(name="served", scope="module")
+def served_folder(tmp_path_factory):
+    folder = tmp_path_factory.mktemp("served")
+    (folder / "a.txt").write_text("an owl in an oak")
+    (folder / "b.txt").write_text("an oak")
+    (folder / "c.bin").write_bytes(b"\0")
+    with Served(str(folder)) as served:
         yield served
     # what is asked is told nowhere, and no request has gone wrong
     assert (served.process.returncode, served.output, served.errors.strip()) == (0, "", "")
@@ -161,15 +161,18 @@ def test_one_that_says_nothing_keeps_nobody_waiting(served):
             hasty.sendall(b"GET /?q=owl HTTP/1.0\r\nHost: localhost\r\n\r\n")
 
 
-def test_a_file_that_vanishes_between_two_searches(served):
-    assert served.page("/?q=oak").text("h1") == "2 passages found"
-    os.remove(served.folder / "a.txt")
-    (served.folder / "d.txt").write_text("an oak and a fox")
-    until = time.monotonic() + 30
-    while served.page("/?q=fox").text("h1") == "Nothing found" and time.monotonic() < until:
-        time.sleep(0.05)
-    assert served.page("/?q=oak").text("h2") == "b.txt line 1 d.txt line 1"
-    assert served.page("/?q=owl").text("h1") == "Nothing found"
+def test_a_file_that_vanishes_between_two_searches(tmp_path):
+    (tmp_path / "a.txt").write_text("an owl in an oak")
+    (tmp_path / "b.txt").write_text("an oak")
+    with Served(str(tmp_path)) as served:
+        assert served.page("/?q=oak").text("h1") == "2 passages found"
+        os.remove(tmp_path / "a.txt")
+        (tmp_path / "d.txt").write_text("an oak and a fox")
+        until = time.monotonic() + 120
+        while served.page("/?q=fox").text("h1") == "Nothing found" and time.monotonic() < until:
+            time.sleep(0.05)
+        assert served.page("/?q=oak").text("h2") == "b.txt line 1 d.txt line 1"
+        assert served.page("/?q=owl").text("h1") == "Nothing found"
 
 
 def ended(*words):

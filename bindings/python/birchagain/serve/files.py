@@ -11,7 +11,7 @@ from typing import Callable, Dict, Iterator, List, NamedTuple, Optional
 from .passages import Passage, passages_of
 from .reading import LeftOut, Stamp, files_below, read_text
 
-# a file is known again by its stamp where it had stood for so many nanoseconds when it was read
+# a file is known again by its stamp where nothing of it had changed for so many nanoseconds when it was read
 _SETTLED = 2_000_000_000
 
 
@@ -70,7 +70,7 @@ class Files:
             left_out = it.reason
         self._tell(stamp.size if not left_out else 0)
         key = hashlib.blake2b(os.fsencode(path), digest_size=8).hexdigest()
-        return File(path, key, stamp, stamp.modified + _SETTLED < begun, [*passages_of(text)], left_out)
+        return File(path, key, stamp, stamp.changed + _SETTLED < begun, [*passages_of(text)], left_out)
 
     def keep(self, change: Change) -> None:
         """Takes a change in: from here on the file is known as it is."""

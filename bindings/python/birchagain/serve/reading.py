@@ -58,12 +58,19 @@ def files_below(folder: str) -> Listing:
             continue
         folders = []
         for entry, path in ((it, os.path.join(below, it.name)) for it in entries if not it.name.startswith(".")):
-            if entry.is_dir(follow_symlinks=False):
+            if _is_folder(entry):
                 folders.append(path)
             else:
                 _list_file(entry, path, listing)
         waiting.extend(reversed(folders))
     return listing
+
+
+def _is_folder(entry: os.DirEntry) -> bool:
+    try:
+        return entry.is_dir(follow_symlinks=False)
+    except OSError:
+        return False
 
 
 def _list_file(entry: os.DirEntry, path: str, listing: Listing) -> None:
