@@ -40,3 +40,4 @@ mod NarrowedListings
 mod CountLemmas
 mod BestListings
 mod PrunedParts
+mod Pages
