@@ -127,39 +127,43 @@ uint32_t birchagain_weigh(birchagain_index *index, const uint8_t *word, size_t w
 uint32_t birchagain_frequencies(birchagain_index *index, const uint8_t *bytes, size_t bytes_length, const size_t *ends,
                                 size_t words, uint64_t *out, size_t out_length);
 
-/* A query is a text in UTF-8, in a language of these. Deleted documents are never found. A call builds what was added, so that
- * what the index holds stays the same. Beside the statuses below each call that takes a query may answer
- * BIRCHAGAIN_NO_LANGUAGE, BIRCHAGAIN_NOT_UNDERSTOOD, and for a text of the typed language BIRCHAGAIN_NAMES_FIELD and those
- * from BIRCHAGAIN_STRAY_ESCAPE on. Each that takes an index too may answer BIRCHAGAIN_SCORE_BOUND, and for one of scripts
+/* A query is a text in UTF-8, in a language of these. Deleted documents are never found. A call builds what was added, so
+ * that what the index holds stays the same. Beside the statuses below each call that takes a query may answer
+ * BIRCHAGAIN_NO_LANGUAGE, BIRCHAGAIN_NOT_UNDERSTOOD, and for a typed text BIRCHAGAIN_NAMES_FIELD and those from
+ * BIRCHAGAIN_STRAY_ESCAPE on. Each that takes an index too may answer BIRCHAGAIN_SCORE_BOUND, and for a text of scripts
  * BIRCHAGAIN_TOO_FEW_TERMS, BIRCHAGAIN_EMPTY_PREFIX and BIRCHAGAIN_TIE_BREAKER. */
 enum {
-    BIRCHAGAIN_TYPED = 0, /* what people type, docs/QUERIES.md: words letter by letter, phrases cut at ASCII spaces, no fields */
-    BIRCHAGAIN_SCRIPT = 1 /* a `Q` of docs/SCRIPT.md */
+    /* what people type, docs/QUERIES.md: words letter by letter, phrases cut at ASCII spaces, no fields */
+    BIRCHAGAIN_TYPED = 0,
+    /* a `Q` of docs/SCRIPT.md */
+    BIRCHAGAIN_SCRIPT = 1
 };
 
 /* Writes at `out` how many documents match. */
-uint32_t birchagain_count(birchagain_index *index, uint32_t language, const uint8_t *query, size_t query_length, uint64_t *out);
+uint32_t birchagain_count(birchagain_index *index, uint32_t language, const uint8_t *query, size_t query_length,
+                          uint64_t *out);
 
 /* Fills the front of `out` with the best documents that match, as many as there is room for: by score downwards, and of one
  * score by number upwards. Writes at `filled` how many these are: fewer than there is room for where there are no more. */
 uint32_t birchagain_top(birchagain_index *index, uint32_t language, const uint8_t *query, size_t query_length,
                         birchagain_hit *out, size_t out_length, size_t *filled);
 
-/* Fills the front of `out` with the documents that match, by number upwards, from the number `from` on, as many as there is
- * room for. Writes at `filled` how many these are: fewer than there is room for where there are no more. The next page is from
- * the last of them and 1. Nothing is kept between pages; each builds its query anew, so have room for some hundred. */
-uint32_t birchagain_page(birchagain_index *index, uint32_t language, const uint8_t *query, size_t query_length, uint64_t from,
-                         uint64_t *out, size_t out_length, size_t *filled);
+/* Fills the front of `out` with the documents that match, by number upwards, from the number `from` on, as many as there
+ * is room for. Writes at `filled` how many these are: fewer than there is room for where there are no more. The next page
+ * is from the last of them and 1. Nothing is kept between pages; each builds its query anew, so have room for hundreds. */
+uint32_t birchagain_page(birchagain_index *index, uint32_t language, const uint8_t *query, size_t query_length,
+                         uint64_t from, uint64_t *out, size_t out_length, size_t *filled);
 
-/* Fills the fronts of `bytes` and `ends` with the words of a query that weigh anything, as `birchagain_frequencies` takes them:
- * all but the beginnings of others, in the order in which they stand, and each as often as it does. Writes at `bytes_filled`
- * how many bytes these are, and at `words` how many words. Neither is above `query_length`. Touches no index.
+/* Fills the fronts of `bytes` and `ends` with the words of a query that weigh anything, as `birchagain_frequencies` takes
+ * them: all but the beginnings of others, in the order in which they stand, and each as often as it does. Writes at
+ * `bytes_filled` how many bytes these are, and at `words` how many words. Neither is above `query_length`. Touches no index.
  * BIRCHAGAIN_NO_ROOM: then both numbers say how much room is wanted, and both arrays have what they had. */
 uint32_t birchagain_query_words(uint32_t language, const uint8_t *query, size_t query_length, uint8_t *bytes,
-                                size_t bytes_length, size_t *ends, size_t ends_length, size_t *bytes_filled, size_t *words);
+                                size_t bytes_length, size_t *ends, size_t ends_length, size_t *bytes_filled,
+                                size_t *words);
 
-/* Whether a query is understood. Where it answers BIRCHAGAIN_STRAY_ESCAPE or above, it writes at `place` how many bytes stand
- * before what isn't understood. Touches no index. */
+/* Whether a query is understood. Where it answers BIRCHAGAIN_STRAY_ESCAPE or above, it writes at `place` how many bytes
+ * stand before what isn't understood. Touches no index. */
 uint32_t birchagain_check_query(uint32_t language, const uint8_t *query, size_t query_length, size_t *place);
 
 /* What a word weighs that so many of the documents hold, by BM25: the natural logarithm of

@@ -26,9 +26,11 @@ static void holds(birchagain_index *index, uint64_t documents, uint64_t with_a, 
     else wrong += held[0] != 99 || held[1] != 99;
     if (done(birchagain_count(index, BIRCHAGAIN_TYPED, BYTES("\"b a\" OR d^2"), &found))) wrong += found != alive;
     else wrong += found != 99;
-    if (done(birchagain_top(index, BIRCHAGAIN_SCRIPT, BYTES("bool 0 2 ? term a ? term d"), best, 3, &filled))) wrong += filled != (alive < 3 ? alive : 3);
+    if (done(birchagain_top(index, BIRCHAGAIN_SCRIPT, BYTES("bool 0 2 ? term a ? term d"), best, 3, &filled)))
+        wrong += filled != (alive < 3 ? alive : 3);
     else wrong += filled != 99;
-    if (done(birchagain_page(index, BIRCHAGAIN_TYPED, BYTES("a-lon* d"), 1, page, 2, &paged))) wrong += page[0] < 1 || page[1] <= page[0] || paged > 2;
+    if (done(birchagain_page(index, BIRCHAGAIN_TYPED, BYTES("a-lon* d"), 1, page, 2, &paged)))
+        wrong += page[0] < 1 || page[1] <= page[0] || paged > 2;
     else wrong += page[0] != 99 || paged != 99;
 }
 
@@ -36,7 +38,8 @@ static void holds(birchagain_index *index, uint64_t documents, uint64_t with_a, 
 static void says(void) {
     uint8_t bytes[64] = "?";
     size_t ends[9], size = 99, words = 99, place = 99;
-    if (done(birchagain_query_words(BIRCHAGAIN_TYPED, BYTES("a AND (\"b c\" -d*)"), bytes, 64, ends, 9, &size, &words))) wrong += size != 3 || words != 3;
+    if (done(birchagain_query_words(BIRCHAGAIN_TYPED, BYTES("a AND (\"b c\" -d*)"), bytes, 64, ends, 9, &size, &words)))
+        wrong += size != 3 || words != 3;
     else wrong += size != 99 || words != 99 || bytes[0] != '?';
     done(birchagain_check_query(BIRCHAGAIN_SCRIPT, BYTES("bool 0 2 + term a ? boost 2 all"), &place));
     wrong += place != 99;

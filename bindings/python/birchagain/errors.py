@@ -35,8 +35,8 @@ class NoDocumentError(BirchagainError, IndexError):
 class QueryError(BirchagainError, ValueError):
     """The text of a query is not understood, or the query is refused.
 
-    `place` says how many characters stand before what isn't understood in a query of the typed language, and is None where
-    the query was refused for something else.
+    `place` says how many characters stand before what isn't understood in a query of the typed language, and is None
+    where the query was refused for something else.
     """
 
     def __init__(self, status: int, place: Optional[int] = None) -> None:

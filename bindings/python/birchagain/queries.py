@@ -61,8 +61,8 @@ def query_words(query: str, *, language: Language = "typed") -> List[str]:
 class Queries:
     """The calls of an `Index` that take a query.
 
-    A query is in the language that people type (docs/QUERIES.md), or with `language="script"` a `Q` of docs/SCRIPT.md. Its
-    words are taken letter by letter, and deleted documents are never found.
+    A query is in the language that people type (docs/QUERIES.md), or with `language="script"` a `Q` of docs/SCRIPT.md.
+    Its words are taken letter by letter, and deleted documents are never found.
     """
 
     # the same, since it needs no index
@@ -82,7 +82,8 @@ class Queries:
         return count.value
 
     def top(self, query: str, most: int = 10, *, language: Language = "typed") -> List[Hit]:
-        """The best documents that match a query, at most so many: by score downwards, and of one score by number upwards.
+        """The best documents that match a query, at most so many: by score downwards, and of one score by number
+        upwards.
 
         Raises `QueryError` where it is not understood, or is refused.
         """
@@ -91,11 +92,11 @@ class Queries:
         return [Hit(it.document, it.score) for it in out[: filled.value]]
 
     def page(self, query: str, first: int = 0, most: int = 1000, *, language: Language = "typed") -> List[int]:
-        """The documents that match a query, by number upwards from `first` on, at most so many. The next page begins one past
-        the last of them.
+        """The documents that match a query, by number upwards from `first` on, at most so many. The next page begins one
+        past the last of them.
 
-        Raises `QueryError` where it is not understood, or is refused, and `OverflowError` where `first` is not from 0 to
-        18446744073709551615.
+        Raises `QueryError` where it is not understood, or is refused, and `OverflowError` where `first` is not from 0
+        to 18446744073709551615.
         """
         if not 0 <= first < 1 << 64:
             raise OverflowError(f"the number {first} is not within 64 bits")
@@ -104,8 +105,8 @@ class Queries:
         return out[: filled.value]
 
     def search(self, query: str, *, language: Language = "typed", page: int = 1000) -> Iterator[int]:
-        """All documents that match a query, by number upwards. So many are asked for at once, when they are needed: documents
-        that are added or deleted meanwhile are found or not as the index then has them.
+        """All documents that match a query, by number upwards. So many are asked for at once, when they are needed:
+        documents that are added or deleted meanwhile are found or not as the index then has them.
 
         Raises `QueryError` where the query is not understood, or is refused, and `ValueError` for pages without room.
         """

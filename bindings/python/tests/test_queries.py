@@ -114,8 +114,10 @@ def test_pages():
 
 
 def test_words_of_a_query():
-    assert query_words('old +"apple  tree"~2 -(an old^2) nes* "in the nes"*') == ["old", "apple", "tree", "an", "old", "in", "the"]
-    assert query_words("bool 0 2 + term a - max 5 2 const 1 term é phrase 0 2 b b", language="script") == ["a", "é", "b", "b"]
+    typed = 'old +"apple  tree"~2 -(an old^2) nes* "in the nes"*'
+    assert query_words(typed) == ["old", "apple", "tree", "an", "old", "in", "the"]
+    script = "bool 0 2 + term a - max 5 2 const 1 term é phrase 0 2 b b"
+    assert query_words(script, language="script") == ["a", "é", "b", "b"]
     assert query_words("") == query_words("*") == query_words("a*") == query_words("all", language="script") == []
     long_word = "x" * 100_000
     assert query_words(f"{long_word} 漢") == [long_word, "漢"] and Index.query_words("a b") == ["a", "b"]

@@ -22,8 +22,8 @@ OPERANDS = [*WORDS, *WORDS, "ab*", "x*", "\\+c", '"a b"', '"b  a"~2', '"ab a"*',
 NAMES = [""] * 40 + ["t:"]
 # the statuses of bindings/c/birchagain.h in their order
 KINDS = [
-    *["StrayEscape", "OpenQuote", "OpenParenthesis", "StrayParenthesis", "TooDeep", "Wildcard", "Fuzzy", "SlopWithoutNumber"],
-    *["SlopTooGreat", "StrayBoost", "BoostWithoutNumber", "BoostNotWhole", "BoostTooGreat", "FieldWithoutName"],
+    *["StrayEscape", "OpenQuote", "OpenParenthesis", "StrayParenthesis", "TooDeep", "Wildcard", "Fuzzy"],
+    *["SlopWithoutNumber", "SlopTooGreat", "StrayBoost", "BoostWithoutNumber", "BoostNotWhole", "BoostTooGreat", "FieldWithoutName"],
     *["FieldWithoutValue", "AnyValue", "SignWithoutClause", "OperatorWithoutSide", "Range", "Set", "Regex", "Touching"],
 ]
 
@@ -37,7 +37,8 @@ def random_script(chance):
             script.segments.append([])
     documents = sum(map(len, script.segments))
     script.deleted = {it for it in range(documents) if chance.random() < 0.2}
-    script.weights = {("body", it): chance.choice([0, 1, 500, 3000, (1 << 63) - 1]) for it in chance.sample(WORDS, chance.randrange(4))}
+    weighed = chance.sample(WORDS, chance.randrange(4))
+    script.weights = {("body", it): chance.choice([0, 1, 500, 3000, (1 << 63) - 1]) for it in weighed}
     return script
 
 
@@ -78,8 +79,8 @@ def found_in(script, query):
     """The documents that match and weren't deleted, by the model."""
     searcher = script.searcher()
     tree = model.tree_of(query, searcher, False)
-    firsts = script.first_numbers()
-    return [first + it for first, segment in zip(firsts, searcher.segments) for it in segment.alive(model.matching(tree, segment))]
+    numbered = zip(script.first_numbers(), searcher.segments)
+    return [first + it for first, segment in numbered for it in segment.alive(model.matching(tree, segment))]
 
 
 def shown(hits):
@@ -95,7 +96,8 @@ def test_beside_the_model(seed):
             text = (typed.changed if number == 3 else typed.by_grammar)(chance, names=NAMES, operands=OPERANDS)
             most, page = chance.choice([0, 1, 3, 1000]), chance.choice([1, 2, 5, 1000])
             assert answered(index.count, text) == wanted(text, lambda query: len(found_in(script, query))), text
-            assert answered(lambda it: [*index.search(it, page=page)], text) == wanted(text, lambda query: found_in(script, query)), text
+            found = answered(lambda it: [*index.search(it, page=page)], text)
+            assert found == wanted(text, lambda query: found_in(script, query)), text
             best = wanted(text, lambda query: script.found("top", most, query)[0])
             assert shown(answered(index.top, text, most)) == best, text
             words = wanted(text, lambda query: [word for (_, word), _ in model.query_terms(query)])

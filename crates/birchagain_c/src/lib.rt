@@ -3,8 +3,8 @@
 //!
 //! A `Global` takes no bytes, so C passes nothing for it, and for a slice it passes a pointer and a length. The header
 //! `bindings/c/birchagain.h` says what a caller owes. A number of [`birchagain::Refusal::status`], or of
-//! [`birchagain_queries::QueryRefusal::status`], says why a call was refused, and 64 that the handle is empty; then what
-//! the index holds is as it was.
+//! [`birchagain_queries::QueryRefusal::status`], says why a call was refused, and 64 that the handle is empty; then
+//! what the index holds is as it was.
 #![tactic(auto)]
 
 mod documents;

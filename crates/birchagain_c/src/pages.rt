@@ -15,8 +15,8 @@ use qm_index::Index;
 use qm_script::page_hits;
 use std::alloc::Global;
 
-/// Fills the front of `out` with the documents that match and weren't deleted, ascending, from the number `from` on, and
-/// writes at `filled` how many these are. The next page begins one past the last of them.
+/// Fills the front of `out` with the documents that match and weren't deleted, ascending, from the number `from` on,
+/// and writes at `filled` how many these are. The next page begins one past the last of them.
 #[unsafe(no_mangle)]
 pub extern "C" fn birchagain_page(
     alloc: Global,

@@ -12,9 +12,9 @@ use crate::statuses::DONE;
 use birchagain_queries::{LaidWords, QueryRefusal, query_words};
 use std::alloc::Global;
 
-/// Fills the fronts of `bytes` and `ends` with the words of a query that weigh anything, one behind the other and where each
-/// ends; writes at `bytes_filled` how many bytes these are, and at `words` how many words. Where there is less room, both
-/// numbers are written, and the arrays are as they were.
+/// Fills the fronts of `bytes` and `ends` with the words of a query that weigh anything, one behind the other and where
+/// each ends; writes at `bytes_filled` how many bytes these are, and at `words` how many words. Where there is less
+/// room, both numbers are written, and the arrays are as they were.
 #[unsafe(no_mangle)]
 pub extern "C" fn birchagain_query_words(
     alloc: Global,
@@ -59,8 +59,8 @@ fn write_words(
     Ok(())
 }
 
-/// Whether a query is understood, as all calls that take one take it. Where its text is none of the typed language, writes at
-/// `place` how many bytes stand before what isn't understood.
+/// Whether a query is understood, as all calls that take one take it. Where its text is none of the typed language,
+/// writes at `place` how many bytes stand before what isn't understood.
 #[unsafe(no_mangle)]
 pub extern "C" fn birchagain_check_query(
     alloc: Global,

@@ -8,8 +8,8 @@ use qm_script::SpelledQuery;
 use std::alloc::{AllocError, Global};
 
 /// The words of a query that weigh anything, in the order in which they stand, and each as often as it does; those of a
-/// clause that must not match, too. They are the terms that [`qm_query::Query::query_terms`] calls for: all words, but for
-/// one that is the beginning of others. Costs a step for each.
+/// clause that must not match, too. They are the terms that [`qm_query::Query::query_terms`] calls for: all words, but
+/// for one that is the beginning of others. Costs a step for each.
 ///
 /// Refused for want of memory alone.
 pub fn query_words<'a>(alloc: Global, query: &'a SpelledQuery) -> Result<Vec<&'a str>, AllocError>

@@ -15,13 +15,13 @@ use qm_script::{SpelledQuery, Unparsed, parse_query_text};
 use std::alloc::Global;
 use std::str;
 
-/// The query that a text says, all of it, in a language. Words are taken as they stand: none is folded, and the text of a
-/// phrase is cut at ASCII spaces.
+/// The query that a text says, all of it, in a language. Words are taken as they stand: none is folded, and the text of
+/// a phrase is cut at ASCII spaces.
 ///
-/// Refused with [`QueryRefusal::NotUnderstood`] exactly where the text is not UTF-8, or is none of the language of scripts;
-/// with [`QueryRefusal::Untyped`] exactly where it is none of the typed language, by what isn't understood and its place;
-/// with [`QueryRefusal::NamesField`] exactly where it is one, and names a field; want of memory aside. Costs about as much as the
-/// text is long.
+/// Refused with [`QueryRefusal::NotUnderstood`] exactly where the text is not UTF-8, or is none of the language of
+/// scripts; with [`QueryRefusal::Untyped`] exactly where it is none of the typed language, by what isn't understood and
+/// its place; with [`QueryRefusal::NamesField`] exactly where it is one, and names a field; want of memory aside. Costs
+/// about as much as the text is long.
 pub fn query_of_text(
     alloc: Global,
     language: Language,

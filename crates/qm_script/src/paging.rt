@@ -84,7 +84,7 @@ impl Page {
         weight: &AnyWeight,
     ) -> Result<(), QueryError>
         requires few { document_count (segments_of segments.now) ≤ most_segments * TERMINATED }
-        requires open { length self.old.documents.items ≤ self.old.limit }
+        requires limited { length self.old.documents.items ≤ self.old.limit }
         ensures taken { OnOk result (Takes (alive_numbers (tree_of weight.now) (segments_of segments.now)) self.old self.new) }
     {
         let mut first: u64 = 0;
@@ -111,7 +111,7 @@ impl Page {
         requires few { first ≤ most_segments * TERMINATED }
         requires room { length segment.now.segment.documents ≤ TERMINATED }
         requires within { self.old.from < first + length segment.now.segment.documents }
-        requires open { length self.old.documents.items ≤ self.old.limit }
+        requires limited { length self.old.documents.items ≤ self.old.limit }
         ensures taken { OnOk result (Takes (numbers_in (tree_of weight.now) first segment.now.segment) self.old self.new) }
     {
         let mut scorer: AnyScorer<EmptyScorer> = weight.scorer(alloc, segment, 1)?;
@@ -131,7 +131,7 @@ impl Page {
         requires few { first ≤ most_segments * TERMINATED }
         requires placed { IsPlaced D.DocSet cursor.old }
         requires start { start ≤ TERMINATED }
-        requires open { length self.old.documents.items ≤ self.old.limit }
+        requires limited { length self.old.documents.items ≤ self.old.limit }
         ensures taken { OnOk result (Appends (alive_numbered segment.now.segment first (from start (D.entries cursor.old))) self.old self.new) }
     {
         let mut document = cursor.seek(start);

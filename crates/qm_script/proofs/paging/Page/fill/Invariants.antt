@@ -10,7 +10,7 @@ abbrev pub invariant-loop-segment : goal.invariant-loop-segment
 invariant-loop-segment l = record {
   first : l.self.from ≡ l.fn.self.from;
   limit : l.self.limit ≡ l.fn.self.limit;
-  open : length l.self.documents.items ≤ l.self.limit;
+  limited : length l.self.documents.items ≤ l.self.limit;
   room : l.first + document_count (map (λ r. r.segment) (drop l.segment-index l.segments)) ≡ document_count (map (λ r. r.segment) l.segments);
   left : take l.fn.self.limit (l.self.documents.items ++ filter (nat_le l.fn.self.from) (numbers_from (tree_of l.weight) l.first
       (map (λ r. r.segment) (drop l.segment-index l.segments))))

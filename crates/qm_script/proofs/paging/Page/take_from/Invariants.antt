@@ -8,7 +8,7 @@ abbrev pub invariant-loop-document : goal.invariant-loop-document
 invariant-loop-document g l = record {
   first : l.self.from ≡ l.fn.self.from;
   limit : l.self.limit ≡ l.fn.self.limit;
-  open : length l.self.documents.items ≤ l.self.limit;
+  limited : length l.self.documents.items ≤ l.self.limit;
   left : take l.fn.self.limit (l.self.documents.items ++ alive_numbered l.segment.segment l.first (g.D.DocSet.entries l.cursor))
       ≡ take l.fn.self.limit (l.fn.self.documents.items ++ alive_numbered l.segment.segment l.first (from l.start (g.D.DocSet.entries l.fn.cursor)));
   here : l.document ≡ head_document (g.D.DocSet.entries l.cursor);
