@@ -67,15 +67,15 @@ with Index(texts) as index:
 """
 # serves the notes of the repository by the package that is installed, and asks for what README asks the command
 SERVED = """
-import re, signal, subprocess, sys, urllib.request
+import re, subprocess, sys, urllib.request
 words = [sys.executable, "-m", "birchagain", "serve", f"{sys.argv[1]}/examples/notes", "--port", "0"]
 process = subprocess.Popen(words, stdout=subprocess.PIPE, text=True)
 process.stdout.readline()
 address = process.stdout.readline().split()[0]
 page = urllib.request.urlopen(f"{address}?q=%22old+apple%22+nest*").read().decode()
-process.send_signal(signal.SIGINT)
-if process.wait(60) == 0:
-    print(re.search("<h1>(.*?)</h1>", page)[1])
+process.terminate()
+process.wait(60)
+print(re.search("<h1>(.*?)</h1>", page)[1])
 """
 
 

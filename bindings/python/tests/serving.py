@@ -106,7 +106,10 @@ class Served:
 
     def __exit__(self, *_exception):
         self.process.send_signal(signal.SIGINT)
-        self.output, self.errors = self.process.communicate(timeout=60)
+        try:
+            self.output, self.errors = self.process.communicate(timeout=60)
+        finally:
+            self.process.kill()
 
     def ask(self, target, method="GET", body=None, **headers):
         """The status, the headers and the body that a request is answered by."""
@@ -130,4 +133,10 @@ def start(*words):
     path = os.pathsep.join([PACKAGE, *filter(None, [os.environ.get("PYTHONPATH")])])
     pipes = {"stdin": subprocess.DEVNULL, "stdout": subprocess.PIPE, "stderr": subprocess.PIPE, "text": True}
     environment = {**os.environ, "PYTHONPATH": path, "COLUMNS": "120", "PYTHONUNBUFFERED": "1"}
-    return subprocess.Popen([sys.executable, "-m", "birchagain", *words], env=environment, **pipes)
+    command = [sys.executable, "-m", "birchagain", *words]
+    return subprocess.Popen(command, env=environment, preexec_fn=_heed_interruptions, **pipes)
+
+
+def _heed_interruptions():
+    """Tests that run in the background of a shell are told to ignore what Ctrl-C sends; what they start must not."""
+    signal.signal(signal.SIGINT, signal.SIG_DFL)

@@ -35,9 +35,9 @@ def number(count: int) -> str:
     return f"{count:,}"
 
 
-def counted(count: int, one: str, more: Optional[str] = None) -> str:
+def counted(count: int, one: str) -> str:
     """So many of a thing."""
-    return f"{number(count)} {one if count == 1 else more or one + 's'}"
+    return f"{number(count)} {one}{'' if count == 1 else 's'}"
 
 
 def shown_path(path: str) -> Markup:
