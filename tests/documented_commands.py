@@ -1,6 +1,6 @@
 #!/usr/bin/env python3
-"""Whether what the documents show is so: runs each command of README.md, CONTRIBUTING.md and docs/ as it stands
-there, at the top of the repository.
+"""Whether what the documents show is so: runs each command of README.md, CONTRIBUTING.md, bench/README.md and docs/ as
+it stands there, at the top of the repository.
 
     python3 tests/documented_commands.py
 
@@ -39,6 +39,8 @@ NOT_RUN = {
     "python3 tests/wrong_bodies.py": "the gate runs it; it takes proofs",
     "python3 examples/measure_": "a measurement: it takes minutes, some of them a proof or valgrind",
     "python3 tests/store_costs.py": "a measurement: it takes minutes",
+    "bench/": "a measurement: it takes minutes; tests/bench_runs.py runs a small one",
+    "python3 bench/": "a measurement: it takes minutes",
     "python3 examples/many_documents.py": "a measurement, by the proved program",
     "(cd crates/": "it proves, or compiles, for minutes; the gate proves and runs all programs",
     "./birch --proved": "it proves, for an hour; tests/installed_runs.py runs it over a stand-in",
@@ -47,8 +49,8 @@ NOT_RUN = {
     "pip install": "tests/library_runs.py runs it, into a folder of its own",
     "cd crates/": "it proves, or compiles, for minutes; the gate proves and runs all programs",
 }
-NAMED = re.compile(r"`((?:bindings|crates|tests|docs|examples|cases|packaging)/[\w./+-]+|[A-Z]+\.md|crates\.txt|\.ci/run)`")
-COMMAND = re.compile(r"`((?:(?:python3|cd|out/|\./birch)[ \w]|make \w)[^`]*)`")
+NAMED = re.compile(r"`((?:bench|bindings|crates|tests|docs|examples|cases|packaging)/[\w./+-]+|[A-Z]+\.md|crates\.txt|\.ci/run)`")
+COMMAND = re.compile(r"`((?:(?:python3|cd|out/|\./birch|bench/run|bench/plot)[ \w]|make \w)[^`]*)`")
 STOOD_FOR = re.compile(r"(?<![A-Z])(CRATE|FILE|FOLDER|NAME|PATH|PROGRAM|TOPIC)(?![A-Z])")
 PROGRAM = "out/qm_search"
 # the runs so far, by their commands
@@ -56,7 +58,8 @@ RUNS, LOCK = {}, threading.Lock()
 
 
 def documents():
-    return ["README.md", "CONTRIBUTING.md", *sorted(f"docs/{it}" for it in os.listdir(f"{ROOT}/docs") if it.endswith(".md"))]
+    pages = sorted(f"docs/{it}" for it in os.listdir(f"{ROOT}/docs") if it.endswith(".md"))
+    return ["README.md", "CONTRIBUTING.md", "bench/README.md", *pages]
 
 
 def read(path):
