@@ -24,7 +24,7 @@ sys.path[:0] = [HERE, f"{HERE}/engines", f"{ROOT}/bindings/python"]
 
 from classes import CLASSES, queries
 from corpus import corpus
-from engine import OWN, Missing, of_python
+from engine import OWN, Missing, build_fts5, build_xapian, of_python
 from machine import load, machine
 from spoken import NotAsked, Parts
 
@@ -64,20 +64,31 @@ class Library:
         return len(self.index)
 
 
-def others(room):
-    """The engines that this Python has, and what to do least with each."""
-    found, lacking = {}, []
-    try:
-        from ask_xapian import Xapian
+def make_xapian(room):
+    from ask_xapian import Xapian
 
-        found["Xapian"] = Xapian(f"{room}/xapian")
-        found["Xapian"].least = lambda: found["Xapian"].base.get_doccount()
-    except ImportError:
-        lacking.append("Xapian is left out: Debian's python3-xapian is not installed.")
+    engine = Xapian(f"{room}/xapian")
+    engine.least = lambda: engine.base.get_doccount()
+    return engine
+
+
+def make_fts5(_room):
     from ask_fts5 import Fts5
 
-    found["FTS5"] = Fts5()
-    found["FTS5"].least = lambda: found["FTS5"].base.execute("select 1").fetchone()
+    engine = Fts5()
+    engine.least = lambda: engine.base.execute("select 1").fetchone()
+    return engine
+
+
+def others(room):
+    """The engines that this Python has, with their least call each, and why others are left out."""
+    found, lacking = {}, []
+    for name, check, make in (("Xapian", build_xapian, make_xapian), ("FTS5", build_fts5, make_fts5)):
+        try:
+            check(room)
+            found[name] = make(room)
+        except Missing as missing:
+            lacking.append(f"{name} is left out: {missing}.\n")
     return found, lacking
 
 
@@ -144,29 +155,30 @@ def compare(asked, folder, room):
     took = {name: seconds_of(lambda it=it: take_in(it, documents)) for name, it in engines.items()}
     took = {name: it / len(documents) * 1e6 for name, it in took.items()}
     drawn = {name: queries(name, given) for name in ASKED}
+    # C weighs no words
+    unweighed = measure({OWN: own}, drawn["any-2"], asked.rounds)[OWN]
     own.weigh(sorted({word for it in drawn.values() for text in it for word in text.split() if word.isalpha()}))
     table = {CLASSES[name].text: measure(engines, texts, asked.rounds) for name, texts in drawn.items()}
     print(f"{machine()}; load {before} before and {load()} behind.")
     print(f"{len(documents):,} documents; least of {asked.rounds} rounds.")
-    print("\n".join(lacking) + "\n| The best ten from Python | " + " | ".join(f"{it}, us" for it in engines) + " |")
+    print("".join(lacking) + "\n| The best ten from Python | " + " | ".join(f"{it}, us" for it in engines) + " |")
     print("|---" * (len(engines) + 1) + "|")
     for text, figures in table.items():
         row(text, figures, engines)
     row("a document taken in", took, engines)
-    least_calls(engines, drawn["any-2"], table, folder, room, given.path, asked.rounds)
+    c = from_c(folder, room, given.path, drawn["any-2"])
+    least_calls(engines, c, unweighed, asked.rounds)
 
 
-def least_calls(engines, texts, table, folder, room, path, rounds):
+def least_calls(engines, c, unweighed, rounds):
     own = engines[OWN]
     runs = {name: lambda it=it: [it.least() for _ in range(CALLS)] for name, it in engines.items()}
     runs["none"] = lambda: [own.top("none", 10) for _ in range(CALLS)]
     from_python = {name: it / CALLS * 1e6 for name, it in in_turn(runs, rounds).items()}
-    c = from_c(folder, room, path, texts)
     print("\n| A call | from C, us | from Python, us |\n|---|---|---|")
     print(f"| how many documents were added | {c['call']:.3f} | {from_python[OWN]:.3f} |")
     print(f"| the best ten of `none` | {c['query']:.3f} | {from_python['none']:.3f} |")
-    # (C has no words weighed)
-    print(f"| the best ten of {CLASSES['any-2'].text} | {c['best']:.1f} | {table[CLASSES['any-2'].text][OWN]:.1f} |")
+    print(f"| the best ten of {CLASSES['any-2'].text} | {c['best']:.1f} | {unweighed:.1f} |")
     for name in [it for it in engines if it != OWN]:
         print(f"| {name}'s least call | | {from_python[name]:.3f} |")
 

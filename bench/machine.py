@@ -15,11 +15,12 @@ def git(*words):
 def machine():
     """The processor, the day, and the commit, with a word where the crates are not as it has them."""
     with open("/proc/cpuinfo", encoding="utf-8") as it:
-        processor = re.search(r"model name\s*: (.*)", it.read())[1]
+        model = re.search(r"model name\s*: (.*)", it.read())
     today = date.today()
     changed = " with changes" if git("status", "--porcelain", "crates") else ""
     commit = git("rev-parse", "--short=8", "HEAD") or "unknown"
-    return f"{processor}, {os.cpu_count()} processors; {today.day} {today:%B} {today.year}; commit {commit}{changed}"
+    day = f"{today.day} {today:%B} {today.year}"
+    return f"{model[1] if model else 'unknown'}, {os.cpu_count()} processors; {day}; commit {commit}{changed}"
 
 
 def load():

@@ -72,8 +72,8 @@ class Bench:
         return same
 
     def turns(self, engine, lines):
-        """How often the lines are asked in a round, to take long enough. What is compiled as it runs, or made when it is
-        first wanted, has been by then."""
+        """How often the lines are asked in a round, to take long enough. What is compiled as it runs, or made when it
+        is first wanted, has been by then."""
         turns = 1
         while turns < MOST_TURNS:
             script = "".join(lines * turns).encode()
