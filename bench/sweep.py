@@ -3,11 +3,11 @@
 postings a run for the best scores, in mixed order and with the shortest documents first.
 
     python3 bench/sweep.py [--documents N] [--words N,..] [--proved PROGRAM | --program PROGRAM] [--alone]
-                           [--rounds N] [--least SECONDS] [--room FOLDER] [--json FILE]
+                           [--own-runs] [--rounds N] [--least SECONDS] [--room FOLDER] [--json FILE]
 
 Words are drawn even by the logarithm of their ranks. What is scored is told by the plain program (its runs by
-stretches) and, of its own documents, by examples/measure_pruning.py (the repository's runs). Prints tables, and writes
-what bench/plot draws.
+stretches) and, with `--own-runs`, by examples/measure_pruning.py (the repository's runs, over documents of its own),
+which is built in a minute. Prints tables, and writes what bench/plot draws.
 """
 
 import argparse
@@ -39,6 +39,7 @@ def options():
     asked.add_argument("--documents", type=int, default=100_000)
     asked.add_argument("--words", default=WORDS)
     asked.add_argument("--alone", action="store_true")
+    asked.add_argument("--own-runs", action="store_true")
     return asked.parse_args()
 
 
@@ -98,7 +99,7 @@ def print_tables(told, names):
             print(f"| any of {row['words']} words | " + " | ".join(figures) + " |")
     print("\n| Scored, of 100 postings | in mixed order | the shortest first |\n|---|---|---|")
     runs = {"plain Rust, by stretches": told["scored"], "birchagain, of other documents": told["scored by own"]}
-    for name, by in runs.items():
+    for name, by in ((name, it) for name, it in runs.items() if it):
         for mixed, length in zip(by["mixed"], by["length"]):
             print(f"| {mixed['words']} words, {name} | {100 * mixed['scored']:.1f} | {100 * length['scored']:.1f} |")
 
@@ -112,7 +113,7 @@ def main():
     told = {"documents": given.documents, "rows": measured(asked, words, given, queries)}
     orders = {"mixed": given.path, "length": given.by_length()}
     told["scored"] = {order: scored(asked, words[PLAIN], path, queries) for order, path in orders.items()}
-    told["scored by own"] = scored_by_own(given.documents)
+    told["scored by own"] = scored_by_own(given.documents) if asked.own_runs else None
     print(f"\n{machine()}; load {before} before and {load()} behind.")
     print(f"{given.documents:,} documents, made-up words; {built_as(asked)}; least of {asked.rounds} rounds.")
     print("\n".join(lacking))

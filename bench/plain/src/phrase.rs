@@ -15,24 +15,20 @@ pub fn phrase<S: Sink>(clauses: Vec<Clause>, phrase: &Phrase, lengths: &[u8], si
     let most = clauses[0].list.whole.frequency;
     let scorer = Scorer::new(phrase.weight, most, lengths);
     let mut all = Every::new(clauses, lengths.len());
-    let mut reached = vec![0; phrase.shifts.len()];
+    let mut lists = Vec::with_capacity(phrase.shifts.len());
     while let Some(part) = all.next_part() {
         if S::IS_SCORED && sink.threshold() >= 0 && scorer.bound(&all.rarest(&part)) <= sink.threshold() {
             continue;
         }
         all.find(part, true);
         for (place, &document) in all.documents.iter().enumerate() {
-            let positions = |number: usize| all.clauses[number].list.positions(all.postings[number][place] as usize);
-            let count = if phrase.shifts.len() == 2 && phrase.slop == 0 {
-                meetings(
-                    positions(0),
-                    positions(1),
-                    phrase.shifts[0],
-                    phrase.shifts[1],
-                    S::IS_SCORED,
-                )
+            lists.clear();
+            let clauses = all.clauses.iter().zip(&all.postings);
+            lists.extend(clauses.map(|(clause, postings)| clause.list.positions(postings[place] as usize)));
+            let count = if lists.len() == 2 && phrase.slop == 0 {
+                meetings(lists[0], lists[1], phrase.shifts[0], phrase.shifts[1], S::IS_SCORED)
             } else {
-                starts(positions, phrase, &mut reached, S::IS_SCORED)
+                starts(&mut lists, phrase, S::IS_SCORED)
             };
             if count > 0 {
                 sink.take(document, if S::IS_SCORED { scorer.score(document, count) } else { 1 });
@@ -59,17 +55,14 @@ fn meetings(one: &[u32], other: &[u32], shift: u32, other_shift: u32, all: bool)
 }
 
 /// How many times the phrase starts: each time the least of the next positions, where the greatest of them is near.
-fn starts<'b>(positions: impl Fn(usize) -> &'b [u32], phrase: &Phrase, reached: &mut [usize], all: bool) -> u32 {
-    reached.fill(0);
+fn starts(lists: &mut [&[u32]], phrase: &Phrase, all: bool) -> u32 {
     let mut count = 0;
     loop {
         let (mut least, mut greatest) = (u32::MAX, 0);
-        for (number, &at) in reached.iter().enumerate() {
-            let Some(position) = positions(number).get(at) else {
-                return count;
-            };
-            least = least.min(position + phrase.shifts[number]);
-            greatest = greatest.max(position + phrase.shifts[number]);
+        for (list, shift) in lists.iter().zip(&phrase.shifts) {
+            let Some(position) = list.first() else { return count };
+            least = least.min(position + shift);
+            greatest = greatest.max(position + shift);
         }
         if greatest - least <= phrase.slop {
             count += 1;
@@ -77,8 +70,8 @@ fn starts<'b>(positions: impl Fn(usize) -> &'b [u32], phrase: &Phrase, reached: 
                 return count;
             }
         }
-        for (number, at) in reached.iter_mut().enumerate() {
-            *at += (positions(number)[*at] + phrase.shifts[number] == least) as usize;
+        for (list, shift) in lists.iter_mut().zip(&phrase.shifts) {
+            *list = &list[(list[0] + shift == least) as usize..];
         }
     }
 }
