@@ -50,12 +50,11 @@ def build_lucene(room):
         raise Missing("Debian's liblucene8-java is not installed")
     if not (shutil.which("javac") and shutil.which("java")):
         raise Missing("there is no javac or java")
-    classes, folder = f"{room}/lucene", f"{room}/lucene-index"
+    classes = f"{room}/lucene"
     words = ["javac", "-cp", ":".join(jars), "-d", classes, f"{HERE}/engines/AskLucene.java"]
     if subprocess.run(words, check=False).returncode:
         raise SystemExit("bench: bench/engines/AskLucene.java was not built")
-    shutil.rmtree(folder, ignore_errors=True)
-    return ["java", "-Xmx4g", "-cp", ":".join([*jars, classes]), "AskLucene", folder]
+    return ["java", "-Xmx4g", "-cp", ":".join([*jars, classes]), "AskLucene", classes]
 
 
 def of_python(module, package):

@@ -4,11 +4,14 @@ import java.io.IOException;
 import java.io.InputStreamReader;
 import java.io.OutputStreamWriter;
 import java.nio.charset.StandardCharsets;
+import java.nio.file.Files;
+import java.nio.file.Path;
 import java.nio.file.Paths;
 import java.util.ArrayList;
 import java.util.Arrays;
 import java.util.Iterator;
 import java.util.List;
+import java.util.stream.Stream;
 import org.apache.lucene.analysis.core.WhitespaceAnalyzer;
 import org.apache.lucene.document.Document;
 import org.apache.lucene.document.Field;
@@ -35,19 +38,19 @@ import org.apache.lucene.search.TermQuery;
 import org.apache.lucene.store.MMapDirectory;
 
 /**
- * Lucene (Debian's liblucene8-java): answers scripts as the program qm_search does. The index stands in the folder that
- * it is given, in one segment, whose documents keep their order.
+ * Lucene (Debian's liblucene8-java): answers scripts as the program qm_search does. The index stands in a folder of its
+ * own below the one that is named, in one segment, whose documents keep their order, and goes at the end.
  */
 public final class AskLucene {
     private static final String FIELD = "words";
     private final IndexWriter writer;
     private IndexSearcher searcher;
 
-    private AskLucene(String folder) throws IOException {
+    private AskLucene(Path folder) throws IOException {
         IndexWriterConfig how = new IndexWriterConfig(new WhitespaceAnalyzer());
         how.setMergePolicy(new LogDocMergePolicy()).setMergeScheduler(new SerialMergeScheduler());
         how.setRAMBufferSizeMB(256);
-        writer = new IndexWriter(new MMapDirectory(Paths.get(folder)), how);
+        writer = new IndexWriter(new MMapDirectory(folder), how);
         build();
     }
 
@@ -170,7 +173,8 @@ public final class AskLucene {
 
     public static void main(String[] words) throws IOException {
         BooleanQuery.setMaxClauseCount(1 << 20);
-        AskLucene engine = new AskLucene(words[0]);
+        Path folder = Files.createTempDirectory(Paths.get(words[0]), "index");
+        AskLucene engine = new AskLucene(folder);
         BufferedReader in = new BufferedReader(new InputStreamReader(System.in, StandardCharsets.UTF_8), 1 << 16);
         BufferedWriter out = new BufferedWriter(new OutputStreamWriter(System.out, StandardCharsets.UTF_8), 1 << 16);
         boolean isBuilt = true;
@@ -193,5 +197,10 @@ public final class AskLucene {
             }
         }
         out.flush();
+        engine.writer.rollback();
+        try (Stream<Path> files = Files.list(folder)) {
+            files.forEach(file -> file.toFile().delete());
+        }
+        Files.delete(folder);
     }
 }
