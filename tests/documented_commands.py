@@ -50,7 +50,7 @@ NOT_RUN = {
     "cd crates/": "it proves, or compiles, for minutes; the gate proves and runs all programs",
 }
 NAMED = re.compile(r"`((?:bindings|crates|tests|docs|examples|bench|packaging)/[\w./+-]+|[A-Z]+\.md|crates\.txt|\.ci/run)`")
-COMMAND = re.compile(r"`((?:(?:python3|cd|out/|\./birch)[ \w]|make \w)[^`]*)`")
+COMMAND = re.compile(r"`((?:(?:python3|cd|out/|\./birch|bench/run|bench/plot)[ \w]|make \w)[^`]*)`")
 STOOD_FOR = re.compile(r"(?<![A-Z])(CRATE|FILE|FOLDER|NAME|PATH|PROGRAM|TOPIC)(?![A-Z])")
 PROGRAM = "out/qm_search"
 # the runs so far, by their commands
