@@ -20,7 +20,7 @@ import tempfile
 
 sys.dont_write_bytecode = True
 
-from library_header import declared, differ_in_python, exported, unlike_statuses
+from library_header import declared, differ_in_python, exported, unlike_statuses, unlike_texts
 from program_runs.report import Report
 
 ROOT = os.path.realpath(os.path.join(os.path.dirname(os.path.abspath(__file__)), ".."))
@@ -38,9 +38,12 @@ owl: in 0 of 3, weighs 2079
 EXAMPLE = f"""{WEIGHED}188  an old apple tree
 94  an apple a day
 78  woodpeckers nest in old trees
+tre*: an old apple tree
+tre*: woodpeckers nest in old trees
 """
 IN_RUST = f"""{WEIGHED}188  an old apple tree
 78  woodpeckers nest in old trees
+the quote isn't ended (at byte 4)
 the weight is below 0
 """
 # prints the same by the package that is installed
@@ -52,15 +55,21 @@ with Index(texts) as index:
     for word, held in zip(words, index.frequencies(words)):
         print(f"{word}: in {held} of {len(index)}, weighs {rarity(len(index), held)}")
     index.weigh_by_rarity(words)
-    for hit in index.top("bool 0 2 ? term old ? term apple"):
+    for hit in index.top("old apple"):
         print(f"{hit.score}  {texts[hit.document]}")
+    for document in index.search("tre*"):
+        print(f"tre*: {texts[document]}")
 """
+
+
+def read(path):
+    with open(path, encoding="utf-8") as it:
+        return it.read()
 
 
 def shown_in_readme():
     """What README's lines of Python print, and the lines."""
-    with open(f"{ROOT}/README.md", encoding="utf-8") as it:
-        program, printed = re.search(r"```python\n(.*?)```\n\n```\n(.*?)```", it.read(), re.S).groups()
+    program, printed = re.search(r"```python\n(.*?)```\n\n```\n(.*?)```", read(f"{ROOT}/README.md"), re.S).groups()
     return printed, program
 
 
@@ -96,17 +105,20 @@ class Runs:
 
     def header(self):
         """What the header and the package declare is what the library exports."""
-        with open(f"{C}/birchagain.h", encoding="utf-8") as it, open(f"{ROOT}/crates/birchagain/src/refusal.rt", encoding="utf-8") as other:
-            header, refusals = it.read(), other.read()
+        header = read(f"{C}/birchagain.h")
+        refusals = "".join(read(f"{ROOT}/crates/{it}/src/refusal.rt") for it in ("birchagain", "birchagain_queries"))
+        kinds = read(f"{ROOT}/crates/qm_parser/src/refusal_kind.rt")
         exports = exported(f"{ROOT}/crates/birchagain_c")
         os.environ["BIRCHAGAIN_LIBRARY"] = f"{self.folder}/libbirchagain.so"
         sys.path.insert(0, PYTHON)
-        from birchagain import _library
+        from birchagain import BirchagainError, _library
 
-        self.count += 4
+        self.count += 5
         self.report.expect_same("what the header declares", exports, declared(header))
         self.report.expect_same("what the package declares otherwise", [], differ_in_python(exports, _library))
         self.report.expect_same("refusals without their status", [], unlike_statuses(header, refusals))
+        told = unlike_texts(header, kinds, lambda status: str(BirchagainError(status)))
+        self.report.expect_same("what is said of a typed query", [], told)
         _, symbols = self.run("nm", "-D", "--defined-only", f"{self.folder}/libbirchagain.so")
         self.report.expect_same("what the shared library has", sorted(exports), sorted(re.findall(r" T (\w+)", symbols)))
 

@@ -25,6 +25,9 @@ class Hit(ctypes.Structure):
 _INDEX = ctypes.POINTER(Handle)
 _BYTES = (ctypes.c_char_p, ctypes.c_size_t)
 _ROOM = (ctypes.c_void_p, ctypes.c_size_t)
+# the number of its language, and its text
+_QUERY = (ctypes.c_uint32, *_BYTES)
+_COUNT = ctypes.POINTER(ctypes.c_size_t)
 _WORDS = (*_BYTES, ctypes.c_void_p, ctypes.c_size_t)
 
 
@@ -44,7 +47,10 @@ refresh = _call("refresh", _INDEX)
 documents = _call("documents", _INDEX, ctypes.POINTER(ctypes.c_uint64))
 weigh = _call("weigh", _INDEX, *_BYTES, ctypes.c_int64)
 frequencies = _call("frequencies", _INDEX, *_WORDS, *_ROOM)
-count = _call("count", _INDEX, *_BYTES, ctypes.POINTER(ctypes.c_uint64))
-top = _call("top", _INDEX, *_BYTES, *_ROOM, ctypes.POINTER(ctypes.c_size_t))
+count = _call("count", _INDEX, *_QUERY, ctypes.POINTER(ctypes.c_uint64))
+top = _call("top", _INDEX, *_QUERY, *_ROOM, _COUNT)
+page = _call("page", _INDEX, *_QUERY, ctypes.c_uint64, *_ROOM, _COUNT)
+query_words = _call("query_words", *_QUERY, *_ROOM, *_ROOM, _COUNT, _COUNT)
+check_query = _call("check_query", *_QUERY, _COUNT)
 rarity = _call("rarity", ctypes.c_uint64, ctypes.c_uint64, result=ctypes.c_uint64)
 status_text = _call("status_text", ctypes.c_uint32, *_ROOM, result=ctypes.c_size_t)

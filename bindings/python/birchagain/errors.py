@@ -1,12 +1,13 @@
 """Why a call was refused."""
 
 import ctypes
+from typing import Optional
 
 from . import _library
 
 _NO_MEMORY, _EMPTY, NO_DOCUMENT = 13, 64, 67
 # what the text of a query may be refused for
-_QUERY = (1, 2, 8, 9, 65)
+_QUERY = (1, 2, 8, 9, 65, 80, 81, 82)
 _ROOM = 256
 
 
@@ -32,7 +33,20 @@ class NoDocumentError(BirchagainError, IndexError):
 
 
 class QueryError(BirchagainError, ValueError):
-    """The text of a query is not understood, or the query is refused."""
+    """The text of a query is not understood, or the query is refused.
+
+    `place` says how many characters stand before what isn't understood in a query of the typed language, and is None where
+    the query was refused for something else.
+    """
+
+    def __init__(self, status: int, place: Optional[int] = None) -> None:
+        super().__init__(status)
+        self.place = place
+        if place is not None:
+            self.args = (f"{self.args[0]} (at character {place})",)
+
+    def __reduce__(self):
+        return type(self), (self.status, self.place)
 
 
 class WordError(BirchagainError, ValueError):

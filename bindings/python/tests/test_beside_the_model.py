@@ -106,8 +106,8 @@ class Beside:
     def search(self):
         for _ in range(3):
             query, most = self.query(self.chance.choice([0, 1, 2])), self.chance.choice([0, 1, 3, 1000])
-            self.ask("count", lambda: str(self.index.count(query)), query)
-            self.ask(f"top {most}", lambda: " ".join(f"{it.document}:{it.score}" for it in self.index.top(query, most)), query)
+            self.ask("count", lambda: str(self.index.count(query, language="script")), query)
+            self.ask(f"top {most}", lambda: " ".join(f"{it.document}:{it.score}" for it in self.index.top(query, most, language="script")), query)
 
     def step(self):
         calls = {self.add: 60, self.delete: 10, self.count_words: 5, self.refuse: 2, self.end_segment: 3, self.index.refresh: 5}

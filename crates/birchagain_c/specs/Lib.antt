@@ -1,4 +1,4 @@
 pub mod Statuses
 pub mod Held
 pub mod Frequencies
-pub mod Queries
+pub mod QueryTexts

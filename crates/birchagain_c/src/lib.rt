@@ -9,6 +9,7 @@
 mod documents;
 mod lifetime;
 mod queries;
+mod query_texts;
 mod statuses;
 mod words;
 
@@ -17,6 +18,7 @@ pub use documents::{
     birchagain_end_segment, birchagain_refresh,
 };
 pub use lifetime::{birchagain_free, birchagain_open};
-pub use queries::{birchagain_count, birchagain_top};
+pub use queries::{birchagain_count, birchagain_page, birchagain_top};
+pub use query_texts::{birchagain_check_query, birchagain_query_words};
 pub use statuses::birchagain_status_text;
 pub use words::{birchagain_frequencies, birchagain_rarity, birchagain_weigh};

@@ -2,9 +2,10 @@
 
 ghost use Rattle.std.specs.Prelude.{◌≡◌, ◌<◌, ◌≢◌, ◌++◌, ℕ, List, drop, length, min, take};
 ghost use Rattle.birchagain.specs.Statuses.{status_of};
-ghost use Rattle.birchagain_c.specs.Statuses.{status_after};
+ghost use Rattle.birchagain_c.specs.Statuses.{status_after, status_after_query};
 
 use birchagain::{Refusal, status_text};
+use birchagain_queries::{QueryRefusal, query_status_text};
 
 /// The call has done what it was asked.
 pub(crate) const DONE: u32 = 0;
@@ -22,14 +23,32 @@ pub(crate) fn status_after(done: Result<(), Refusal>) -> u32
     }
 }
 
+/// The same of a call that takes a query.
+pub(crate) fn status_after_query(done: Result<(), QueryRefusal>) -> u32
+    ensures { result ≡ status_after_query done }
+{
+    match done {
+        Ok(()) => DONE,
+        Err(refusal) => refusal.status(),
+    }
+}
+
 /// Writes what a status says at the front of `out`, as far as there is room for it, and answers how many bytes all of
 /// it has. There is no zero byte behind it.
 #[unsafe(no_mangle)]
 pub extern "C" fn birchagain_status_text(status: u32, out: &mut [u8]) -> usize
     ensures { (text : List ℕ) × (length text ≡ result) × (out.new ≡ take (length out.old) text ++ drop result out.old) }
 {
-    let text = status_text(status).as_bytes();
+    let text = text_of(status).as_bytes();
     let count = text.len().min(out.len());
     out[..count].copy_from_slice(&text[..count]);
     text.len()
+}
+
+// What a status says.
+fn text_of(status: u32) -> &'static str {
+    match query_status_text(status) {
+        Some(text) => text,
+        None => status_text(status),
+    }
 }
