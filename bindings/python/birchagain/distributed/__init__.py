@@ -16,6 +16,6 @@ from .engine import Engine
 from .engine_processes import Processes
 from .errors import LogError, PartitionError
 from .merging import merge
-from .sources import Texts
+from .sources import Source, Stored, Texts
 
-__all__ = ["Cluster", "Engine", "LogError", "PartitionError", "Processes", "Texts", "merge"]
+__all__ = ["Cluster", "Engine", "LogError", "PartitionError", "Processes", "Source", "Stored", "Texts", "merge"]

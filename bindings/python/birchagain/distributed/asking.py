@@ -15,6 +15,8 @@ from .partition import ABSENT, BEHIND, DONE, FAILED, REFUSED
 
 # so often it is looked whether more is to be done than to listen, in seconds
 _LOOK = 0.05
+# so long it waits for an engine at once
+_WAIT = 1.0
 # a worker is late that takes so many times as long as the slowest one that has answered
 _TIMES = 2.0
 _NUMBERS = count()
@@ -102,9 +104,13 @@ class Asking:
     def _listen(self, missing: Sequence[Held]) -> None:
         busy = self._lines.busy()
         if not busy:
+            if any(self._choose(it, {}) for it in missing):
+                return
             unmade = [copy for held in missing for copy in held.copies if copy.look() is None and copy.error is None]
             if unmade:
-                self._engine.wait([it.handle for it in unmade], min(1.0, self._give_up))
+                self._engine.wait([it.handle for it in unmade], min(_WAIT, self._give_up))
+            else:
+                time.sleep(_LOOK)
             return
         for line in ready(busy, self._until(busy)):
             try:

@@ -23,9 +23,9 @@ class Move(NamedTuple):
 def plan(held: Sequence[Sequence[str]], sizes: Sequence[int], workers: Sequence[str], copies: int) -> List[Move]:
     """The moves after which each partition has its copies on different workers, and all hold about as much.
 
-    `held` has for each partition the workers that hold its copies, one among them as often as it holds copies. Workers
-    that are not among `workers` are gone, and so is what they held. There are never more copies than workers. Costs
-    each move a look at all copies.
+    `held` has for each partition the workers that hold its copies, one among them as often as it holds copies. What is
+    not on one of `workers` is being made, nobody knows where: it counts as a copy, and stays. There are never more
+    copies than workers. Costs each move a look at all copies.
     """
     layout = _Layout(held, sizes, workers)
     if workers:
@@ -41,15 +41,19 @@ class _Layout:
         self.sizes = sizes
         self.moves: List[Move] = []
         self.held = [[it for it in copies if it in workers] for copies in held]
+        self.being_made = [len(copies) - len(there) for copies, there in zip(held, self.held)]
         # ties are decided by the order of the workers, so that a plan is the same each time
         self.loads: Dict[str, int] = {worker: 0 for worker in workers}
-        for partition, copies in enumerate(self.held):
-            for worker in copies:
+        for partition, there in enumerate(self.held):
+            for worker in there:
                 self.loads[worker] += self.weight(partition)
 
     def weight(self, partition: int) -> int:
         # an empty partition takes a place too
         return self.sizes[partition] + 1
+
+    def copies(self, partition: int) -> int:
+        return len(self.held[partition]) + self.being_made[partition]
 
     def move(self, partition: int, leaves: Optional[str], to: Optional[str]) -> None:
         if leaves is not None:
@@ -67,17 +71,19 @@ class _Layout:
     def spread(self, copies: int) -> None:
         """Makes what is missing, and parts copies that are on one worker; the largest partitions go first."""
         for partition in sorted(range(len(self.held)), key=lambda it: -self.sizes[it]):
-            while len(self.held[partition]) > copies:
-                self.move(partition, max(self.held[partition], key=self.crowd(partition)), None)
+            # (what is being made does not answer yet, so one that does stays)
+            while self.copies(partition) > copies and len(self.held[partition]) > 1:
+                self.move(partition, self.most_crowded(partition), None)
             for worker, count in Counter(self.held[partition]).items():
                 for _ in range(count - 1):
                     self.move(partition, worker, self.emptiest_without(partition))
-            while len(self.held[partition]) < copies:
+            while self.copies(partition) < copies:
                 self.move(partition, None, self.emptiest_without(partition))
 
-    def crowd(self, partition: int):
-        """How little a copy of it is wanted on a worker: where there is another, and then by load."""
-        return lambda worker: (self.held[partition].count(worker), self.loads[worker])
+    def most_crowded(self, partition: int) -> str:
+        """The worker that can best do without a copy of it: where there is another, and then by load."""
+        there = self.held[partition]
+        return max(there, key=lambda worker: (there.count(worker), self.loads[worker]))
 
     def even_out(self) -> None:
         """Moves copies from the fullest worker to the emptiest, as long as one makes both more alike. Each move makes
@@ -85,7 +91,7 @@ class _Layout:
         while True:
             fullest, emptiest = max(self.loads, key=self.loads.__getitem__), min(self.loads, key=self.loads.__getitem__)
             gap = self.loads[fullest] - self.loads[emptiest]
-            movable = [it for it, copies in enumerate(self.held) if fullest in copies and emptiest not in copies]
+            movable = [it for it, there in enumerate(self.held) if fullest in there and emptiest not in there]
             movable = [it for it in movable if self.weight(it) <= SHARE * gap]
             if not movable:
                 return

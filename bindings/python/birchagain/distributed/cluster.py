@@ -30,6 +30,8 @@ _WORDS_KEPT = 1 << 20
 _LOOK_EVERY = 5.0
 # so long it waits for an engine at once
 _WAIT = 1.0
+# so long it waits for a first worker at once
+_PAUSE = 0.1
 _KEY_BYTES = 32
 
 
@@ -118,6 +120,10 @@ class Cluster:
             while not held.look():
                 if time.monotonic() > end:
                     raise PartitionError(held.number, f"not made within {self._give_up:g} seconds")
+                if not held.copies:
+                    # (there was no worker)
+                    time.sleep(_PAUSE)
+                    self._follow_plan()
                 self._engine.wait([it.handle for it in held.copies if it.error is None], _WAIT)
             held.first = self._documents
             self._documents += held.documents or 0

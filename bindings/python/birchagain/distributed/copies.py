@@ -61,15 +61,19 @@ class Held:
     def look(self) -> List[Copy]:
         """The copies whose places are known.
 
-        Raises `PartitionError` where none could be made, or where one has not as many documents as another.
+        Raises `PartitionError` where none could be made, or none with as many documents as it had at first.
         """
-        found = [it for it in self.copies if it.look()]
+        found = [it for it in self.copies if it.look() and self._is_whole(it)]
         if self.copies and all(it.error for it in self.copies):
             raise self.copies[0].error  # type: ignore
-        for place in [it.place for it in found if it.place]:
-            if self.documents is None:
-                self.documents = place.documents
-            if place.documents != self.documents:
-                said = f"{self.source!r} has given {self.documents} documents, and then {place.documents}"
-                raise PartitionError(self.number, said)
         return found
+
+    def _is_whole(self, copy: Copy) -> bool:
+        """Whether it has the partition's documents: a source that gives others by now is of no use."""
+        assert copy.place is not None
+        if self.documents is None:
+            self.documents = copy.place.documents
+        if copy.place.documents != self.documents:
+            said = f"{self.source!r} has given {self.documents} documents, and then {copy.place.documents}"
+            copy.error, copy.place = PartitionError(self.number, said), None
+        return copy.error is None

@@ -18,6 +18,8 @@ from .partition import Place, Recipe
 
 # so often a partition is made once more where processes ended that were making it
 _TRIES = 3
+# so many seconds a process has until it says something for the first time
+_STARTING = 120.0
 # a process that ends at once is started again after so many seconds
 _PAUSE = 0.5
 _PROGRAM = ("-m", "birchagain.distributed.worker")
@@ -117,7 +119,7 @@ class _Worker:
         """Starts the process, which makes all that this worker holds."""
         words = [*self._words, *_PROGRAM, self._host]
         self.process = subprocess.Popen(words, stdin=subprocess.PIPE, stdout=subprocess.PIPE, env=_environment())
-        for handle in self.handles.values():
+        for handle in [it for it in self.handles.values() if it.said is None]:
             handle.place = None
             self._tell("make", handle)
         return self.process
@@ -152,7 +154,7 @@ class _Worker:
         """Hears the process until it ends, and starts it again unless it is to end."""
         while True:
             began = time.monotonic()
-            self._hear()
+            is_ended = self._hear()
             self.process.kill()
             self.process.wait()
             self.process.stdout.close()
@@ -160,11 +162,23 @@ class _Worker:
             if time.monotonic() - began < _PAUSE:
                 time.sleep(_PAUSE)
             with self._changed:
-                if self._is_ending:
-                    return
-                self._count_ends()
-                self._begin()
-                self._changed.notify_all()
+                if is_ended:
+                    self._count_ends()
+            while not self._is_begun_again():
+                time.sleep(_PAUSE)
+            if self._is_ending:
+                return
+
+    def _is_begun_again(self) -> bool:
+        """Starts it again, unless it is to end. Where there is no memory or no process for it, there may be later."""
+        with self._changed:
+            try:
+                if not self._is_ending:
+                    self._begin()
+            except OSError:
+                return False
+            self._changed.notify_all()
+            return True
 
     def _close_input(self) -> None:
         try:
@@ -179,21 +193,28 @@ class _Worker:
             if handle.tries > _TRIES and handle.said is None:
                 handle.said = f"{handle.recipe.source!r}: {handle.tries} processes ended while they made it"
 
-    def _hear(self) -> None:
-        """Until the process ends, or says nothing for too long."""
-        heard, out = b"", self.process.stdout.fileno()
-        while select.select([out], [], [], self._silence)[0]:
+    def _hear(self) -> bool:
+        """Until the process ends, or says nothing for too long; whether it has ended."""
+        heard, out, patience = b"", self.process.stdout.fileno(), _STARTING
+        while select.select([out], [], [], patience)[0]:
+            patience = self._silence
             chunk = os.read(out, 1 << 16)
             if not chunk:
-                return
+                return True
             *lines, heard = (heard + chunk).split(b"\n")
             with self._changed:
                 for line in lines:
-                    self._note(json.loads(line))
+                    self._note(line)
                 self._changed.notify_all()
+        return False
 
-    def _note(self, said: Dict[str, Any]) -> None:
-        handle = self.handles.get(said.get("name", ""))
+    def _note(self, line: bytes) -> None:
+        try:
+            said = json.loads(line)
+            handle = self.handles.get(said.get("name", ""))
+        except (ValueError, AttributeError):
+            # (a shell on the way may say something of its own)
+            return
         if handle is None:
             return
         if "failed" in said:

@@ -5,11 +5,11 @@ from __future__ import annotations
 import socket
 import threading
 import time
-from typing import Any, Callable
+from typing import Any, Callable, List
 
 from .wire import BROKEN, Wire
 
-# so many connections at most that have not shown the key yet, and so long each
+# so many connections at most that have not shown the key yet: where there are more, the oldest goes. So long each has
 _UNKNOWN, _GREETING = 64, 10.0
 # so long a coordinator may take to take an answer
 _SENDING = 60.0
@@ -20,7 +20,7 @@ _PAUSE = 0.05
 class Listener:
     """Answers whoever has the key, each connection in a thread of its own, one question after another.
 
-    `answer` makes an answer of a question; what it raises ends the connection.
+    `answer` makes an answer of a question. What is no question ends its connection.
     """
 
     def __init__(self, host: str, key: bytes, answer: Callable[[Any], Any]) -> None:
@@ -28,7 +28,8 @@ class Listener:
         self._socket = socket.create_server((host, 0), family=family, backlog=_UNKNOWN)
         self.address = self._socket.getsockname()[:2]
         self._key, self._answer = key, answer
-        self._unknown = threading.Semaphore(_UNKNOWN)
+        self._unknown: List[Wire] = []
+        self._lock = threading.Lock()
         threading.Thread(target=_accept, args=(self._socket, self._take), daemon=True).start()
 
     def close(self) -> None:
@@ -41,15 +42,22 @@ class Listener:
         self._socket.close()
 
     def _take(self, connected: socket.socket) -> None:
-        if not self._unknown.acquire(blocking=False):
-            connected.close()
-            return
+        wire = Wire(connected, _GREETING)
+        with self._lock:
+            self._unknown.append(wire)
+            oldest = self._unknown.pop(0) if len(self._unknown) > _UNKNOWN else None
+        if oldest is not None:
+            oldest.hang_up()
         try:
-            threading.Thread(target=self._serve, args=(Wire(connected, _GREETING),), daemon=True).start()
-        except BaseException:
-            self._unknown.release()
-            connected.close()
+            threading.Thread(target=self._serve, args=(wire,), daemon=True).start()
+        except RuntimeError:
+            self._forget(wire)
             raise
+
+    def _forget(self, wire: Wire) -> None:
+        with self._lock:
+            if wire in self._unknown:
+                self._unknown.remove(wire)
 
     def _serve(self, wire: Wire) -> None:
         try:
@@ -74,7 +82,7 @@ class Listener:
             return False
         finally:
             late.cancel()
-            self._unknown.release()
+            self._forget(wire)
 
 
 def _accept(listening: socket.socket, take: Callable[[socket.socket], None]) -> None:

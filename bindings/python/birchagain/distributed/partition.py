@@ -109,14 +109,17 @@ class _Door:
 
 
 class _Answering:
-    """Answers questions to several partitions."""
+    """Answers questions to several partitions. Raises an `OSError` for what is no question."""
 
     def __init__(self, partitions: weakref.WeakValueDictionary) -> None:
         self._partitions = partitions
 
     def __call__(self, question: Dict[str, Any]) -> Dict[str, Any]:
-        asked = question["asked"]
-        return {"id": question["id"], "answers": [self._one(asked, *it) for it in question["copies"]]}
+        try:
+            number, asked, copies = question["id"], question["asked"], question["copies"]
+            return {"id": number, "answers": [self._one(asked, *it) for it in copies]}
+        except (KeyError, TypeError) as error:
+            raise OSError(f"no question: {error!r}") from None
 
     def _one(self, asked: Dict[str, Any], name: str, since: int, deleted: List[int]) -> Tuple[str, Any]:
         partition = self._partitions.get(name)

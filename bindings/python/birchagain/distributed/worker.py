@@ -11,6 +11,7 @@ import os
 import pickle
 import sys
 import threading
+import time
 from queue import SimpleQueue
 from typing import Any, Dict
 
@@ -60,18 +61,19 @@ class Worker:
                 self._held.pop(name, None)
 
 
-def beat(worker: Worker, over: threading.Event) -> None:
-    while not over.wait(_BEAT):
+def beat(worker: Worker) -> None:
+    while True:
         worker.say()
+        time.sleep(_BEAT)
 
 
 def main() -> None:
     # what a source prints is no answer
     said = os.fdopen(os.dup(1), "wb")
     os.dup2(2, 1)
-    worker, commands, over = Worker(sys.argv[1], said), SimpleQueue(), threading.Event()
-    for target, arguments in ((worker.work, (commands,)), (beat, (worker, over))):
-        threading.Thread(target=target, args=arguments, daemon=True).start()
+    worker, commands = Worker(sys.argv[1], said), SimpleQueue()
+    threading.Thread(target=beat, args=(worker,), daemon=True).start()
+    threading.Thread(target=worker.work, args=(commands,), daemon=True).start()
     try:
         while True:
             command = pickle.load(sys.stdin.buffer)
