@@ -59,9 +59,9 @@ enum {
     BIRCHAGAIN_NOT_WORDS = 68,          /* ends that do not ascend within the bytes, or a word that has a space */
     BIRCHAGAIN_NEGATIVE_WEIGHT = 69,
     BIRCHAGAIN_UNEVEN_ROWS = 70,        /* two arrays that are to have one length have not */
-    BIRCHAGAIN_NAMES_FIELD = 80,        /* a typed query names a field, and documents have none */
-    BIRCHAGAIN_NO_LANGUAGE = 81,        /* there is no language of that number */
-    BIRCHAGAIN_NO_ROOM = 82,            /* there is less room than the words of a query take */
+    BIRCHAGAIN_NAMES_FIELD = 71,        /* a typed query names a field, and documents have none */
+    BIRCHAGAIN_NO_LANGUAGE = 72,        /* there is no language of that number */
+    BIRCHAGAIN_NO_ROOM = 86,            /* an array is too small for what it is to be filled with */
     /* what of docs/QUERIES.md a typed query is refused for */
     BIRCHAGAIN_STRAY_ESCAPE = 101,
     BIRCHAGAIN_OPEN_QUOTE = 102,

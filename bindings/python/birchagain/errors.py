@@ -7,7 +7,7 @@ from . import _library
 
 _NO_MEMORY, _EMPTY, NO_DOCUMENT = 13, 64, 67
 # what the text of a query may be refused for
-_QUERY = (1, 2, 8, 9, 65, 80, 81, 82)
+_QUERY = (1, 2, 8, 9, 65, 71, 72)
 _ROOM = 256
 
 

@@ -65,6 +65,9 @@ class Queries:
     words are taken letter by letter, and deleted documents are never found.
     """
 
+    # the same, since it needs no index
+    query_words = staticmethod(query_words)
+
     def _ask(self, call, query: str, language: Language, *arguments) -> None:
         text = _Text(query, language)
         text.raise_for(self._answered(call, *text.passed, *arguments))

@@ -8,7 +8,7 @@ use Rattle.birchagain_queries.specs.Languages.{language_of}
 use Rattle.birchagain_queries.specs.QueryWords.{AreLaid, bytes_of, weighing_words}
 use Rattle.birchagain_queries.specs.Statuses.{untyped_status}
 use Rattle.birchagain_queries.specs.declared.language.Language.TheVariants.{Typed}
-use Rattle.birchagain_queries.specs.declared.query_words.LaidWords.{LaidWords}
+use Rattle.birchagain_queries.specs.declared.laid_words.LaidWords.{LaidWords}
 use Rattle.birchagain_queries.specs.declared.refusal.QueryRefusal.{QueryRefusal}
 use Rattle.birchagain_queries.specs.declared.refusal.QueryRefusal.TheVariants.{NoRoom}
 

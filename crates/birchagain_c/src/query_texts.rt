@@ -4,10 +4,11 @@ ghost use Rattle.std.specs.Prelude.{◌≡◌, ◌≢◌, ◌<◌, ◌≤◌, �
 ghost use Rattle.birchagain_c.specs.QueryTexts.{AreTold, AreWordsOf, IsUnderstood, IsUntypedAt, IsWordsRefusal};
 ghost use Rattle.birchagain_c.specs.Statuses.{IsTextStatus};
 ghost use Rattle.birchagain_queries.specs.Found.{IsQueryRefusal};
-ghost use Rattle.birchagain_queries.specs.declared.query_words.LaidWords.{LaidWords};
+ghost use Rattle.birchagain_queries.specs.declared.laid_words.LaidWords.{LaidWords};
 
 use crate::queries::understood;
-use crate::statuses::{DONE, status_after_query};
+use crate::query_statuses::status_after_query;
+use crate::statuses::DONE;
 use birchagain_queries::{LaidWords, QueryRefusal, query_words};
 use std::alloc::Global;
 
@@ -27,9 +28,9 @@ pub extern "C" fn birchagain_query_words(
     ensures told { result ≡ 0 → (laid : LaidWords) × AreWordsOf language query.now laid × AreTold laid bytes_filled.new words.new
         × (bytes.new ≡ laid.bytes.items ++ drop bytes_filled.new bytes.old)
         × (ends.new ≡ laid.ends.items ++ drop words.new ends.old) }
-    ensures room { result ≡ 82 → (laid : LaidWords) × AreWordsOf language query.now laid × AreTold laid bytes_filled.new words.new }
+    ensures room { result ≡ 86 → (laid : LaidWords) × AreWordsOf language query.now laid × AreTold laid bytes_filled.new words.new }
     ensures untouched { result ≢ 0 → (bytes.new ≡ bytes.old) × (ends.new ≡ ends.old) }
-    ensures numbers { result ≢ 0 → result ≢ 82 → (bytes_filled.new ≡ bytes_filled.old) × (words.new ≡ words.old) }
+    ensures numbers { result ≢ 0 → result ≢ 86 → (bytes_filled.new ≡ bytes_filled.old) × (words.new ≡ words.old) }
     ensures status { IsTextStatus (IsWordsRefusal language query.now (length bytes.old) (length ends.old)) result }
 {
     status_after_query(write_words(alloc, language, query, bytes, ends, bytes_filled, words))
@@ -46,7 +47,8 @@ fn write_words(
     words: &mut usize,
 ) -> Result<(), QueryRefusal> {
     let query = understood(alloc, language, text)?;
-    let laid = query_words(alloc, &query)?;
+    let found = query_words(alloc, &query)?;
+    let laid = LaidWords::new(alloc, &found)?;
     *bytes_filled = laid.bytes.len();
     *words = laid.ends.len();
     if bytes.len() < laid.bytes.len() || ends.len() < laid.ends.len() {

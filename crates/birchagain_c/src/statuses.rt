@@ -2,10 +2,10 @@
 
 ghost use Rattle.std.specs.Prelude.{◌≡◌, ◌<◌, ◌≢◌, ◌++◌, ℕ, List, drop, length, min, take};
 ghost use Rattle.birchagain.specs.Statuses.{status_of};
-ghost use Rattle.birchagain_c.specs.Statuses.{status_after, status_after_query};
+ghost use Rattle.birchagain_c.specs.Statuses.{status_after};
 
 use birchagain::{Refusal, status_text};
-use birchagain_queries::{QueryRefusal, query_status_text};
+use birchagain_queries::query_status_text;
 
 /// The call has done what it was asked.
 pub(crate) const DONE: u32 = 0;
@@ -16,16 +16,6 @@ pub(crate) const EMPTY: u32 = 64;
 /// The status of a call that was refused, or wasn't: never that of an empty handle.
 pub(crate) fn status_after(done: Result<(), Refusal>) -> u32
     ensures { result ≡ status_after done }
-{
-    match done {
-        Ok(()) => DONE,
-        Err(refusal) => refusal.status(),
-    }
-}
-
-/// The same of a call that takes a query.
-pub(crate) fn status_after_query(done: Result<(), QueryRefusal>) -> u32
-    ensures { result ≡ status_after_query done }
 {
     match done {
         Ok(()) => DONE,
@@ -45,7 +35,7 @@ pub extern "C" fn birchagain_status_text(status: u32, out: &mut [u8]) -> usize
     text.len()
 }
 
-// What a status says.
+// What a status says, whichever call answers it.
 fn text_of(status: u32) -> &'static str {
     match query_status_text(status) {
         Some(text) => text,

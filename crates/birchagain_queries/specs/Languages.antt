@@ -1,5 +1,5 @@
 -- What a text says in one of the languages of queries.
-use Rattle.std.specs.Prelude.{◌≡◌, ℕ, zero, suc, List, IsUtf8, Option, None, Some, Result, Ok, Err}
+use Rattle.std.specs.Prelude.{◌≡◌, ℕ, zero, suc, true, false, List, IsUtf8, Option, None, Some, Ok, Err}
 use Rattle.qm_parser.specs.Query as typed
 use Rattle.qm_parser.specs.Trees.{tree_of_text}
 use Rattle.qm_parser.specs.declared.parse_error.ParseError.{ParseError}
@@ -7,7 +7,7 @@ use Rattle.qm_parser.specs.declared.parse_error.ParseError.TheVariants as parse_
 use Rattle.qm_parser.specs.declared.parse_error.Refusal.{Refusal}
 use Rattle.qm_schema.specs.declared.error.QueryError.TheVariants.{Memory}
 use Rattle.qm_script.specs.Script.{Query, line_words, whole_query}
-use Rattle.birchagain_queries.specs.Translation.{said_query}
+use Rattle.birchagain_queries.specs.Translation.{names_field, said_query}
 use Rattle.birchagain_queries.specs.declared.language.Language.{Language}
 use Rattle.birchagain_queries.specs.declared.language.Language.TheVariants.{Script, Typed}
 use Rattle.birchagain_queries.specs.declared.refusal.QueryRefusal.{QueryRefusal}
@@ -19,12 +19,13 @@ language_of zero = Some Typed
 language_of (suc zero) = Some Script
 language_of (suc (suc n)) = None
 
--- the text is one of the typed language, and its tree says the query
+-- the text is one of the typed language, its tree names no field, and says the query
 pub record SaysTyped (text : List ℕ) (q : Query) : Type 0 where
   pub utf8 : IsUtf8 text
   pub tree : typed.Query
   pub parsed : tree_of_text text ≡ Ok tree
-  pub said : said_query tree ≡ Some q
+  pub fieldless : names_field tree ≡ false
+  pub said : q ≡ said_query tree
 
 -- the words of the text spell the query, all of them
 pub record SaysInScript (text : List ℕ) (q : Query) : Type 0 where
@@ -38,7 +39,7 @@ Says Script text q = SaysInScript text q
 
 -- a typed text whose tree names a field
 abbrev pub HasField : List ℕ → Type 0
-HasField text = (tree : typed.Query) × (tree_of_text text ≡ Ok tree) × (said_query tree ≡ None)
+HasField text = (tree : typed.Query) × (tree_of_text text ≡ Ok tree) × (names_field tree ≡ true)
 
 -- why a text of the typed language may say none, want of memory aside: it isn't UTF-8, it has no tree, or this names a field
 abbrev pub IsUntyped : List ℕ → QueryRefusal → Type 0

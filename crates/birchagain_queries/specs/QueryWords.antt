@@ -3,7 +3,7 @@ use Rattle.std.specs.Prelude.{◌≡◌, ◌+◌, ℕ, List, [], ◌∷◌, ◌+
 use Rattle.std.specs.List.{flat_map}
 use Rattle.qm_script.specs.Script.{Clauses, Queries, Query, all, boolean, boost, clause, constant, disjunction_max, no_clause, no_query, none, phrase}
 use Rattle.qm_script.specs.Script.{phrase_prefix, query, term}
-use Rattle.birchagain_queries.specs.declared.query_words.LaidWords.{LaidWords}
+use Rattle.birchagain_queries.specs.declared.laid_words.LaidWords.{LaidWords}
 
 -- words without the last
 abbrev pub full_words : List (List ℕ) → List (List ℕ)

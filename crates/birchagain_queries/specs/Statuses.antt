@@ -31,11 +31,11 @@ untyped_status kind.Set = 120
 untyped_status kind.Regex = 121
 untyped_status kind.Touching = 122
 
--- from 1 on the number of what the query layer refuses, and 65 and numbers from 80 on where the text is refused
+-- from 1 on the number of what the query layer refuses, and from 65 on what is refused of its text
 abbrev pub status_of : QueryRefusal → ℕ
 status_of (Query error) = refusal_number error
 status_of NotUnderstood = 65
-status_of NamesField = 80
-status_of NoLanguage = 81
-status_of NoRoom = 82
+status_of NamesField = 71
+status_of NoLanguage = 72
+status_of NoRoom = 86
 status_of (Untyped refusal) = untyped_status refusal.kind

@@ -1,15 +1,12 @@
 -- Which query of the language of scripts a typed one says. Its words are taken letter by letter.
-use Rattle.std.specs.Prelude.{◌≡◌, ℕ, List, [], ◌∷◌, Option, None, Some, Result, Ok, Err, option_map, pos}
+use Rattle.std.specs.Prelude.{ℕ, Bool, true, false, ◌||◌, List, [], ◌∷◌, pos}
 use Rattle.qm_parser.specs.Query as typed
 use Rattle.qm_parser.specs.declared.parsed_query.Sign.{Sign}
 use Rattle.qm_parser.specs.declared.parsed_query.Sign.TheVariants as sign
 use Rattle.qm_postings.specs.Document.{words_of}
-use Rattle.qm_schema.specs.declared.error.QueryError.TheVariants.{Memory}
 use Rattle.qm_schema.specs.declared.occur.Occur.{Occur}
 use Rattle.qm_schema.specs.declared.occur.Occur.TheVariants.{Must, MustNot, Should}
-use Rattle.qm_script.specs.Script.{◌>>=◌, Clauses, Query, all, boolean, boost, clause, no_clause, none, phrase, phrase_prefix, term}
-use Rattle.birchagain_queries.specs.declared.refusal.QueryRefusal.{QueryRefusal}
-use Rattle.birchagain_queries.specs.declared.refusal.QueryRefusal.TheVariants as refusal
+use Rattle.qm_script.specs.Script.{Clauses, Query, all, boolean, boost, clause, no_clause, none, phrase, phrase_prefix, term}
 
 -- how many words the beginning of one goes on to at most: as many as a query can say, so all
 abbrev pub most_expansions : ℕ
@@ -41,22 +38,29 @@ occur_of sign.Must = Must
 occur_of sign.MustNot = MustNot
 
 abbrev mutual
-  -- the query that a typed one says; None where it names a field, which no document has
-  pub said_query : typed.Query → Option Query
-  said_query typed.empty = Some none
-  said_query (typed.leaf l) = Some (leaf_query l)
-  said_query (typed.field name q) = None
-  said_query (typed.boost factor q) = option_map (boost (pos factor)) (said_query q)
-  said_query (typed.boolean clauses) = option_map (boolean 0) (said_clauses clauses)
+  -- the query that a typed one says, form by form; what is asked of a field is asked of the one that documents have
+  pub said_query : typed.Query → Query
+  said_query typed.empty = none
+  said_query (typed.leaf l) = leaf_query l
+  said_query (typed.field name q) = said_query q
+  said_query (typed.boost factor q) = boost (pos factor) (said_query q)
+  said_query (typed.boolean clauses) = boolean 0 (said_clauses clauses)
 
   -- the same of clauses
-  pub said_clauses : typed.Clauses → Option Clauses
-  said_clauses typed.no_clause = Some no_clause
-  said_clauses (typed.clause s q clauses) = said_query q >>= λ first. option_map (clause (occur_of s) first) (said_clauses clauses)
+  pub said_clauses : typed.Clauses → Clauses
+  said_clauses typed.no_clause = no_clause
+  said_clauses (typed.clause s q clauses) = clause (occur_of s) (said_query q) (said_clauses clauses)
 
--- What a translation answered is what a typed query says, unless memory ran out.
-abbrev pub Translates : {X : Type 0} → (X → Query) → Result X QueryRefusal → typed.Query → Type 0
-Translates view (Ok x) q = said_query q ≡ Some (view x)
-Translates view (Err refusal.NamesField) q = said_query q ≡ None
-Translates view (Err (refusal.Query error)) q = error ≡ Memory
-Translates view (Err other) q = ⊥
+abbrev mutual
+  -- whether a field is named in a typed query, which is refused
+  pub names_field : typed.Query → Bool
+  names_field typed.empty = false
+  names_field (typed.leaf l) = false
+  names_field (typed.field name q) = true
+  names_field (typed.boost factor q) = names_field q
+  names_field (typed.boolean clauses) = have_field clauses
+
+  -- or in some of its clauses
+  pub have_field : typed.Clauses → Bool
+  have_field typed.no_clause = false
+  have_field (typed.clause s q clauses) = names_field q || have_field clauses

@@ -3,6 +3,8 @@
 //! Either is read to a query of qm_script, which counts what it finds, and finds the best of it and a page.
 #![tactic(auto)]
 
+mod fields;
+mod laid_words;
 mod language;
 mod query_words;
 mod read;
@@ -10,8 +12,9 @@ mod refusal;
 mod refusal_texts;
 mod translated;
 
+pub use laid_words::LaidWords;
 pub use language::Language;
-pub use query_words::{LaidWords, query_words};
+pub use query_words::query_words;
 pub use read::query_of_text;
 pub use refusal::QueryRefusal;
 pub use refusal_texts::query_status_text;

@@ -5,6 +5,7 @@ ghost use Rattle.birchagain_queries.specs.Languages.{IsUnread, Says};
 ghost use Rattle.birchagain_queries.specs.declared.language.Language.TheVariants.{Script, Typed};
 ghost use Rattle.qm_script.specs.Spelled.{query_of};
 
+use crate::fields::names_field;
 use crate::language::Language;
 use crate::refusal::QueryRefusal;
 use crate::translated::translated;
@@ -54,5 +55,8 @@ fn query_of_typed(alloc: Global, text: &[u8]) -> Result<SpelledQuery, QueryRefus
         return Err(QueryRefusal::NotUnderstood);
     };
     let parsed = parse_query(alloc, text)?;
-    translated(alloc, &parsed)
+    if names_field(&parsed) {
+        return Err(QueryRefusal::NamesField);
+    }
+    Ok(translated(alloc, &parsed)?)
 }

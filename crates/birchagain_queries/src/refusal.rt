@@ -17,7 +17,7 @@ pub enum QueryRefusal {
     NamesField,
     /// There is no language of that number.
     NoLanguage,
-    /// There is less room than its words take.
+    /// An array is too small for its words.
     NoRoom,
     /// Its text does not fit the language that people type: what in it isn't understood, and where.
     Untyped(Refusal),
@@ -26,16 +26,16 @@ pub enum QueryRefusal {
 impl QueryRefusal {
     ghost use Rattle.birchagain_queries.specs.Statuses.{status_of};
 
-    /// The status of a call that was refused so: a number of [`QueryError::number`], 65, or one from 80 on.
+    /// The status of a call that was refused so: a number of [`QueryError::number`], or one from 65 on.
     pub fn status(self) -> u32
         ensures { result ≡ status_of self }
     {
         match self {
             QueryRefusal::Query(error) => u32::from(error.number()),
             QueryRefusal::NotUnderstood => 65,
-            QueryRefusal::NamesField => 80,
-            QueryRefusal::NoLanguage => 81,
-            QueryRefusal::NoRoom => 82,
+            QueryRefusal::NamesField => 71,
+            QueryRefusal::NoLanguage => 72,
+            QueryRefusal::NoRoom => 86,
             QueryRefusal::Untyped(refusal) => untyped_status(refusal.kind),
         }
     }

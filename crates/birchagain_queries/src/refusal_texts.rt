@@ -1,12 +1,12 @@
 //! What the statuses of refused queries say.
 
-/// What a status of this crate's own says, in English: one from 80 on. Those of the typed language say what
+/// What a status of this crate's own says, in English: one from 71 on. Those of the typed language say what
 /// [`qm_parser::RefusalKind`] does.
 pub fn query_status_text(status: u32) -> Option<&'static str> {
     match status {
-        80 => Some("a query names a field, and the documents have no fields"),
-        81 => Some("there is no language of queries of that number"),
-        82 => Some("there is less room than the words take"),
+        71 => Some("a query names a field, and the documents have no fields"),
+        72 => Some("there is no language of queries of that number"),
+        86 => Some("an array is too small for what it is to be filled with"),
         _ => untyped_text(status),
     }
 }

@@ -1,12 +1,11 @@
 //! The query of scripts that a typed one says.
 
-ghost use Rattle.std.specs.Prelude.{◌≡◌, IfOk, map, string_bytes};
-ghost use Rattle.birchagain_queries.specs.Translation.{Translates, beginning_query, leaf_query, occur_of, words_query};
+ghost use Rattle.std.specs.Prelude.{◌≡◌, IfOk, string_bytes};
+ghost use Rattle.birchagain_queries.specs.Translation.{beginning_query, leaf_query, occur_of, said_query, words_query};
 ghost use Rattle.qm_parser.specs.Views as typed;
 ghost use Rattle.qm_postings.specs.Document.{words_of};
 ghost use Rattle.qm_script.specs.Spelled.{query_of, texts};
 
-use crate::refusal::QueryRefusal;
 use qm_docset::Score;
 use qm_parser::{ParsedLeaf, ParsedQuery, Sign};
 use qm_schema::Occur;
@@ -16,16 +15,16 @@ use std::alloc::{AllocError, Global};
 /// How many words a beginning goes on to at most: as many as can be said.
 const MOST_EXPANSIONS: u32 = 4_294_967_295;
 
-/// The query of scripts that a typed one says. Costs a copy of each word.
+/// The query of scripts that a typed one says, which names no field. Costs a copy of each word.
 ///
-/// Refused with [`QueryRefusal::NamesField`] exactly where a field is named in it, want of memory aside.
-pub(crate) fn translated(alloc: Global, parsed: &ParsedQuery) -> Result<SpelledQuery, QueryRefusal>
-    ensures { Translates query_of result (typed.query_of parsed.now) }
+/// Refused for want of memory alone.
+pub(crate) fn translated(alloc: Global, parsed: &ParsedQuery) -> Result<SpelledQuery, AllocError>
+    ensures { IfOk result (λ query. query_of query ≡ said_query (typed.query_of parsed.now)) }
 {
     match parsed {
         ParsedQuery::Empty => Ok(SpelledQuery::Empty),
-        ParsedQuery::Leaf(leaf) => Ok(translated_leaf(alloc, leaf)?),
-        ParsedQuery::Field(..) => Err(QueryRefusal::NamesField),
+        ParsedQuery::Leaf(leaf) => translated_leaf(alloc, leaf),
+        ParsedQuery::Field(_, inner) => translated(alloc, inner),
         ParsedQuery::Boost(factor, inner) => {
             let query = translated(alloc, inner)?;
             let factor = NonNegativeScore::new(Score::from(*factor));

@@ -1,10 +1,13 @@
 //! The documents that a query finds in an index, by their numbers, a page at a time.
 
-ghost use Rattle.std.specs.Prelude.{◌≡◌, ◌++◌, ◌≤◌, ◌*◌, ◌<◌, ◌+◌, IfOk, OnOk, filter, length, map, nat_le, take};
+ghost use Rattle.std.specs.Prelude.{◌≡◌, ◌≤◌, ◌*◌, ◌<◌, ◌+◌, IfOk, OnOk, length};
+ghost use Rattle.qm_docset.specs.Entry.{from};
+ghost use Rattle.qm_docset.specs.Lists.{IsPlaced};
 ghost use Rattle.qm_docset.specs.declared.numbers.TheConstants.{TERMINATED};
 ghost use Rattle.qm_index.specs.Indexed.{indexed, statistics};
 ghost use Rattle.qm_index.specs.Parts.{segments_of};
-ghost use Rattle.qm_script.specs.BestListed.{alive_listed, alive_numbers};
+ghost use Rattle.qm_postings.specs.Segment.{is_alive};
+ghost use Rattle.qm_script.specs.BestListed.{alive_numbers};
 ghost use Rattle.qm_script.specs.Parts.{document_count};
 ghost use Rattle.qm_script.specs.ProgramNumbers.{most_segments};
 ghost use Rattle.qm_script.specs.Searching.{IsPageIn};
@@ -60,7 +63,7 @@ struct Page {
 }
 
 impl Page {
-    ghost use Rattle.qm_script.specs.Paging.{IsBegun, Takes};
+    ghost use Rattle.qm_script.specs.Paging.{Appends, IsBegun, Takes, alive_numbered, numbers_in};
 
     // Without documents.
     fn new(alloc: Global, from: u64, limit: usize) -> Page
@@ -81,6 +84,7 @@ impl Page {
         weight: &AnyWeight,
     ) -> Result<(), QueryError>
         requires few { document_count (segments_of segments.now) ≤ most_segments * TERMINATED }
+        requires open { length self.old.documents.items ≤ self.old.limit }
         ensures taken { OnOk result (Takes (alive_numbers (tree_of weight.now) (segments_of segments.now)) self.old self.new) }
     {
         let mut first: u64 = 0;
@@ -95,7 +99,8 @@ impl Page {
         Ok(())
     }
 
-    // Takes what a weight finds in one segment, whose first document has this number.
+    // Takes what a weight finds in one segment, whose first document has this number, and which has the wanted number
+    // or documents behind it.
     fn take_segment(
         &mut self,
         alloc: Global,
@@ -104,9 +109,10 @@ impl Page {
         first: u64,
     ) -> Result<(), QueryError>
         requires few { first ≤ most_segments * TERMINATED }
+        requires room { length segment.now.segment.documents ≤ TERMINATED }
         requires within { self.old.from < first + length segment.now.segment.documents }
-        ensures taken { OnOk result
-            (Takes (map (λ i. i.0) (alive_listed (tree_of weight.now) first segment.now.segment)) self.old self.new) }
+        requires open { length self.old.documents.items ≤ self.old.limit }
+        ensures taken { OnOk result (Takes (numbers_in (tree_of weight.now) first segment.now.segment) self.old self.new) }
     {
         let mut scorer: AnyScorer<EmptyScorer> = weight.scorer(alloc, segment, 1)?;
         let start = (self.from.max(first) - first) as DocId;
@@ -114,30 +120,38 @@ impl Page {
         Ok(())
     }
 
-    // Takes what a cursor finds in it, from one of its documents on.
-    fn take_from(
+    // Takes what a cursor over a segment has left from a document on that wasn't deleted.
+    fn take_from<D: DocSet>(
         &mut self,
-        found: &mut AnyScorer<'_, EmptyScorer>,
+        cursor: &mut D,
         segment: &SegmentReader,
         first: u64,
         start: DocId,
-    ) -> Result<(), AllocError> {
-        let mut document = found.seek(start);
-        // those before it are taken
+    ) -> Result<(), AllocError>
+        requires few { first ≤ most_segments * TERMINATED }
+        requires placed { IsPlaced D.DocSet cursor.old }
+        requires start { start ≤ TERMINATED }
+        requires open { length self.old.documents.items ≤ self.old.limit }
+        ensures taken { OnOk result (Appends (alive_numbered segment.now.segment first (from start (D.entries cursor.old))) self.old self.new) }
+    {
+        let mut document = cursor.seek(start);
+        // with what the cursor has left, as far as there is room, all is taken
         while document != TERMINATED && self.documents.len() < self.limit {
             if is_alive(segment, document) {
                 self.documents.push(first + u64::from(document))?;
             }
-            document = found.advance();
+            document = cursor.advance();
         }
         Ok(())
     }
 }
 
 // Whether a document of a segment wasn't deleted.
-fn is_alive(segment: &SegmentReader, document: DocId) -> bool {
+fn is_alive(segment: &SegmentReader, document: DocId) -> bool
+    ensures { result ≡ is_alive segment.now.segment document }
+{
     match segment.alive_bitset() {
         Some(alive) => alive.is_alive(document),
-        None => true,
+        None => document < segment.max_doc(),
     }
 }
