@@ -7,7 +7,8 @@ The library is built with its checks, and with the makefile of bindings/c, whose
 warning. Header and package have to declare what the library exports (library_header.py). The example and all calls are
 run under valgrind, which must find no fault and nothing lost. Then each of its requests for memory is refused in turn,
 some of them under valgrind. It is installed, and taken away again. The example in Rust is built and run, the tests of
-the Python package, and what `pip install` makes of the package. FOLDER has libraries that were built before. Prints what
+the Python package, and what `pip install` makes of the package. What Python saves in a folder is opened by a program
+in Rattle, and the other way. FOLDER has libraries that were built before. Prints what
 went wrong, and then how many runs went as wanted. Called by tests/gate.py.
 """
 
@@ -22,6 +23,7 @@ sys.dont_write_bytecode = True
 
 from library_header import declared, differ_in_python, exported, unlike_statuses, unlike_texts
 from program_runs.report import Report
+from unproved import give
 
 ROOT = os.path.realpath(os.path.join(os.path.dirname(os.path.abspath(__file__)), ".."))
 C, PYTHON, RUST = f"{ROOT}/bindings/c", f"{ROOT}/bindings/python", f"{ROOT}/examples/rust"
@@ -44,6 +46,7 @@ tre*: woodpeckers nest in old trees
 IN_RUST = f"""{WEIGHED}188  an old apple tree
 78  woodpeckers nest in old trees
 the quote isn't ended (at byte 4)
+3 documents as bytes, 2 found
 the weight is below 0
 """
 # prints the same by the package that is installed
@@ -65,6 +68,24 @@ with Index(texts) as index:
 def read(path):
     with open(path, encoding="utf-8") as it:
         return it.read()
+# saves the index of a text in a folder, of which each line is a document, and one is deleted
+SAVES = """
+import sys
+from birchagain import Index
+with open(sys.argv[1], encoding="utf-8") as it, Index(it.read().splitlines()) as index:
+    index.delete(1)
+    index.save(sys.argv[2])
+"""
+# opens the index of a text in a folder, adds a document and saves it again; prints what it finds
+GOES_ON = """
+import sys
+from birchagain import Index
+with Index.open(sys.argv[1]) as index:
+    print(len(index), index.frequencies(["old", "apple", "owl"]), [it.document for it in index.top("term apple")])
+    index.add("an owl")
+    index.save(sys.argv[1])
+"""
+TEXT = "an old apple tree\nan apple a day\nwoodpeckers nest in old trees\n"
 
 
 def shown_in_readme():
@@ -106,7 +127,7 @@ class Runs:
     def header(self):
         """What the header and the package declare is what the library exports."""
         header = read(f"{C}/birchagain.h")
-        refusals = "".join(read(f"{ROOT}/crates/{it}/src/refusal.rt") for it in ("birchagain", "birchagain_queries"))
+        refusals = "".join(read(f"{ROOT}/crates/{it}/src/refusal.rt") for it in ("birchagain", "birchagain_bytes", "birchagain_queries"))
         kinds = read(f"{ROOT}/crates/qm_parser/src/refusal_kind.rt")
         exports = exported(f"{ROOT}/crates/birchagain_c")
         os.environ["BIRCHAGAIN_LIBRARY"] = f"{self.folder}/libbirchagain.so"
@@ -128,21 +149,23 @@ class Runs:
         self.expect("the header as C++", "", "c++", "-std=c++11", "-Wall", "-Wextra", "-Werror", "-x", "c++", "-fsyntax-only", header)
         self.expect("the example", EXAMPLE, *VALGRIND, f"{self.folder}/example")
         self.expect("each call", r"calls: \d+ as wanted, 0 not\n", *VALGRIND, f"{self.folder}/calls")
-        self.refuse_each()
+        self.expect("an index as bytes", r"bytes: \d+ as wanted, 0 not\n", *VALGRIND, f"{self.folder}/bytes")
+        self.refuse_each("refused")
+        self.refuse_each("refused_bytes")
 
-    def refuse_each(self):
+    def refuse_each(self, program):
         """Refuses the first request for memory, the second, and so on, until there are no more."""
         at, wrong = 0, None
         while wrong is None:
             at += 1
             looked_at = VALGRIND if at % LOOKED_AT == 1 else []
-            status, text = self.run(*looked_at, f"{self.folder}/refused", FAIL_AT=str(at))
+            status, text = self.run(*looked_at, f"{self.folder}/{program}", FAIL_AT=str(at))
             if status == 2 and at > LOOKED_AT:
                 break
             self.count += 1
             if status != 0:
                 wrong = (at, status, text)
-        self.report.expect_same("a refused request for memory", None, wrong)
+        self.report.expect_same(f"a refused request for memory: {program}", None, wrong)
 
     def install(self):
         """Installs header and libraries, builds a program by what was installed alone, and takes it all away again."""
@@ -167,6 +190,22 @@ class Runs:
         if text:
             self.count += int(re.search(r"(\d+) passed", text)[1]) - 1
 
+    def beside_a_program(self):
+        """A program in Rattle opens what Python saves in a folder, and Python opens what it saves."""
+        program, text, python = f"{self.room}/bench_store", f"{self.room}/text", python_with("ctypes")
+        if not give("bench_store", program, "--optimised"):
+            self.report.expect_same("bench_store", "built", "not built")
+            return
+        with open(text, "w", encoding="utf-8") as it:
+            it.write(TEXT)
+        environment = {"PYTHONPATH": PYTHON, "BIRCHAGAIN_LIBRARY": f"{self.folder}/libbirchagain.so"}
+        self.expect("Python saves", "", python, "-c", SAVES, text, f"{self.room}/python", **environment)
+        self.expect("a program opens it", r"open \d+\ndocuments 3\n", program, "open", f"{self.room}/python")
+        self.expect("a program saves", r"(?s:.*)", program, "save", text, f"{self.room}/program")
+        found = r"3 \[2, 2, 0\] \[0, 1\]\n"
+        self.expect("Python opens it, and saves there", found, python, "-c", GOES_ON, f"{self.room}/program", **environment)
+        self.expect("a program opens that", r"open \d+\ndocuments 4\n", program, "open", f"{self.room}/program")
+
     def wheel(self):
         """Builds a wheel where no index of packages is reached, and takes the package that is in it."""
         python, copy, target = python_with("setuptools", "wheel", "pip"), f"{self.room}/package", f"{self.room}/installed"
@@ -179,13 +218,14 @@ class Runs:
             self.expect(name, printed, python, "-c", program, cwd=self.room, PYTHONPATH=target, BIRCHAGAIN_LIBRARY="")
 
     def play(self):
-        if not self.make("all", f"{self.folder}/calls", f"{self.folder}/refused"):
+        if not self.make("all", *(f"{self.folder}/{name}" for name in ("calls", "refused", "bytes", "refused_bytes"))):
             return
         self.header()
         self.c_callers()
         self.install()
         self.rust_caller()
         self.python_package()
+        self.beside_a_program()
         self.wheel()
 
 

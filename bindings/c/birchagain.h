@@ -61,6 +61,12 @@ enum {
     BIRCHAGAIN_UNEVEN_ROWS = 70,        /* two arrays that are to have one length have not */
     BIRCHAGAIN_NAMES_FIELD = 71,        /* a typed query names a field, and documents have none */
     BIRCHAGAIN_NO_LANGUAGE = 72,        /* there is no language of that number */
+    BIRCHAGAIN_OTHER_FILE = 80,         /* bytes are no index at all */
+    BIRCHAGAIN_OTHER_VERSION = 81,      /* they are one of another version, or have a file of one */
+    BIRCHAGAIN_DAMAGED = 82,            /* something of them is missing, or not what was written */
+    BIRCHAGAIN_OTHER_BLOCKS = 83,       /* their postings are cut into blocks of another length than 128 */
+    BIRCHAGAIN_OPEN_SEGMENT = 84,       /* the segment that takes documents has some: end it first */
+    BIRCHAGAIN_NO_NUMBER = 85,          /* no number is left for a file, or a segment has more than 2^60 bytes */
     BIRCHAGAIN_NO_ROOM = 86,            /* an array is too small for what it is to be filled with */
     /* what of docs/QUERIES.md a typed query is refused for */
     BIRCHAGAIN_STRAY_ESCAPE = 101,
@@ -161,6 +167,24 @@ uint32_t birchagain_query_words(uint32_t language, const uint8_t *query, size_t 
 /* Whether a query is understood. Where it answers BIRCHAGAIN_STRAY_ESCAPE or above, it writes at `place` how many bytes stand
  * before what isn't understood. Touches no index. */
 uint32_t birchagain_check_query(uint32_t language, const uint8_t *query, size_t query_length, size_t *place);
+
+/* An index as bytes are files: of each segment one, one more where documents of it are deleted, and a last one, the manifest.
+ * docs/FORMAT.md says what they are, and how they stand one behind the other. Each but the manifest has a number of its
+ * own, by which it is named and which the index keeps: a later call gives the same file the same name. */
+
+/* Fills the front of `out` with the index, and writes at `size` how many bytes that takes. Where there is no room for them
+ * it writes that number alone, and answers BIRCHAGAIN_NO_ROOM: so hand in an array of one byte and the length 0 to ask for
+ * it. New files get numbers from `moment` on, for which the time in nanoseconds does. `known` has numbers of files that
+ * you have already, ascending: they stand there by their names, without bytes. With none, `birchagain_from_bytes` makes the
+ * index again. What the index holds stays the same.
+ * BIRCHAGAIN_OPEN_SEGMENT, BIRCHAGAIN_NO_NUMBER, BIRCHAGAIN_NO_ROOM. */
+uint32_t birchagain_to_bytes(birchagain_index *index, uint64_t moment, const uint64_t *known, size_t known_length,
+                             uint8_t *out, size_t out_length, size_t *size);
+
+/* Puts the index that these bytes are at `index`: the documents, what is deleted of them, and what words weigh. What it held
+ * is freed. Where the bytes are refused it holds what it held; an empty one is not refused.
+ * BIRCHAGAIN_OTHER_FILE, BIRCHAGAIN_OTHER_VERSION, BIRCHAGAIN_DAMAGED, BIRCHAGAIN_OTHER_BLOCKS. */
+uint32_t birchagain_from_bytes(birchagain_index *index, const uint8_t *bytes, size_t bytes_length);
 
 /* What a word weighs that so many of the documents hold, by BM25: the natural logarithm of
  * 1 + (documents - held + 0.5) / (held + 0.5), in thousandths, rounded down: at most 45747. Touches no index, and may be

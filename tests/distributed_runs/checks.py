@@ -1,5 +1,6 @@
 """What a part of the runs counts, and what it waits for."""
 
+import re
 import sys
 import time
 
@@ -26,8 +27,8 @@ class Checks(Report):
         try:
             got = call()
         except wanted as error:
-            if not pattern.search(str(error)):
-                self.expect_same(name, pattern.pattern, str(error))
+            if not re.search(pattern, str(error)):
+                self.expect_same(name, pattern, str(error))
         else:
             self.expect_same(name, wanted.__name__, got)
 

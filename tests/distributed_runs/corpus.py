@@ -20,7 +20,8 @@ def vocabulary():
     chance = random.Random("words")
     found = {}
     while len(found) < WORDS:
-        found["".join(chance.choice("bdfgklmnprst") + chance.choice("aeiou") for _ in range(chance.choice([2, 2, 3, 4])))] = None
+        length = chance.choice([2, 2, 3, 4])
+        found["".join(chance.choice("bdfgklmnprst") + chance.choice("aeiou") for _ in range(length))] = None
     return [*found]
 
 
@@ -157,6 +158,7 @@ class Queries:
         found = []
         for _ in range(count):
             a, b, c = self.some(self.frequent, self.middle, self.middle)
-            forms = [a, f"{a} {b}", f"+{a} +{b} -{c}", f"{b[:3]}*", f"({a} OR {b}) AND NOT {c}", f"{a}^3 {b}", f'"{a} {b}"~3 {c}']
+            forms = [a, f"{a} {b}", f"+{a} +{b} -{c}", f"{b[:3]}*", f"{a}^3 {b}", f'"{a} {b}"~3 {c}']
+            forms.append(f"({a} OR {b}) AND NOT {c}")
             found.append(self.chance.choice(forms))
         return found

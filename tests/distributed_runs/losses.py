@@ -1,9 +1,8 @@
-"""Workers that are killed and stopped, between questions, during questions and while partitions are made; and workers that
-are slow, or new."""
+"""Workers that are killed and stopped, between questions, during questions and while partitions are made; and workers
+that are slow, or new."""
 
 import os
 import random
-import re
 import signal
 import tempfile
 import threading
@@ -19,6 +18,8 @@ DOCUMENTS, PARTITIONS, QUERIES, MOST = 4000, 8, 120, 10
 SCRIPT = {"language": "script"}
 # seconds in which a worker answers whatever else the machine does, and in which it says that it lives
 PATIENCE, SILENCE = 5.0, 8.0
+# so often may a worker be killed while it makes one partition
+KILLED = 1000
 DURING = 4.0
 
 
@@ -37,6 +38,10 @@ class Asked:
         """Whether some queries are answered so."""
         got = self.cluster.top_many(self.queries[start : start + count], MOST, **SCRIPT)
         return got == self.wanted[start : start + count]
+
+    def by_two(self):
+        """Whether two copies of each partition are made."""
+        return self.right() and all(len(it.look()) == 2 for it in self.cluster._placement.held)
 
 
 def kill(engine, chance, how=signal.SIGKILL):
@@ -115,11 +120,11 @@ def single_copies(checks, engine, chance):
 
 def second_copies(checks, chance):
     """Where a worker is slow, or stopped for a while, the other copies answer: nobody waits for patience to end."""
-    engine = Processes(3, silence=600)
+    engine = Processes(3, silence=600, tries=KILLED)
     parts = corpus.borders(DOCUMENTS, PARTITIONS)
     with Cluster(engine, [Texts(corpus.texts, *it) for it in parts], copies=2, patience=600, late=0.05) as cluster:
         asked = Asked(cluster, parts)
-        checks.comes("both copies of each are made", lambda: asked.right() and all(len(it.look()) == 2 for it in cluster._held))
+        checks.comes("both copies of each are made", asked.by_two)
         for number in range(3):
             worker = kill(engine, chance, signal.SIGSTOP)
             start = time.monotonic()
@@ -146,11 +151,12 @@ def new_worker(checks):
 
         def held():
             checks.same("while copies move", True, asked.right())
-            cluster._settle()
-            return Counter(engine.holder(copy.handle) for it in cluster._held for copy in it.copies)
+            cluster._placement.keep_up()
+            return Counter(engine.holder(copy.handle) for it in cluster._placement.held for copy in it.copies)
 
         checks.comes("each worker holds as much", lambda: [*held().values()] == [PARTITIONS // 2] * 4)
-        twice = [it.number for it in cluster._held if len({engine.holder(copy.handle) for copy in it.copies}) != 2]
+        holders = [{engine.holder(copy.handle) for copy in it.copies} for it in cluster._placement.held]
+        twice = [number for number, workers in enumerate(holders) if len(workers) != 2]
         checks.same("partitions whose copies are on one worker", [], twice)
         checks.same("behind that", True, asked.right())
     engine.close()
@@ -167,9 +173,9 @@ def other_documents(checks, room):
         with open(path, "a", encoding="utf-8") as it:
             it.write("a c\n")
         os.kill(engine.pid(engine.workers()[0]), signal.SIGKILL)
-        said = re.compile(r"partition 1: Texts\(lines_of, .*\) has given 3 documents, and then 4")
-        checks.raises("a source that has one document more", PartitionError, said, lambda: cluster.count("all", **SCRIPT))
-        checks.raises("the same, asked again", PartitionError, said, lambda: cluster.count("all", **SCRIPT))
+        said = r"partition 1: Texts\(lines_of, .*\) has given 3 documents, and then 4"
+        for name in ("a source that has one document more", "the same, asked again"):
+            checks.raises(name, PartitionError, said, lambda: cluster.count("all", **SCRIPT))
         with open(path, "w", encoding="utf-8") as it:
             it.write("a b\na\nb\n")
         checks.same("a source that gives what it gave", 13, cluster.count("all", **SCRIPT))
@@ -178,7 +184,7 @@ def other_documents(checks, room):
 
 def main():
     checks, chance = Checks("losses"), random.Random(5)
-    engine = Processes(3, silence=SILENCE)
+    engine = Processes(3, silence=SILENCE, tries=KILLED)
     single_copies(checks, engine, chance)
     making(checks, engine, chance)
     engine.close()

@@ -8,13 +8,14 @@
             print(hit.document, hit.score)
 """
 
-from .errors import BirchagainError, ClosedError, NoDocumentError, QueryError, WordError
+from .errors import BirchagainError, ClosedError, FormatError, NoDocumentError, QueryError, WordError
 from .index import Index, rarity
 from .queries import Hit, Language, query_words
 
 __all__ = [
     "BirchagainError",
     "ClosedError",
+    "FormatError",
     "Hit",
     "Index",
     "Language",

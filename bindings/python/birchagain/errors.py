@@ -6,6 +6,8 @@ from typing import Optional
 from . import _library
 
 _NO_MEMORY, _EMPTY, NO_DOCUMENT = 13, 64, 67
+# what bytes may be refused for, and what an index may be that is to be made bytes
+_FORMAT, OPEN_SEGMENT, _NO_NUMBER, NO_ROOM = (80, 81, 82, 83), 84, 85, 86
 # what the text of a query may be refused for
 _QUERY = (1, 2, 8, 9, 65, 71, 72)
 _ROOM = 256
@@ -26,6 +28,10 @@ class BirchagainError(Exception):
 
 class ClosedError(BirchagainError, ValueError):
     """The index was closed."""
+
+
+class FormatError(BirchagainError, ValueError):
+    """Bytes, or the files of a folder, that are no index, or one that is damaged or of another version."""
 
 
 class NoDocumentError(BirchagainError, IndexError):
@@ -63,4 +69,8 @@ def raise_for(status: int) -> None:
         raise ClosedError(status)
     if status == NO_DOCUMENT:
         raise NoDocumentError(status)
+    if status in _FORMAT:
+        raise FormatError(status)
+    if status in (OPEN_SEGMENT, _NO_NUMBER, NO_ROOM):
+        raise BirchagainError(status)
     raise (QueryError if status in _QUERY else WordError)(status)

@@ -10,6 +10,7 @@ from typing import Iterable, List, Mapping, Tuple, Union
 from . import _library
 from .errors import NO_DOCUMENT, NoDocumentError, raise_for
 from .queries import Queries
+from .stored import StoredIndex
 
 _NUMBERS, _SCORES = 1 << 64, 1 << 63
 
@@ -22,7 +23,7 @@ def _laid_out(words: Iterable[str]) -> Tuple[bytes, ctypes.Array, int]:
     return b"".join(encoded), ends, len(encoded)
 
 
-class Index(Queries):
+class Index(Queries, StoredIndex):
     """Documents of words, numbered from 0 up in the order in which they are added.
 
     It is a context manager: behind the block its memory is freed. Any thread may call it; while one call runs, others
@@ -31,8 +32,7 @@ class Index(Queries):
 
     def __init__(self, documents: Iterable[Union[str, Iterable[str]]] = ()) -> None:
         """An index of these documents, as `add` takes them."""
-        self._handle = _library.Handle()
-        self._lock = threading.Lock()
+        self._begin()
         self._call(_library.open_index)
         try:
             for document in documents:
@@ -40,6 +40,11 @@ class Index(Queries):
         except BaseException:
             self.close()
             raise
+
+    def _begin(self) -> None:
+        self._handle = _library.Handle()
+        self._lock = threading.Lock()
+        super()._begin()
 
     def _answered(self, call, *arguments) -> int:
         # ctypes lets other threads run during a call
@@ -64,9 +69,6 @@ class Index(Queries):
         # where __init__ has failed there is no handle, and at the end of the process no library
         if getattr(self, "_handle", None) is not None and _library is not None:
             _library.free(self._handle)
-
-    def __reduce__(self):
-        raise TypeError("an Index has no form as bytes yet: hand its documents on")
 
     def __len__(self) -> int:
         """How many documents were added, deleted ones too."""

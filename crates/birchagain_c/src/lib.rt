@@ -7,6 +7,7 @@
 //! the index holds is as it was.
 #![tactic(auto)]
 
+mod bytes;
 mod documents;
 mod lifetime;
 mod pages;
@@ -16,6 +17,7 @@ mod query_texts;
 mod statuses;
 mod words;
 
+pub use bytes::{birchagain_from_bytes, birchagain_to_bytes};
 pub use documents::{
     birchagain_add_text, birchagain_add_words, birchagain_delete, birchagain_documents,
     birchagain_end_segment, birchagain_refresh,

@@ -5,6 +5,7 @@ ghost use Rattle.birchagain.specs.Statuses.{status_of};
 ghost use Rattle.birchagain_c.specs.Statuses.{status_after};
 
 use birchagain::{Refusal, status_text};
+use birchagain_bytes::status_text as bytes_status_text;
 use birchagain_queries::query_status_text;
 
 /// The call has done what it was asked.
@@ -37,6 +38,9 @@ pub extern "C" fn birchagain_status_text(status: u32, out: &mut [u8]) -> usize
 
 // What a status says, whichever call answers it.
 fn text_of(status: u32) -> &'static str {
+    if let Some(text) = bytes_status_text(status) {
+        return text;
+    }
     match query_status_text(status) {
         Some(text) => text,
         None => status_text(status),

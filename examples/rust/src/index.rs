@@ -2,6 +2,7 @@
 
 use std::fmt;
 use std::ptr::null_mut;
+use std::time::{SystemTime, UNIX_EPOCH};
 
 #[repr(C)]
 struct Handle {
@@ -43,6 +44,16 @@ extern "C" {
         room: usize,
         filled: *mut usize,
     ) -> u32;
+    fn birchagain_to_bytes(
+        index: *mut Handle,
+        moment: u64,
+        known: *const u64,
+        known_length: usize,
+        out: *mut u8,
+        room: usize,
+        size: *mut usize,
+    ) -> u32;
+    fn birchagain_from_bytes(index: *mut Handle, bytes: *const u8, length: usize) -> u32;
     fn birchagain_page(
         index: *mut Handle,
         language: u32,
@@ -121,6 +132,13 @@ impl Query<'_> {
         unsafe { birchagain_check_query(language, text, length, &mut place) };
         Some(place).filter(|it| *it <= length)
     }
+// the status of a call that an array is too small for
+const NO_ROOM: u32 = 86;
+
+// nanoseconds since 1970
+fn now() -> u64 {
+    let since = SystemTime::now().duration_since(UNIX_EPOCH);
+    since.map_or(0, |it| it.as_nanos() as u64)
 }
 
 /// Why a call was refused: its status.
@@ -239,6 +257,35 @@ impl Index {
         done(unsafe { birchagain_page(&mut self.handle, language, text, length, from, at, most, &mut filled) })?;
         page.truncate(filled);
         Ok(page)
+    /// The index as bytes, of which [`Index::from_bytes`] makes it again. The segment that takes documents has to be ended
+    /// before, where it has any.
+    pub fn to_bytes(&mut self) -> Result<Vec<u8>, Refusal> {
+        let mut bytes = Vec::new();
+        loop {
+            let (known, mut size) = ([0_u64; 0], 0);
+            let status = unsafe {
+                birchagain_to_bytes(
+                    &mut self.handle,
+                    now(),
+                    known.as_ptr(),
+                    known.len(),
+                    bytes.as_mut_ptr(),
+                    bytes.len(),
+                    &mut size,
+                )
+            };
+            if status != NO_ROOM {
+                return done(status).map(|()| bytes);
+            }
+            bytes.resize(size, 0);
+        }
+    }
+
+    /// The index that some bytes are.
+    pub fn from_bytes(bytes: &[u8]) -> Result<Index, Refusal> {
+        let mut index = Index { handle: Handle { at: null_mut() } };
+        done(unsafe { birchagain_from_bytes(&mut index.handle, bytes.as_ptr(), bytes.len()) })?;
+        Ok(index)
     }
 }
 

@@ -32,6 +32,12 @@ fn main() -> Result<(), Refusal> {
     assert_eq!(index.page(Query::Typed("tre*"), 1, 10)?, [2]);
     let open = Query::Typed("old \"apple");
     println!("{} (at byte {})", index.count(open).unwrap_err(), open.place().unwrap_or(0));
+    // what its bytes are is the same index
+    let bytes = index.to_bytes()?;
+    let mut copy = Index::from_bytes(&bytes)?;
+    assert_eq!(copy.top(query, 10)?, index.top(query, 10)?);
+    assert_eq!(Index::from_bytes(&bytes[1..]).err(), Some(Refusal(80)));
+    println!("{} documents as bytes, {} found", copy.documents()?, copy.count(query)?);
     // it may go to another thread
     let index = thread::spawn(move || index.add("an owl").map(|()| index)).join().expect("the thread ended");
     println!("{}", index?.weigh("owl", -1).unwrap_err());

@@ -23,7 +23,7 @@ _NUMBERS = count()
 
 
 class Asking:
-    """A question that is under way. What a partition has answered stands, whatever happens to its workers behind that."""
+    """A question that is under way. What a partition has answered stands, whatever happens to its workers then."""
 
     def __init__(self, engine: Engine, lines: Lines, late: float, give_up: float) -> None:
         """A second copy is asked where the first has not answered within `late` seconds and twice the time of the
@@ -69,7 +69,7 @@ class Asking:
             self._send_to(line, copies, deleted, asked)
 
     def _lines_asked(self, held: Held) -> List[Line]:
-        return [line for line, copies in self._asked.items() if any(copy.partition == held.number for copy, _ in copies)]
+        return [line for line, asked in self._asked.items() if any(it.partition == held.number for it, _ in asked)]
 
     def _choose(self, held: Held, loads: Dict[Line, int]) -> Optional[Tuple[Line, Copy]]:
         """The copy of it to be asked: one that was not asked yet, where the least is asked."""

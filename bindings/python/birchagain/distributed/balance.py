@@ -66,7 +66,8 @@ class _Layout:
 
     def emptiest_without(self, partition: int) -> Optional[str]:
         """The worker with the least load that has no copy of it."""
-        return min((it for it in self.loads if it not in self.held[partition]), key=self.loads.__getitem__, default=None)
+        free = [it for it in self.loads if it not in self.held[partition]]
+        return min(free, key=self.loads.__getitem__, default=None)
 
     def spread(self, copies: int) -> None:
         """Makes what is missing, and parts copies that are on one worker; the largest partitions go first."""

@@ -5,33 +5,23 @@ from __future__ import annotations
 import os
 import secrets
 import threading
-import time
 from bisect import bisect_right
-from itertools import count
-from typing import Any, Dict, Iterable, Iterator, List, Optional, Sequence, Union
+from typing import Any, Dict, Iterable, Iterator, List, Optional, Sequence, Tuple, Union
 
 from .. import Hit, Language, NoDocumentError, query_words, rarity
 from ..errors import NO_DOCUMENT
 from .asking import Asking
-from .balance import plan
-from .copies import Copy, Held
+from .copies import Held
 from .deletions import Deletions
 from .engine import Engine
-from .errors import PartitionError
 from .lines import Lines
 from .merging import merge
-from .partition import Recipe
+from .placement import Placement
 
 # as many queries are sent at once, so that no answer takes as long as a worker's patience
 _AT_ONCE = 256
 # of so many words it keeps how many documents hold them
 _WORDS_KEPT = 1 << 20
-# so often it looks which workers there are, in seconds
-_LOOK_EVERY = 5.0
-# so long it waits for an engine at once
-_WAIT = 1.0
-# so long it waits for a first worker at once
-_PAUSE = 0.1
 _KEY_BYTES = 32
 
 
@@ -56,43 +46,34 @@ class Cluster:
     ) -> None:
         """Makes a partition of each source, and returns once all are made.
 
-        `engine` is an `Engine`, or a `distributed.Client`. `log` is a file for deletions, which one coordinator at a time
-        has: begun anew with the same sources and log, the same documents are deleted. Of each partition there are so
-        many `copies` on different workers, as far as there are workers. All times are in seconds: a worker that has not
-        answered within `patience` is taken for lost; a second copy is asked where the first is slower than `late` and
-        than twice the slowest of the others; a question that has no answer after `give_up` raises.
+        `engine` is an `Engine`, or a `distributed.Client`. `log` is a file for deletions, which one coordinator at a
+        time has: begun anew with the same sources and log, the same documents are deleted. Of each partition there are
+        so many `copies` on different workers, as far as there are workers. All times are in seconds: a worker that has
+        not answered within `patience` is taken for lost; a second copy is asked where the first is slower than `late`
+        and than twice the slowest of the others; a question that has no answer after `give_up` raises.
 
         Raises `PartitionError` where one cannot be made, and `LogError` where the log is not of these partitions.
         """
-        self._engine = engine if isinstance(engine, Engine) else _dask(engine)
-        self._copies, self._late, self._give_up = copies, late, give_up
-        self._key, self._name, self._serial = secrets.token_bytes(_KEY_BYTES), secrets.token_hex(8), count()
-        self._lines = Lines(self._key, patience)
-        self._lock = threading.RLock()
-        self._held: List[Held] = []
-        self._documents = 0
+        self._late, self._give_up = late, give_up
+        key = secrets.token_bytes(_KEY_BYTES)
+        engine = engine if isinstance(engine, Engine) else _dask(engine)
+        self._placement, self._lines = Placement(engine, key, copies, give_up), Lines(key, patience)
+        self._lock, self._is_open = threading.RLock(), True
         self._frequencies: Dict[str, int] = {}
-        self._looked = time.monotonic()
         self._deletions = Deletions(None if log is None else os.fspath(log))
         try:
-            self._begin(sources)
+            self._placement.add(sources)
+            self._deletions.begin([it.documents or 0 for it in self._placement.held])
         except BaseException:
             self.close()
             raise
 
-    def _begin(self, sources: Sequence[Any]) -> None:
-        self._held = [Held(number, source) for number, source in enumerate(sources)]
-        self._follow_plan()
-        self._take_sizes(self._held)
-        self._deletions.begin([it.documents or 0 for it in self._held])
-
     def close(self) -> None:
         """Hangs up, and lets the partitions go. Harmless where it is closed already."""
         with self._lock:
+            self._is_open = False
             self._lines.close()
-            for copy in [it for held in self._held for it in held.copies]:
-                copy.drop()
-            self._held = []
+            self._placement.close()
             self._deletions.close()
 
     def __enter__(self) -> Cluster:
@@ -103,84 +84,33 @@ class Cluster:
 
     def __len__(self) -> int:
         """How many documents all partitions have, deleted ones too."""
-        return self._documents
-
-    # Where copies are
-
-    def _make(self, held: Held, worker: Optional[str]) -> Copy:
-        name = f"{self._name}/{held.number}/{next(self._serial)}"
-        copy = Copy(self._engine, Recipe(name, held.number, held.source, self._key), worker)
-        held.copies.append(copy)
-        return copy
-
-    def _take_sizes(self, partitions: Sequence[Held]) -> None:
-        """Waits until a copy of each of these is made, and numbers their documents."""
-        end = time.monotonic() + self._give_up
-        for held in partitions:
-            while not held.look():
-                if time.monotonic() > end:
-                    raise PartitionError(held.number, f"not made within {self._give_up:g} seconds")
-                if not held.copies:
-                    # (there was no worker)
-                    time.sleep(_PAUSE)
-                    self._follow_plan()
-                self._engine.wait([it.handle for it in held.copies if it.error is None], _WAIT)
-            held.first = self._documents
-            self._documents += held.documents or 0
+        return self._placement.documents
 
     def balance(self) -> None:
         """Has copies made where some are missing, and others moved until all workers hold about as much.
 
-        It ends at once: a copy that moves answers where it was until it is made elsewhere. Called now and then by
-        whatever asks, so that it need not be called, but where a new worker shall have its share at once.
+        It ends at once: a copy that moves answers where it was until it is made elsewhere. A question does so by itself
+        every few seconds, so it need not be called, but where a new worker shall have its share at once.
         """
         with self._lock:
-            self._settle()
-            self._follow_plan()
+            self._check_open()
+            self._placement.balance()
 
-    def _follow_plan(self) -> None:
-        workers = self._engine.workers()
-        held = [[it.worker or "" for it in _staying(partition)] for partition in self._held]
-        for partition, leaves, to in plan(held, [it.documents or 0 for it in self._held], workers, self._copies):
-            copies = _staying(self._held[partition])
-            leaving = next((it for it in copies if it.worker == leaves), None) if leaves is not None else None
-            if to is not None:
-                self._make(self._held[partition], to).replaces = leaving
-            elif leaving is not None:
-                self._drop(self._held[partition], leaving)
-        self._looked = time.monotonic()
+    def _check_open(self) -> None:
+        if not self._is_open:
+            raise ValueError("the cluster is closed")
 
-    def _drop(self, held: Held, copy: Copy) -> None:
-        held.copies.remove(copy)
-        copy.drop()
-
-    def _settle(self) -> None:
-        """Lets copies go that were replaced or could not be made while another is there."""
-        for held in self._held:
-            for copy in [it for it in held.copies if it.look() and it.replaces]:
-                if copy.replaces in held.copies:
-                    self._drop(held, copy.replaces)
-                copy.replaces = None
-            for copy in [it for it in held.copies if it.error]:
-                self._drop(held, copy)
-        self._lines.keep([it.place.address for held in self._held for it in held.copies if it.place])
-
-    # Questions
+    def _keep_up(self) -> None:
+        """What comes before each question."""
+        self._check_open()
+        self._placement.keep_up()
+        self._lines.keep([it.place.address for held in self._placement.held for it in held.copies if it.place])
 
     def _ask(self, call: str, partitions: Optional[Sequence[Held]] = None, **arguments: Any) -> List[Any]:
         """What each partition answers, in order."""
-        asking = Asking(self._engine, self._lines, self._late, self._give_up)
+        asking = Asking(self._placement.engine, self._lines, self._late, self._give_up)
         asked = {"call": call, "arguments": arguments}
-        return asking.ask(self._held if partitions is None else partitions, self._deletions.of, asked)
-
-    def _keep_up(self) -> None:
-        """What has to be done now and then, before a question."""
-        if not self._held:
-            raise ValueError("the cluster is closed, or has no partitions")
-        if any(it.replaces or it.error for held in self._held for it in held.copies):
-            self._settle()
-        if time.monotonic() - self._looked > _LOOK_EVERY or not all(it.copies for it in self._held):
-            self.balance()
+        return asking.ask(self._placement.held if partitions is None else partitions, self._deletions.of, asked)
 
     def frequencies(self, words: Iterable[str]) -> List[int]:
         """How many documents of all partitions hold each of these words, deleted ones too. Workers are asked for a word
@@ -196,7 +126,7 @@ class Cluster:
         new = [it for it in dict.fromkeys(words) if it not in self._frequencies]
         if new:
             found = self._ask("frequencies", words=new)
-            self._frequencies.update(zip(new, map(sum, zip(*found))))
+            self._frequencies.update((word, sum(it[at] for it in found)) for at, word in enumerate(new))
         return [self._frequencies[it] for it in words]
 
     def weights(self, queries: Iterable[str], *, language: Language = "typed") -> Dict[str, int]:
@@ -207,7 +137,7 @@ class Cluster:
         words = [*dict.fromkeys(word for query in queries for word in query_words(query, language=language))]
         with self._lock:
             self._keep_up()
-            return {word: rarity(self._documents, held) for word, held in zip(words, self._frequencies_of(words))}
+            return {word: rarity(len(self), held) for word, held in zip(words, self._frequencies_of(words))}
 
     def top(self, query: str, most: int = 10, *, language: Language = "typed") -> List[Hit]:
         """The best documents that match a query, at most so many, as `Index.top` has them.
@@ -228,7 +158,7 @@ class Cluster:
             with self._lock:
                 weights = self.weights(some, language=language)
                 answers = self._ask("top", queries=some, language=language, most=most, weights=weights)
-                firsts = [it.first for it in self._held]
+                firsts = [it.first for it in self._placement.held]
                 found += [merge([it[number] for it in answers], firsts, most) for number in range(len(some))]
         return found
 
@@ -252,11 +182,12 @@ class Cluster:
         found: List[int] = []
         with self._lock:
             self._keep_up()
-            for held in self._held:
+            for held in self._placement.held:
                 if held.first + (held.documents or 0) <= first or len(found) >= most:
                     continue
-                asked = {"query": query, "language": language, "first": max(first - held.first, 0), "most": most - len(found)}
-                found += [held.first + it for it in self._ask("page", [held], **asked)[0]]
+                start, room = max(first - held.first, 0), most - len(found)
+                page = self._ask("page", [held], query=query, language=language, first=start, most=room)[0]
+                found += [held.first + it for it in page]
         return found
 
     def search(self, query: str, *, language: Language = "typed", page: int = 1000) -> Iterator[int]:
@@ -273,54 +204,44 @@ class Cluster:
             yield from found
             found = self.page(query, found[-1] + 1, page, language=language) if len(found) == page else []
 
-    # Changes
-
     def delete(self, document: int) -> None:
         """Deletes a document, which keeps its number. To delete it again changes nothing."""
         self.delete_many([document])
 
     def delete_many(self, documents: Iterable[int]) -> None:
-        """Deletes documents, all or none of them. Behind the call that is in the log, and no answer has them.
+        """Deletes documents, all or none of them. Behind the call they are in the log, and no answer has them.
 
-        Raises `NoDocumentError` where there is none of a number.
+        Raises `NoDocumentError` where there is none of a number, and `OSError` where the log cannot be written.
         """
         with self._lock:
             self._keep_up()
             self._deletions.add([self._at(it) for it in documents])
 
-    def _at(self, document: int):
+    def _at(self, document: int) -> Tuple[int, int]:
         """The partition of a document, and its number there."""
-        if not 0 <= document < self._documents:
+        if not 0 <= document < len(self):
             raise NoDocumentError(NO_DOCUMENT)
-        number = bisect_right([it.first for it in self._held], document) - 1
-        return number, document - self._held[number].first
+        firsts = [it.first for it in self._placement.held]
+        number = bisect_right(firsts, document) - 1
+        return number, document - firsts[number]
 
     def add(self, source: Any) -> range:
         """A partition more, of this source, and the numbers of its documents. Words weigh by all documents from then on.
 
-        Raises `PartitionError` where it cannot be made; then nothing has changed.
+        Raises `PartitionError` where it cannot be made, and `OSError` where the log cannot be written; then nothing has
+        changed.
         """
         with self._lock:
             self._keep_up()
-            held = Held(len(self._held), source)
-            self._held.append(held)
+            before, partitions = len(self), len(self._placement.held)
+            self._placement.add([source])
             try:
-                self._follow_plan()
-                self._take_sizes([held])
+                self._deletions.add_partition(len(self) - before)
             except BaseException:
-                self._held.pop()
-                for copy in held.copies:
-                    copy.drop()
+                self._placement.drop_from(partitions)
                 raise
-            self._deletions.add_partition(held.documents or 0)
             self._frequencies.clear()
-            return range(held.first, self._documents)
-
-
-def _staying(held: Held) -> List[Copy]:
-    """The copies that are not about to be replaced, and could be made."""
-    leaving = [it.replaces for it in held.copies if it.replaces]
-    return [it for it in held.copies if it not in leaving and it.error is None]
+            return range(before, len(self))
 
 
 def _dask(client: Any) -> Engine:

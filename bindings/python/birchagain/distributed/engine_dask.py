@@ -1,7 +1,7 @@
 """Partitions that the workers of a Dask cluster hold.
 
-Dask says where each is made and has it made again where a worker is lost. Whatever reaches Dask's own ports may run code
-there: see docs/SCALE.md.
+Dask says where each is made and has it made again where a worker is lost. Whatever reaches Dask's own ports may run
+code there: see docs/SCALE.md.
 """
 
 from __future__ import annotations

@@ -1,4 +1,4 @@
-"""Partitions that processes hold which this one starts: on this machine, or by a command that reaches another, as ssh."""
+"""Partitions in processes that this one starts: on this machine, or by a command that reaches another, as ssh."""
 
 from __future__ import annotations
 
@@ -16,8 +16,6 @@ from .engine import Engine
 from .errors import PartitionError
 from .partition import Place, Recipe
 
-# so often a partition is made once more where processes ended that were making it
-_TRIES = 3
 # so many seconds a process has until it says something for the first time
 _STARTING = 120.0
 # a process that ends at once is started again after so many seconds
@@ -38,13 +36,18 @@ class Processes(Engine):
     """Workers that are processes. One that ends, or says nothing for `silence` seconds, is killed and started anew, and
     makes its partitions again."""
 
-    def __init__(self, starts: Union[int, Sequence[Tuple[str, Sequence[str]]]] = 1, silence: float = 10.0) -> None:
+    def __init__(
+        self, starts: Union[int, Sequence[Tuple[str, Sequence[str]]]] = 1, silence: float = 10.0, tries: int = 3
+    ) -> None:
         """So many workers on this machine, which listen at 127.0.0.1; or for each the host by which it is reached and
-        the words that start Python there, as `("10.0.0.7", ["ssh", "10.0.0.7", "python3"])`."""
+        the words that start Python there, as `("10.0.0.7", ["ssh", "10.0.0.7", "python3"])`.
+
+        A partition over which processes end is made so many times more: it may be what ends them.
+        """
         if isinstance(starts, int):
             starts = [("127.0.0.1", [sys.executable])] * starts
         self._changed = threading.Condition()
-        self._silence = silence
+        self._silence, self._tries = silence, tries
         self._workers: Dict[str, _Worker] = {}
         self._count = 0
         for host, words in starts:
@@ -55,7 +58,7 @@ class Processes(Engine):
         with self._changed:
             name = f"{self._count}@{host}"
             self._count += 1
-            self._workers[name] = _Worker(name, host, words, self._changed, self._silence)
+            self._workers[name] = _Worker(name, host, words, self)
         return name
 
     def pid(self, worker: str) -> int:
@@ -107,8 +110,9 @@ class Processes(Engine):
 class _Worker:
     """A process that holds partitions, and the thread that hears what it says. All but that thread has the lock."""
 
-    def __init__(self, name: str, host: str, words: Sequence[str], changed: threading.Condition, silence: float) -> None:
-        self.name, self._host, self._words, self._changed, self._silence = name, host, [*words], changed, silence
+    def __init__(self, name: str, host: str, words: Sequence[str], engine: Processes) -> None:
+        self.name, self._host, self._words = name, host, [*words]
+        self._changed, self._silence, self._tries = engine._changed, engine._silence, engine._tries
         self.handles: Dict[str, _Handle] = {}
         self._is_ending = False
         self.process = self._begin()
@@ -190,7 +194,7 @@ class _Worker:
         """A partition that is never made since each process ends over it is not made for ever."""
         for handle in self.handles.values():
             handle.tries += handle.place is None
-            if handle.tries > _TRIES and handle.said is None:
+            if handle.tries > self._tries and handle.said is None:
                 handle.said = f"{handle.recipe.source!r}: {handle.tries} processes ended while they made it"
 
     def _hear(self) -> bool:

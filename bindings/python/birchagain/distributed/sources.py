@@ -41,8 +41,8 @@ class Texts(Source):
 
 
 class Stored(Source):
-    """The index that was saved in a folder, by `Index.save`, which all hosts see. To load it takes a small part of the time
-    that it takes to make it."""
+    """The index that was saved in a folder, by `Index.save`, which all hosts see. To load it takes a small part of the
+    time that it takes to make it."""
 
     def __init__(self, path: Union[str, os.PathLike], otherwise: Optional[Source] = None) -> None:
         """Where there is no index in the folder, `otherwise` gives it, and it is saved there: so whatever is made again
