@@ -120,7 +120,7 @@ def main():
         before = memory(pid)
         without_key(checks, address, ask, chance)
         silent(checks, address, cluster, ask)
-        with_key(checks, address, cluster._key, ask)
+        with_key(checks, address, cluster._placement._key, ask)
         checks.same("a worker that has grown", True, memory(pid) - before < GROWTH)
         checks.same("the same process", pid, engine.pid(engine.workers()[0]))
     false_worker(checks)
