@@ -238,7 +238,7 @@ def over_dask(sources, query):
     import dask
     from distributed import Client, LocalCluster
 
-    how = {"threads_per_worker": 1, "host": "127.0.0.1", "dashboard_address": None, "memory_limit": None}
+    how = {"threads_per_worker": 1, "host": "127.0.0.1", "dashboard_address": "127.0.0.1:0", "memory_limit": None}
     how["silence_logs"] = logging.CRITICAL
     dask.config.set({"distributed.deploy.lost-worker-timeout": "300s"})
     times = []

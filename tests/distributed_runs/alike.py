@@ -89,6 +89,8 @@ def refusals(checks, cluster):
     for document in (-1, DOCUMENTS, 1 << 64):
         checks.raises(f"deletion of {document}", NoDocumentError, "no document", lambda: cluster.delete(document))
     checks.raises("an open quote", QueryError, "character", lambda: cluster.top('a "b'))
+    checks.raises("a page from below 0", OverflowError, "64 bits", lambda: cluster.page("a", -1))
+    checks.raises("no copies", ValueError, "one copy", lambda: Cluster(None, [], copies=0))
     checks.raises("pages without room", ValueError, "room for one", lambda: cluster.search("a", page=0))
     checks.same("the best none", [], cluster.top(corpus.RANKED[3], 0))
 

@@ -105,7 +105,7 @@ def main():
     checks, chance = Checks("over Dask"), random.Random(8)
     # (it tells of each worker that is killed)
     logging.getLogger("distributed").setLevel(logging.ERROR)
-    how = {"threads_per_worker": 1, "host": "127.0.0.1", "dashboard_address": None, "memory_limit": None}
+    how = {"threads_per_worker": 1, "host": "127.0.0.1", "dashboard_address": "127.0.0.1:0", "memory_limit": None}
     how["silence_logs"] = logging.ERROR
     parts = corpus.borders(DOCUMENTS, PARTITIONS)
     with dask.config.set(SETTINGS), tempfile.TemporaryDirectory() as room:

@@ -5,6 +5,7 @@ import random
 import resource
 import signal
 import tempfile
+import zlib
 
 from birchagain.distributed import LogError, merge
 from birchagain.distributed.balance import plan
@@ -134,6 +135,15 @@ def held_log(checks, room):
     again.close()
 
 
+def other_file(checks, room):
+    """Whole lines that are of no log."""
+    path = f"{room}/other"
+    for number, said in enumerate((b"deleted 0 1", b"partition", b"partition 1 2")):
+        with open(path, "wb") as it:
+            it.write(b"%08x %s\n" % (zlib.crc32(said), said))
+        checks.raises(f"a line of no log, {number}", LogError, "no log of deletions", lambda: Deletions(path))
+
+
 def full_disk(checks, room):
     """A record that does not fit is not written, nor is half of it."""
     path = f"{room}/full"
@@ -157,6 +167,7 @@ def main():
         plans(checks)
         logs(checks, room)
         held_log(checks, room)
+        other_file(checks, room)
         full_disk(checks, room)
     checks.end()
 

@@ -95,7 +95,7 @@ def by_processes(checks, hosts, parts):
 def over_dask(checks, hosts, parts):
     with ExitStack() as stack:
         stack.enter_context(dask.config.set(SETTINGS))
-        how = {"host": hosts.here, "dashboard_address": None, "silence_logs": logging.ERROR}
+        how = {"host": hosts.here, "dashboard_address": f"{hosts.here}:0", "silence_logs": logging.ERROR}
         scheduler = stack.enter_context(LocalCluster(n_workers=0, **how))
         client = stack.enter_context(Client(scheduler))
         for number, address in enumerate(hosts.addresses):

@@ -52,8 +52,11 @@ class Cluster:
         not answered within `patience` is taken for lost; a second copy is asked where the first is slower than `late`
         and than twice the slowest of the others; a question that has no answer after `give_up` raises.
 
-        Raises `PartitionError` where one cannot be made, and `LogError` where the log is not of these partitions.
+        Raises `PartitionError` where one cannot be made, `LogError` where the log is not of these partitions, and
+        `ValueError` for fewer copies than one.
         """
+        if copies < 1:
+            raise ValueError("a partition has one copy at least")
         self._late, self._give_up = late, give_up
         key = secrets.token_bytes(_KEY_BYTES)
         engine = engine if isinstance(engine, Engine) else _dask(engine)
@@ -176,8 +179,11 @@ class Cluster:
         """The documents that match a query, by number upwards from `first` on, at most so many. One partition after the
         other is asked, as far as it takes.
 
-        Raises `QueryError` where it is not understood, or is refused.
+        Raises `QueryError` where it is not understood, or is refused, and `OverflowError` where `first` is not from 0
+        to 18446744073709551615.
         """
+        if not 0 <= first < 1 << 64:
+            raise OverflowError(f"the number {first} is not within 64 bits")
         query_words(query, language=language)
         found: List[int] = []
         with self._lock:

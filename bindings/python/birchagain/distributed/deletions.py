@@ -31,6 +31,9 @@ class Deletions:
         try:
             for record in self._file.records() if self._file else []:
                 self._replay(*record)
+        except (IndexError, TypeError) as error:
+            self.close()
+            raise LogError(f"{path} is no log of deletions: {error}") from error
         except BaseException:
             self.close()
             raise
