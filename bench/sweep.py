@@ -6,7 +6,7 @@ postings a run for the best scores, in mixed order and with the shortest documen
                            [--own-runs] [--rounds N] [--least SECONDS] [--room FOLDER] [--json FILE]
 
 Words are drawn even by the logarithm of their ranks. What is scored is told by the plain program (its runs by
-stretches) and, with `--own-runs`, by examples/measure_pruning.py (the repository's runs, over documents of its own),
+stretches) and, with `--own-runs`, by bench/measure_pruning.py (the repository's runs, over documents of its own),
 which is built in a minute. Prints tables, and writes what bench/plot draws.
 """
 
@@ -29,7 +29,7 @@ from measuring import Bench, built_as, program_options
 
 WORDS = "2,3,5,10,20,50,100,200,300"
 QUERIES = 8
-# of what examples/measure_pruning.py has
+# of what bench/measure_pruning.py has
 PRUNED = (1, 2, 5)
 
 
@@ -79,7 +79,7 @@ def scored(asked, command, path, queries):
 
 
 def scored_by_own(documents):
-    """The part of the postings that the repository's runs score, of examples/measure_pruning.py's documents."""
+    """The part of the postings that the repository's runs score, of bench/measure_pruning.py's documents."""
     found = {}
     with tempfile.TemporaryDirectory() as room:
         program = measure_pruning.build(room)

@@ -2,7 +2,7 @@
 """What the search page of docs/SERVE.md costs over a folder: prints rows of a table.
 
     make -s -C bindings/c
-    python3 examples/measure_serve.py FOLDER..
+    python3 bench/measure_serve.py FOLDER..
 
 Times are of a processor, but for those of the library's searches, which go by the clock. Memory is that of the whole
 process, read behind the start. The queries are 300 of one to four words, drawn from the texts by a seed.
