@@ -6,7 +6,7 @@
 mod fields;
 mod laid_words;
 mod language;
-mod query_words;
+mod named_words;
 mod read;
 mod refusal;
 mod refusal_texts;
@@ -14,7 +14,7 @@ mod translated;
 
 pub use laid_words::LaidWords;
 pub use language::Language;
-pub use query_words::query_words;
+pub use named_words::query_words;
 pub use read::query_of_text;
 pub use refusal::QueryRefusal;
 pub use refusal_texts::query_status_text;

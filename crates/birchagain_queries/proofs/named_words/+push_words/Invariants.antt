@@ -3,7 +3,7 @@ use Rattle.std.proofs.Common.{◌≡◌, ◌++◌, drop, map}
 use Rattle.qm_script.specs.Script.{clauses_of, queries_of}
 use Rattle.qm_script.specs.Spelled.{clause_of, query_of}
 use Rattle.birchagain_queries.specs.QueryWords.{words_of_clauses, words_of_queries}
-use Rattle.birchagain_queries.proofs.query_words.+push_words.Given as goal
+use Rattle.birchagain_queries.proofs.named_words.+push_words.Given as goal
 
 abbrev pub decreases-push_words : goal.decreases-push_words
 decreases-push_words l = goal.size-push_words l

@@ -5,7 +5,7 @@ use Rattle.qm_script.specs.declared.spelled_query.SpelledQuery.TheViews.{the_lem
 use Rattle.birchagain_queries.specs.QueryWords.{weighing_words, words_of_clauses, words_of_queries}
 use Rattle.birchagain_queries.proofs.SpelledForms.{query_of-boolean, query_of-disjunction_max}
 use Rattle.birchagain_queries.proofs.Words.{clause-pushed, clauses-pushed, disjunct-pushed, disjuncts-pushed}
-use Rattle.birchagain_queries.proofs.query_words.+push_words.Goals as goal
+use Rattle.birchagain_queries.proofs.named_words.+push_words.Goals as goal
 
 pub loop-inner-preserved : goal.loop-inner-preserved
 loop-inner-preserved t c =

@@ -3,7 +3,7 @@ use Rattle.std.proofs.lemmas.List.{map_push}
 use Rattle.qm_script.specs.Spelled.{texts}
 use Rattle.birchagain_queries.specs.QueryWords.{full_words}
 use Rattle.birchagain_queries.proofs.Words.{full-push}
-use Rattle.birchagain_queries.proofs.query_words.push_full.Goals as goal
+use Rattle.birchagain_queries.proofs.named_words.push_full.Goals as goal
 
 pub returns-in-Some : goal.returns-in-Some
 returns-in-Some c =
