@@ -2,3 +2,4 @@ pub mod FilesRead
 pub mod Packs
 pub mod Taken
 pub mod IndexBytes
+pub mod OpenCounts

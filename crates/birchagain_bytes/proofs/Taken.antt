@@ -150,26 +150,29 @@ next-file m rest fs are fit some = elim are.left as (λ (left : List File). are.
       }
 ] refl
 
--- the parts of what is read
-name_in : Option ((Name × List ℕ) × List ℕ) → Name
+-- what is read: a name, the bytes of its file, and those behind it
+abbrev Read : Type 0
+Read = Option ((Name × List ℕ) × List ℕ)
+
+abbrev name_in : Read → Name
 name_in None = []
 name_in (Some p) = p.0.0
 
-bytes_in : Option ((Name × List ℕ) × List ℕ) → List ℕ
+abbrev bytes_in : Read → List ℕ
 bytes_in None = []
 bytes_in (Some p) = p.0.1
 
-rest_in : Option ((Name × List ℕ) × List ℕ) → List ℕ
+abbrev rest_in : Read → List ℕ
 rest_in None = []
 rest_in (Some p) = p.1
 
-pub same-name : (n n' : Name) (b b' r r' : List ℕ) → Some ((n, b), r) ≡ Some ((n', b'), r') → n ≡ n'
+pub same-name : (n n' : Name) (b b' r r' : List ℕ) → ◌≡◌ {A = Read} (Some ((n, b), r)) (Some ((n', b'), r')) → n ≡ n'
 same-name n n' b b' r r' is = ap name_in is
 
-pub same-bytes : (n n' : Name) (b b' r r' : List ℕ) → Some ((n, b), r) ≡ Some ((n', b'), r') → b ≡ b'
+pub same-bytes : (n n' : Name) (b b' r r' : List ℕ) → ◌≡◌ {A = Read} (Some ((n, b), r)) (Some ((n', b'), r')) → b ≡ b'
 same-bytes n n' b b' r r' is = ap bytes_in is
 
-pub same-rest : (n n' : Name) (b b' r r' : List ℕ) → Some ((n, b), r) ≡ Some ((n', b'), r') → r ≡ r'
+pub same-rest : (n n' : Name) (b b' r r' : List ℕ) → ◌≡◌ {A = Read} (Some ((n, b), r)) (Some ((n', b'), r')) → r ≡ r'
 same-rest n n' b b' r r' is = ap rest_in is
 
 -- ---- whether a name is there
@@ -234,4 +237,5 @@ all-there m rest fs are none =
     subst (All (IsThere (contents_in m))) (all-done m rest fs are (nil_from_length rest (eqb-true (length rest) 0 none))) (λ i d inside. there-of-stands m (get_or are.done i d) (are.stand i d inside))
 
 pub all-distinct : (m : Files) (rest : List ℕ) (fs : List File) → AreTaken m rest fs → (length rest == 0) ≡ true → AreDistinct (map name_of fs)
-all-distinct m rest fs are none = subst (λ (done : List File). AreDistinct (map name_of done)) (all-done m rest fs are none) are.distinct
+all-distinct m rest fs are none =
+    subst (λ (done : List File). AreDistinct (map name_of done)) (all-done m rest fs are (nil_from_length rest (eqb-true (length rest) 0 none))) are.distinct

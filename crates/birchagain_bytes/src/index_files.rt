@@ -8,6 +8,7 @@ ghost use Rattle.qm_index.specs.Parts.{segments_of};
 ghost use Rattle.birchagain_bytes.specs.Bytes.{AreDeletionsAdded, ArePacked, IsIndexPacked, IsManifestAdded, IsPacked, IsSegmentAdded, is_known};
 ghost use Rattle.birchagain_bytes.specs.Refusals.{IsPackRefusal};
 
+use crate::deleted_count::deleted_count;
 use crate::packing::{begin, push_file};
 use crate::refusal::{BytesRefusal, of_writing};
 use qm_folder::MANIFEST;
@@ -74,7 +75,7 @@ fn pack_segment(
         return Err(BytesRefusal::NoNumber);
     }
     push_segment(alloc, out, segment, numbers.key, known)?;
-    let deleted = segment.max_doc() - segment.num_docs();
+    let deleted = deleted_count(segment);
     let mut deletions = 0;
     if deleted > 0 {
         deletions = numbers.deletions;
