@@ -1,5 +1,8 @@
-pub mod FilesRead
-pub mod Packs
-pub mod Taken
-pub mod IndexBytes
-pub mod OpenCounts
+mod MoreNames
+mod Packs
+mod FilesRead
+mod Taken
+mod DeletedCount
+mod OpenCounts
+mod Listed
+mod IndexBytes

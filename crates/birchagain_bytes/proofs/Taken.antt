@@ -15,11 +15,11 @@ use Rattle.std.proofs.lemmas.List.Elements.{All-append, All-cons, All-head, All-
 use Rattle.std.proofs.lemmas.Map.Text.{btree_map_updates_text}
 use denote.Ref.{Bor}
 use Rattle.qm_folder.specs.Names.{AreDistinct, Name, is_among}
-use Rattle.qm_folder.proofs.GivenNames.{among_last, distinct_more, not_same}
 use Rattle.qm_folder.proofs.NameLists.{same_itself, same_name}
 use Rattle.birchagain_bytes.specs.Packed.{AreThere, File, IsFile, IsThere, file_at, file_bytes, files_bytes, named_bytes, there_of}
 use Rattle.birchagain_bytes.proofs.FilesRead.{file-read}
 use Rattle.birchagain_bytes.specs.PackedFolder.{Files, contents_in}
+use Rattle.birchagain_bytes.proofs.MoreNames.{among_last, distinct_more, not_same}
 use Rattle.birchagain_bytes.proofs.Packs.{All-right}
 
 -- the name of a file

@@ -1,5 +1,5 @@
 use Rattle.std.proofs.Common.{arith}
-use Rattle.qm_index.proofs.DeletedCount.{alive-or-deleted}
+use Rattle.birchagain_bytes.proofs.DeletedCount.{alive-or-deleted}
 use Rattle.birchagain_bytes.proofs.deleted_count.deleted_count.Goals as goal
 
 pub overflow_sub-result : goal.overflow_sub-result
