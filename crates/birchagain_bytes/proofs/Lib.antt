@@ -5,4 +5,6 @@ mod Taken
 mod DeletedCount
 mod OpenCounts
 mod Listed
+mod Known
 mod IndexBytes
+mod SegmentFiles

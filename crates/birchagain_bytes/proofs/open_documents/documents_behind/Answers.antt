@@ -8,4 +8,4 @@ loop-segment-preserved c =
     let at = c.loop-segment.segment-index in
     let reader = c.segment-item.result in
     let counted = left-counted segments at reader reader c.loop-segment-test.true c.segment-item.is in
-    omega (arith, counted, c.requires.within, c.loop-segment.invariant, c.from.ensures, c.max_doc.ensures.number)
+    omega (arith, counted, c.requires.within, c.loop-segment.invariant, c.from-left.ensures, c.max_doc.ensures.number)

@@ -3,12 +3,12 @@ use Rattle.qm_index.specs.Indexed.{indexed}
 use Rattle.birchagain_bytes.proofs.OpenCounts.{all-counted}
 use Rattle.birchagain_bytes.proofs.open_documents.open_documents.Goals as goal
 
-pub documents_behind-requires-within : goal.documents_behind-requires-within
-documents_behind-requires-within c =
+pub documents_behind-requires : goal.documents_behind-requires
+documents_behind-requires c =
     omega (arith, all-counted (indexed c.args.index.now) c.ended_segments.result.now c.ended_segments.ensures.segments, c.document_count-all.ensures)
 
-pub returns-clause : goal.returns-clause
-returns-clause c =
+pub returns : goal.returns
+returns c =
     omega (
       arith,
       all-counted (indexed c.args.index.now) c.ended_segments.result.now c.ended_segments.ensures.segments,
