@@ -82,3 +82,13 @@ head-refused bs e is = elim (head-one-of-two bs e is) [
     head-one-of-two : (bs : List ℕ) (e : BytesRefusal) → head_at bs ≡ Err e → (e ≡ OtherFile) ⊎ (e ≡ OtherVersion)
     head-one-of-two bs e is =
         by-length (nat_lt (length bs) 16) (not (pointwise nat_eq (take 8 bs) packed_kind)) (from_le_bytes w64 (take 8 (drop 8 bs)) == 1) (drop 8 (drop 8 bs)) e is
+
+-- ---- a file that is added in four parts
+
+pub all-pushed : (out a b c d first second name bytes : List ℕ) → a ≡ out ++ first → b ≡ a ++ second → c ≡ b ++ name → d ≡ c ++ bytes →
+    d ≡ out ++ (first ++ (second ++ (name ++ bytes)))
+all-pushed out a b c d first second name bytes one two three four =
+    four
+    ∙ ap (λ (l : List ℕ). l ++ bytes) three ∙ append_assoc b name bytes
+    ∙ ap (λ (l : List ℕ). l ++ (name ++ bytes)) two ∙ append_assoc a second (name ++ bytes)
+    ∙ ap (λ (l : List ℕ). l ++ (second ++ (name ++ bytes))) one ∙ append_assoc out first (second ++ (name ++ bytes))

@@ -1,9 +1,10 @@
 -- An index whose open segment has no document, before and after it was bytes.
 use Rattle.std.proofs.Common.{◌≡◌, ℕ, List, [], ◌∷◌, length, map, refl, sym, ap, ◌∙◌, arith}
+use Rattle.qm_docset.specs.Members.{members_between}
 use Rattle.qm_folder.specs.Disk.{Contents}
 use Rattle.qm_index.specs.Indexed.{indexed}
 use Rattle.qm_index.specs.OpenDocuments.{kept_of, segment_of}
-use Rattle.qm_index.specs.Opening.{IsOpened}
+use Rattle.qm_index.specs.Opening.{IsFolderRefusal, IsOpened}
 use Rattle.qm_index.specs.Saving.{HoldsIndex}
 use Rattle.qm_index.specs.declared.index.Index.{Index}
 use Rattle.qm_index.specs.declared.open_document.OpenDocument.{OpenDocument}
@@ -12,12 +13,17 @@ use Rattle.qm_postings.specs.Statistics.{Searched, with_segments}
 use Rattle.qm_schema.specs.Schema.{FieldFacts}
 use Rattle.qm_store.specs.Manifest.{facts_of}
 use Rattle.qm_store.specs.declared.kept_segment.KeptSegment.{KeptSegment}
+use Rattle.qm_store.specs.declared.store_error.StoreError.{StoreError}
+use Rattle.qm_store.specs.declared.store_error.StoreError.TheVariants.{Damaged, Failed, Memory as StoreMemory, OtherFile, OtherVersion}
 use Rattle.birchagain_bytes.specs.Bytes.{AreBytesOf}
+use Rattle.birchagain_bytes.specs.Refusals.{of_reading}
+use Rattle.birchagain_bytes.specs.declared.refusal.BytesRefusal.TheVariants.{Memory}
 use Rattle.birchagain_bytes.specs.Packed.{AreThere}
 use Rattle.birchagain_bytes.proofs.Packs.{nothing-known}
 
 segment-of-none : (schema : List FieldFacts) (block_len : ℕ) (documents : List OpenDocument) → length (map (kept_of schema) documents) ≡ 0 → block_len ≡ 128 →
     segment_of schema block_len documents ≡ empty_segment schema 128
+unfolding members_between
 segment-of-none schema block_len [] none is = ap (empty_segment schema) is
 segment-of-none schema block_len (d ∷ ds) none is = absurd (omega (arith, none))
 
@@ -41,3 +47,11 @@ same-facts s t n kept is = ap (λ (u : Searched). facts_of u n kept []) is
 -- a folder of all the files holds the index
 pub all-hold : (saved : Index) (bytes : List ℕ) (c : Contents) (are : AreBytesOf [] saved bytes) → AreThere c are.packed.files → HoldsIndex saved c
 all-hold saved bytes c are there = are.packed.holds c there (nothing-known c are.packed.kept (indexed saved).ended)
+
+-- an error of a folder in memory is want of memory
+pub folder-refusal : (e : StoreError) → IsFolderRefusal e → of_reading e ≡ Memory
+folder-refusal StoreMemory is = refl
+folder-refusal Failed is = refl
+folder-refusal OtherFile is = absurd is
+folder-refusal OtherVersion is = absurd is
+folder-refusal Damaged is = absurd is

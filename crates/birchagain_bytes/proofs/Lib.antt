@@ -1,4 +1,10 @@
-pub mod FilesRead
-pub mod Packs
-pub mod Taken
-pub mod IndexBytes
+mod MoreNames
+mod Packs
+mod FilesRead
+mod Taken
+mod DeletedCount
+mod OpenCounts
+mod Listed
+mod Known
+mod IndexBytes
+mod SegmentFiles

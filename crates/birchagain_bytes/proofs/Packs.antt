@@ -6,8 +6,7 @@ use Rattle.std.proofs.lemmas.List.{length-append, take-append-le, take_all}
 use Rattle.std.proofs.lemmas.List.Elements.{All-append, All-cons, All-nil, All-tail, All-take}
 use Rattle.qm_folder.specs.Disk.{Contents}
 use Rattle.qm_index.specs.SavedFiles.{IsNumberedBelow}
-use Rattle.qm_index.specs.SavedIndex.{AreHeld}
-use Rattle.qm_index.proofs.SavingSteps.{held-more}
+use Rattle.qm_index.specs.SavedIndex.{AreHeld, IsHeld}
 use Rattle.qm_postings.specs.Segment.{Segment}
 use Rattle.qm_store.specs.declared.kept_segment.KeptSegment.{KeptSegment}
 use Rattle.birchagain_bytes.specs.Bytes.{AreKnownHeld, ArePacked, IsKnownHeld, IsPacked}
@@ -34,6 +33,12 @@ known-parts known c (l ∷ ks) [] k s same held = absurd (omega (arith, same))
 known-parts known c (l ∷ ks) (t ∷ ss) k s same held =
     let parts = known-parts known c ks ss k s (omega (arith, same)) held.1 in
     ((held.0, parts.0), parts.1)
+
+held-more : (c : Contents) (ks : List KeptSegment) (ss : List Segment) (k : KeptSegment) (s : Segment) → AreHeld c ks ss → IsHeld c k s → AreHeld c (ks ++ k ∷ []) (ss ++ s ∷ [])
+held-more c [] [] k s are is = (is, tt)
+held-more c [] (x ∷ ss) k s are is = absurd are
+held-more c (b ∷ ks) [] k s are is = absurd are
+held-more c (b ∷ ks) (x ∷ ss) k s are is = (are.0, held-more c ks ss k s are.1 is)
 
 -- what is known of none is nothing
 pub nothing-known : (c : Contents) (ks : List KeptSegment) (ss : List Segment) → AreKnownHeld [] c ks ss

@@ -1,6 +1,6 @@
 -- Files that lie in bytes are taken one after another, by their names.
-use Rattle.std.proofs.Common.{◌≡◌, ◌≢◌, ℕ, ◌||◌, Bool, true, false, cond, List, [], ◌∷◌, ◌++◌, All, Option, None, Some, String, option_map, is_some, get_or, map, append-nil, append_assoc, refl, sym, ap, subst, ◌∙◌, inl, inr}
-use Rattle.std.specs.Prelude.{IfSome, unwrap_or}
+use Rattle.std.proofs.Common.{◌≡◌, ◌≢◌, ℕ, ◌||◌, Bool, true, false, cond, List, [], ◌∷◌, ◌++◌, All, Option, None, Some, String, option_map, is_some, get_or, length, map, append-nil, append_assoc, refl, sym, ap, subst, ◌∙◌, inl, inr}
+use Rattle.std.specs.Prelude.{◌==◌, IfSome, unwrap_or}
 use Rattle.std.specs.Cmp.Lexicographic.{slice_cmp}
 use Rattle.std.specs.Map.{lookup}
 use Rattle.std.specs.Ordering.{nat_cmp}
@@ -8,17 +8,18 @@ use Rattle.std.specs.BTreeMap.{Updates, get_by_text, is_at}
 use Rattle.std.specs.Str.{bytes_eq}
 use Rattle.std.specs.String.{string_bytes, string_cmp}
 use Rattle.std.specs.declared.alloc.Global.{Global}
-use Rattle.std.proofs.lemmas.Bool.{both_ways, cases_Bool}
-use Rattle.std.proofs.lemmas.List.{map-append}
+use Rattle.std.proofs.lemmas.Bool.{both_ways, cases_Bool, eqb-true, false≢true}
+use Rattle.std.proofs.lemmas.List.{map-append, nil_from_length}
 use Rattle.std.proofs.lemmas.List.Concat.{flat_map-cons}
 use Rattle.std.proofs.lemmas.List.Elements.{All-append, All-cons, All-head, All-nil}
 use Rattle.std.proofs.lemmas.Map.Text.{btree_map_updates_text}
 use denote.Ref.{Bor}
 use Rattle.qm_folder.specs.Names.{AreDistinct, Name, is_among}
-use Rattle.qm_folder.proofs.GivenNames.{among_last, distinct_more, not_same}
 use Rattle.qm_folder.proofs.NameLists.{same_itself, same_name}
-use Rattle.birchagain_bytes.specs.Packed.{AreThere, File, IsFile, IsThere, file_bytes, files_bytes, named_bytes, there_of}
+use Rattle.birchagain_bytes.specs.Packed.{AreThere, File, IsFile, IsThere, file_at, file_bytes, files_bytes, named_bytes, there_of}
+use Rattle.birchagain_bytes.proofs.FilesRead.{file-read}
 use Rattle.birchagain_bytes.specs.PackedFolder.{Files, contents_in}
+use Rattle.birchagain_bytes.proofs.MoreNames.{among_last, distinct_more, not_same}
 use Rattle.birchagain_bytes.proofs.Packs.{All-right}
 
 -- the name of a file
@@ -121,21 +122,74 @@ module _ (key : String Global) (v : Bor (List ℕ)) (m after : Files) (is : IsIn
 
 -- ---- what is left
 
--- where bytes are left, so is a file, which they begin with
-pub record Begins (fs : List File) (rest : List ℕ) : Type 0 where
-  pub file : File
-  pub others : List File
-  pub are : fs ≡ file ∷ others
-  pub rest_is : rest ≡ file_bytes file ++ files_bytes others
-
-pub begins : (fs : List File) (rest : List ℕ) → rest ≡ files_bytes fs → rest ≢ [] → Begins fs rest
-begins [] rest is some = absurd (some is)
-begins (f ∷ fs) rest is some = record { file = f; others = fs; are = refl; rest_is = is ∙ flat_map-cons file_bytes f fs }
-
--- it is one of all
-pub file-fits : (done left fs : List File) (f : File) (others : List File) → fs ≡ done ++ left → left ≡ f ∷ others → All IsFile fs → IsFile f
+file-fits : (done left fs : List File) (f : File) (others : List File) → fs ≡ done ++ left → left ≡ f ∷ others → All IsFile fs → IsFile f
 file-fits done left fs f others all is fit =
     All-head IsFile f others (All-right IsFile done (f ∷ others) (subst (All IsFile) (all ∙ ap (λ (l : List File). done ++ l) is) fit))
+
+-- The next of some files, with which the bytes begin that are left.
+pub record IsNext (m : Files) (rest : List ℕ) (fs : List File) (are : AreTaken m rest fs) : Type 0 where
+  pub file : File
+  pub others : List File
+  pub left : are.left ≡ file ∷ others
+  pub fits : IsFile file
+  pub read : file_at rest ≡ Some ((file.name, there_of file), files_bytes others)
+
+pub next-file : (m : Files) (rest : List ℕ) (fs : List File) (are : AreTaken m rest fs) → All IsFile fs → (length rest == 0) ≡ false → IsNext m rest fs are
+next-file m rest fs are fit some = elim are.left as (λ (left : List File). are.left ≡ left → IsNext m rest fs are) [
+  | [] ↦ λ none.
+      let empty : rest ≡ [] = are.rest_is ∙ ap files_bytes none in
+      absurd (false≢true (sym some ∙ ap (λ (l : List ℕ). length l == 0) empty))
+  | file ∷ others ↦ λ is.
+      let fits = file-fits are.done are.left fs file others are.all is fit in
+      record {
+        file = file;
+        others = others;
+        left = is;
+        fits = fits;
+        read = ap file_at (are.rest_is ∙ ap files_bytes is ∙ flat_map-cons file_bytes file others) ∙ file-read file (files_bytes others) fits;
+      }
+] refl
+
+-- what is read: a name, the bytes of its file, and those behind it
+abbrev Read : Type 0
+Read = Option ((Name × List ℕ) × List ℕ)
+
+abbrev name_in : Read → Name
+name_in None = []
+name_in (Some p) = p.0.0
+
+abbrev bytes_in : Read → List ℕ
+bytes_in None = []
+bytes_in (Some p) = p.0.1
+
+abbrev rest_in : Read → List ℕ
+rest_in None = []
+rest_in (Some p) = p.1
+
+pub same-name : (n n' : Name) (b b' r r' : List ℕ) → ◌≡◌ {A = Read} (Some ((n, b), r)) (Some ((n', b'), r')) → n ≡ n'
+same-name n n' b b' r r' is = ap name_in is
+
+pub same-bytes : (n n' : Name) (b b' r r' : List ℕ) → ◌≡◌ {A = Read} (Some ((n, b), r)) (Some ((n', b'), r')) → b ≡ b'
+same-bytes n n' b b' r r' is = ap bytes_in is
+
+pub same-rest : (n n' : Name) (b b' r r' : List ℕ) → ◌≡◌ {A = Read} (Some ((n, b), r)) (Some ((n', b'), r')) → r ≡ r'
+same-rest n n' b b' r r' is = ap rest_in is
+
+-- ---- whether a name is there
+
+seen-or-not : (r : Option (Bor (List ℕ))) → is_some (option_map (λ x. x.now) r) ≡ is_some r
+seen-or-not None = refl
+seen-or-not (Some x) = refl
+
+pub seen-there : (m : Files) (n : Name) → is_some (get_by_text m n) ≡ true → is_some (contents_in m n) ≡ true
+seen-there m n there = seen-or-not (get_by_text m n) ∙ there
+
+none-mapped : (r : Option (Bor (List ℕ))) → is_some r ≡ false → option_map (λ x. x.now) r ≡ None
+none-mapped None none = refl
+none-mapped (Some x) none = absurd (false≢true (sym none))
+
+pub none-seen : (m : Files) (n : Name) → is_some (get_by_text m n) ≡ false → contents_in m n ≡ None
+none-seen m n none = none-mapped (get_by_text m n) none
 
 -- ---- no name stands twice
 
@@ -178,9 +232,10 @@ there-of-stands m f stands = elim f.bytes as (λ (b : Option (List ℕ)). f.byte
   | Some bytes ↦ λ is. stands ∙ ap Some (ap (λ (b : Option (List ℕ)). unwrap_or b []) is)
 ] refl
 
-pub all-there : (m : Files) (rest : List ℕ) (fs : List File) → AreTaken m rest fs → rest ≡ [] → AreThere (contents_in m) fs
+pub all-there : (m : Files) (rest : List ℕ) (fs : List File) → AreTaken m rest fs → (length rest == 0) ≡ true → AreThere (contents_in m) fs
 all-there m rest fs are none =
-    subst (All (IsThere (contents_in m))) (all-done m rest fs are none) (λ i d inside. there-of-stands m (get_or are.done i d) (are.stand i d inside))
+    subst (All (IsThere (contents_in m))) (all-done m rest fs are (nil_from_length rest (eqb-true (length rest) 0 none))) (λ i d inside. there-of-stands m (get_or are.done i d) (are.stand i d inside))
 
-pub all-distinct : (m : Files) (rest : List ℕ) (fs : List File) → AreTaken m rest fs → rest ≡ [] → AreDistinct (map name_of fs)
-all-distinct m rest fs are none = subst (λ (done : List File). AreDistinct (map name_of done)) (all-done m rest fs are none) are.distinct
+pub all-distinct : (m : Files) (rest : List ℕ) (fs : List File) → AreTaken m rest fs → (length rest == 0) ≡ true → AreDistinct (map name_of fs)
+all-distinct m rest fs are none =
+    subst (λ (done : List File). AreDistinct (map name_of done)) (all-done m rest fs are (nil_from_length rest (eqb-true (length rest) 0 none))) are.distinct

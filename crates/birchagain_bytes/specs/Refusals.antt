@@ -1,5 +1,5 @@
 -- Why an index may not be made bytes, or bytes no index.
-use Rattle.std.specs.Prelude.{◌≡◌, ◌≢◌, [], Result, Err, length, List, ℕ}
+use Rattle.std.specs.Prelude.{◌≢◌, ◌<◌, ℕ, List, [], length}
 use Rattle.qm_index.specs.Indexed.{Indexed}
 use Rattle.qm_store.specs.declared.store_error.StoreError.{StoreError}
 use Rattle.qm_store.specs.declared.store_error.StoreError.TheVariants.{Failed, Memory as StoreMemory, OtherFile as StoreOtherFile, OtherVersion as StoreOtherVersion, Damaged as StoreDamaged}
@@ -49,3 +49,11 @@ IsFilesRefusal OtherFile = Unit {0}
 IsFilesRefusal OtherVersion = Unit {0}
 IsFilesRefusal Damaged = Unit {0}
 IsFilesRefusal refusal = ⊥
+
+-- there is no memory, there is no manifest that can be read, or it tells of other blocks
+abbrev pub IsBlocksRefusal : BytesRefusal → Type 0
+IsBlocksRefusal Memory = Unit {0}
+IsBlocksRefusal OtherVersion = Unit {0}
+IsBlocksRefusal Damaged = Unit {0}
+IsBlocksRefusal OtherBlocks = Unit {0}
+IsBlocksRefusal refusal = ⊥

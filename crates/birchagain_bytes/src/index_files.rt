@@ -1,6 +1,6 @@
 //! The files of an index, one behind the other.
 
-ghost use Rattle.std.specs.Prelude.{◌≡◌, ◌≢◌, ◌++◌, IfErr, IfOk, OnOk};
+ghost use Rattle.std.specs.Prelude.{◌≡◌, IfErr, IfOk, IsTrue, OnOk};
 ghost use Rattle.std.specs.String.{string_bytes};
 ghost use Rattle.qm_index.specs.FileNames.{deletions_name, segment_name};
 ghost use Rattle.qm_index.specs.Indexed.{IsRefreshed, indexed};
@@ -8,6 +8,7 @@ ghost use Rattle.qm_index.specs.Parts.{segments_of};
 ghost use Rattle.birchagain_bytes.specs.Bytes.{AreDeletionsAdded, ArePacked, IsIndexPacked, IsManifestAdded, IsPacked, IsSegmentAdded, is_known};
 ghost use Rattle.birchagain_bytes.specs.Refusals.{IsPackRefusal};
 
+use crate::deleted_count::deleted_count;
 use crate::packing::{begin, push_file};
 use crate::refusal::{BytesRefusal, of_writing};
 use qm_folder::MANIFEST;
@@ -74,7 +75,7 @@ fn pack_segment(
         return Err(BytesRefusal::NoNumber);
     }
     push_segment(alloc, out, segment, numbers.key, known)?;
-    let deleted = segment.max_doc() - segment.num_docs();
+    let deleted = deleted_count(segment);
     let mut deletions = 0;
     if deleted > 0 {
         deletions = numbers.deletions;

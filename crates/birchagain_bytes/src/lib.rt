@@ -4,6 +4,7 @@
 //! [`Index::open`](qm_index::Index::open) reads the index, and [`from_bytes`] takes the files of a folder.
 #![tactic(auto)]
 
+mod deleted_count;
 mod index_files;
 mod manifest_keeper;
 mod numbering;

@@ -1,12 +1,14 @@
 //! Bytes of which an index is made.
 
-ghost use Rattle.std.specs.Prelude.{◌≡◌, ◌↔◌, [], Err, IfErr, IfOk, IsErrOf, IsOkUnless};
+ghost use Rattle.std.specs.Prelude.{◌≡◌, ◌↔◌, [], Err, IfErr, IfOk, IsErrOf, IsOkUnless, Some};
 ghost use Rattle.std.specs.List.Sorted.{IsNonDecreasing};
 ghost use Rattle.qm_index.specs.Indexed.{indexed, statistics};
 ghost use Rattle.qm_index.specs.declared.index.Index.{Index};
+ghost use Rattle.qm_store.specs.Manifest.{IsManifest, ManifestFacts, manifest_spelled};
 ghost use Rattle.birchagain_bytes.specs.Bytes.{AreBytesOf};
 ghost use Rattle.birchagain_bytes.specs.Packed.{head_at};
-ghost use Rattle.birchagain_bytes.specs.Refusals.{IsFromBytesRefusal};
+ghost use Rattle.birchagain_bytes.specs.PackedFolder.{contents_in};
+ghost use Rattle.birchagain_bytes.specs.Refusals.{IsBlocksRefusal, IsFromBytesRefusal};
 
 use crate::index_files::BLOCK_LEN;
 use crate::packed_files::PackedFiles;
@@ -44,7 +46,11 @@ pub fn from_bytes(alloc: Global, bytes: &[u8]) -> Result<Index, BytesRefusal>
 }
 
 // Whether a manifest is among the files, by which postings are cut into blocks of the length of this library.
-fn check_blocks(alloc: Global, files: &PackedFiles<'_>) -> Result<(), BytesRefusal> {
+fn check_blocks(alloc: Global, files: &PackedFiles<'_>) -> Result<(), BytesRefusal>
+    ensures whole { (m : ManifestFacts) → IsManifest m → m.block_len ≡ 128 → contents_in files.now.files MANIFEST.now ≡ Some (manifest_spelled m)
+        → IsOkUnless result BytesRefusal.Memory }
+    ensures refused { IfErr result IsBlocksRefusal }
+{
     let Some(bytes) = files.file(MANIFEST) else {
         return Err(BytesRefusal::Damaged);
     };
