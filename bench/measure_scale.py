@@ -114,7 +114,7 @@ def one_machine(counts):
             spent, peak, saving = apart(made, documents, room)
             on_disk = size_of(room)
             opening, memory, took[documents] = apart(opened, room)
-        sizes = [f"{it / 1e9:.2f} GB" for it in (peak, on_disk, memory)]
+        sizes = [f"{it / 1e6:,.0f} MB" for it in (peak, on_disk, memory)]
         times = [f"{spent:.1f} s", f"{saving:.1f} s", f"{opening:.2f} s"]
         rows.append([f"{documents:,}", *(it for both in zip(times, sizes) for it in both)])
     print(f"{machine()}:")
@@ -197,7 +197,7 @@ def in_cluster(documents):
             with Cluster(engine, [Stored(f"{room}/{start}") for start, _ in parts_of(documents)]) as cluster:
                 cluster.top_many(asked, MOST, **SCRIPT)
                 for at_once in (1, 120):
-                    rows.append([f"{workers} workers", *asked_once(cluster, pids, counted, asked, at_once)])
+                    rows.append([f"{workers} workers" if workers > 1 else "1 worker", *asked_once(cluster, pids, counted, asked, at_once)])
             engine.close()
     print(f"{machine()}; {documents:,} documents in {PARTITIONS} partitions:")
     head = ["", "Queries at once", "Processor at the coordinator", "at the workers", "Waited", "Messages"]

@@ -42,6 +42,8 @@ class _Handle:
         self.made: Any = None
         self.placed: Any = None
         self.place: Optional[Place] = None
+        # the worker that it was to be made on
+        self.worker: Optional[str] = None
 
 
 class DaskEngine(Engine):
@@ -60,6 +62,7 @@ class DaskEngine(Engine):
 
     def _submit(self, handle: _Handle, worker: Optional[str]) -> None:
         where = {} if worker is None else {"workers": [worker], "allow_other_workers": True}
+        handle.worker = worker
         handle.made = self._client.submit(_make, handle.recipe, pure=False, **where)
         self.doubt(handle)
 
@@ -94,10 +97,24 @@ class DaskEngine(Engine):
         self._submit(handle, None)
 
     def wait(self, handles: Sequence[_Handle], seconds: float) -> None:
+        self._free(handles)
         try:
             distributed.wait([it.placed for it in handles], timeout=seconds, return_when="FIRST_COMPLETED")
         except (TimeoutError, distributed.TimeoutError, distributed.client.CancelledError):
             pass
+
+    def _free(self, handles: Sequence[_Handle]) -> None:
+        """Dask never does a task that was to go to some worker, where all workers were gone at once and others came.
+        So one that nobody does, and whose worker is gone, may go anywhere."""
+        bound = [it for it in handles if it.worker is not None and it.made.status != "finished"]
+        if not bound:
+            return
+        workers = self._client.scheduler_info()["workers"]
+        lost = [it for it in bound if it.worker not in workers]
+        if lost and workers:
+            done = {key for keys in self._client.processing().values() for key in keys}
+            for handle in [it for it in lost if it.made.key not in done]:
+                self._submit(handle, None)
 
     def drop(self, handle: _Handle) -> None:
         handle.made.release()
