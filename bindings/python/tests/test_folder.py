@@ -13,7 +13,7 @@ from test_bytes import TOLD, small_index, told
 
 sys.path.append(os.path.join(os.path.dirname(os.path.abspath(__file__)), "..", "..", "..", "tests"))
 
-import folder_model  # noqa: E402
+import model.folders as folder_model  # noqa: E402
 
 
 def files_of(path):

@@ -10,7 +10,7 @@ from birchagain.serve.typed import Boosted, Leaf, Named, tree_of
 
 sys.path.append(os.path.join(os.path.dirname(os.path.abspath(__file__)), "..", "..", "..", "tests"))
 
-import parser_model  # noqa: E402
+import model.typed_queries as parser_model  # noqa: E402
 
 TEXTS = 20_000
 PIECES = [

@@ -10,8 +10,8 @@ from birchagain import Index, QueryError, query_words
 sys.path.append(os.path.join(os.path.dirname(os.path.abspath(__file__)), "..", "..", "..", "tests"))
 
 import model  # noqa: E402
-import parser_model  # noqa: E402
-import script_model  # noqa: E402
+import model.typed_queries as parser_model  # noqa: E402
+import model.scripts as script_model  # noqa: E402
 import typed_model  # noqa: E402
 from generators import typed  # noqa: E402
 

@@ -2,7 +2,7 @@
 query of tests/model.py has the meaning. Words stand as they were typed."""
 
 import model
-import parser_model
+import model.typed_queries as parser_model
 
 # the beginning of a word goes on to all words that begin so
 ALL = 1 << 32
