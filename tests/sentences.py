@@ -15,7 +15,7 @@ import re
 import sys
 
 ROOT = os.path.realpath(os.path.join(os.path.dirname(os.path.abspath(__file__)), ".."))
-MOST, MOST_WORDS = 30, 23_000
+MOST, MOST_WORDS = 30, 23_200
 # its tables are what commands print, and what a line begins with that has a command
 FIGURES, COMMAND = "docs/COSTS.md", ("`python3 ", "`bench/")
 # pages whose tables have figures that commands print
