@@ -23,8 +23,3 @@ pub query_of-disjunction_max : (q : SpelledQuery) (tie_breaker : ℕ) (disjuncts
     out-SpelledQuery q ≡ open_query.DisjunctionMax tie_breaker disjuncts → query_of q ≡ disjunction_max tie_breaker (queries_of (map query_of disjuncts.items))
 query_of-disjunction_max q tie_breaker disjuncts is = rolled q (open_query.DisjunctionMax tie_breaker disjuncts) is
     ∙ fold-roll-SpelledQuery Query layer_of (open_query.DisjunctionMax tie_breaker disjuncts)
-
--- one that was made of clauses
-pub made-boolean : (minimum : ℕ) (clauses : Vec (Occur × SpelledQuery) Global) →
-    query_of (roll-SpelledQuery (open_query.Boolean minimum clauses)) ≡ boolean minimum (clauses_of (map clause_of clauses.items))
-made-boolean minimum clauses = fold-roll-SpelledQuery Query layer_of (open_query.Boolean minimum clauses)
