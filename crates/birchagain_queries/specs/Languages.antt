@@ -11,7 +11,7 @@ use Rattle.birchagain_queries.specs.Translation.{names_field, said_query}
 use Rattle.birchagain_queries.specs.declared.language.Language.{Language}
 use Rattle.birchagain_queries.specs.declared.language.Language.TheVariants.{Script, Typed}
 use Rattle.birchagain_queries.specs.declared.refusal.QueryRefusal.{QueryRefusal}
-use Rattle.birchagain_queries.specs.declared.refusal.QueryRefusal.TheVariants.{NamesField, NotUnderstood, Query, Untyped}
+use Rattle.birchagain_queries.specs.declared.refusal.QueryRefusal.TheVariants as why
 
 -- the language of a number: 0 is the typed one, and 1 that of scripts
 abbrev pub language_of : ℕ → Option Language
@@ -43,16 +43,16 @@ HasField text = (tree : typed.Query) × (tree_of_text text ≡ Ok tree) × (name
 
 -- why a text of the typed language may say none, want of memory aside: it isn't UTF-8, it has no tree, or this names a field
 abbrev pub IsUntyped : List ℕ → QueryRefusal → Type 0
-IsUntyped text (Query error) = error ≡ Memory
-IsUntyped text NotUnderstood = ¬ IsUtf8 text
-IsUntyped text (Untyped refusal) = tree_of_text text ≡ Err refusal
-IsUntyped text NamesField = HasField text
+IsUntyped text (why.Query error) = error ≡ Memory
+IsUntyped text why.NotUnderstood = ¬ IsUtf8 text
+IsUntyped text (why.Untyped refusal) = tree_of_text text ≡ Err refusal
+IsUntyped text why.NamesField = HasField text
 IsUntyped text refusal = ⊥
 
 -- the same in the language of scripts: it isn't UTF-8, or its words spell no query
 abbrev pub IsUnspelled : List ℕ → QueryRefusal → Type 0
-IsUnspelled text (Query error) = error ≡ Memory
-IsUnspelled text NotUnderstood = IsUtf8 text → whole_query (line_words text) ≡ None
+IsUnspelled text (why.Query error) = error ≡ Memory
+IsUnspelled text why.NotUnderstood = IsUtf8 text → whole_query (line_words text) ≡ None
 IsUnspelled text refusal = ⊥
 
 -- why a text may say no query in a language
@@ -62,5 +62,5 @@ IsUnread Script text refusal = IsUnspelled text refusal
 
 -- what the error of the typed language's reader becomes
 abbrev pub refusal_of : ParseError → QueryRefusal
-refusal_of parse_error.Memory = Query Memory
-refusal_of (parse_error.Refused refusal) = Untyped refusal
+refusal_of parse_error.Memory = why.Query Memory
+refusal_of (parse_error.Refused refusal) = why.Untyped refusal

@@ -1,6 +1,7 @@
 //! Why a query was refused, and the statuses by which C learns of it.
 
 ghost use Rattle.std.specs.Prelude.{◌≡◌};
+ghost use Rattle.birchagain_queries.specs.Statuses.{untyped_status};
 
 use qm_parser::{ParseError, Refusal, RefusalKind};
 use qm_schema::QueryError;
