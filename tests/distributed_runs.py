@@ -4,8 +4,9 @@
     python3 tests/distributed_runs.py [--built FOLDER] [PART..]
 
 Each part is a program of tests/distributed_runs. They hold clusters of 1, 3 and 8 partitions beside one index with the
-same segments, kill and stop workers, end coordinators, send garbage, and cut off a host of three. FOLDER has a library
-that was built before. Prints what went wrong, and then how many checks went as wanted. Called by tests/gate.py.
+same segments, kill and stop workers, end coordinators, send garbage, and cut off a host of three. FOLDER has a
+libbirchagain.so that was built before. Prints what went wrong, and then how many checks went as wanted. Called by
+tests/gate.py.
 """
 
 import os
@@ -42,17 +43,20 @@ def run(part, library):
     return int(counted[1]) if counted and ran.returncode == 0 else None
 
 
+def made(room):
+    """Builds the library in a folder."""
+    make = ["make", "-s", "-C", C, f"OUT={room}", f"ARCHIVE={room}/built.a", f"{room}/libbirchagain.so"]
+    return build(f"{room}/built.a") and subprocess.run(make, check=False).returncode == 0
+
+
 def main(words):
     with tempfile.TemporaryDirectory() as room:
         folder = room
         if words[:1] == ["--built"]:
             folder, words = os.path.abspath(words[1]), words[2:]
-        elif not build(f"{room}/built.a"):
+        elif not made(room):
             return 1
         library = f"{folder}/libbirchagain.so"
-        make = ["make", "-s", "-C", C, f"OUT={folder}", f"ARCHIVE={folder}/built.a", library]
-        if subprocess.run(make, check=False).returncode != 0:
-            return 1
         counts = [run(part, library) for part in words or PARTS]
     if None in counts:
         print(f"distributed runs: {counts.count(None)} parts failed")
