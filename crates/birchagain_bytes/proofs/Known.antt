@@ -21,5 +21,5 @@ known-at (n ∷ ns) (suc i) number below is =
 -- what a search by halving finds is there
 pub known-found : (known : List ℕ) (number : ℕ) (r : Result ℕ ℕ) → is_ok r ≡ true → IsSearchInRange r (length known) →
     IfOk r (HoldsAt (λ y. nat_cmp y number ≡ Equal) known) → is_known known number ≡ true
-known-found known number (Ok i) yes bound ok = known-at known i number bound (ranked (get_or known i 0) number Equal (sym (ok 0)))
-known-found known number (Err i) yes bound ok = absurd (cc yes)
+known-found known number (Ok i) found bound ok = known-at known i number bound (ranked (get_or known i 0) number Equal (sym (ok 0)))
+known-found known number (Err i) found bound ok = absurd (cc found)

@@ -1,6 +1,6 @@
 //! The files of an index, one behind the other.
 
-ghost use Rattle.std.specs.Prelude.{◌≡◌, IfErr, IfOk, IsTrue, OnOk};
+ghost use Rattle.std.specs.Prelude.{◌≡◌, IfErr, IfOk, IsTrue, OnOk, true};
 ghost use Rattle.std.specs.String.{string_bytes};
 ghost use Rattle.qm_index.specs.FileNames.{deletions_name, segment_name};
 ghost use Rattle.qm_index.specs.Indexed.{IsRefreshed, indexed};

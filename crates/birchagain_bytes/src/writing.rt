@@ -1,9 +1,11 @@
 //! An index that is made bytes.
 
-ghost use Rattle.std.specs.Prelude.{◌≡◌, ◌≢◌, ◌↔◌, ◌++◌, [], List, ℕ, IfErr, IfOk, IsErrOf, OnErr, OnOk, drop, length};
+ghost use Rattle.std.specs.Prelude.{◌≡◌, ◌≢◌, ◌↔◌, ◌++◌, [], List, ℕ, All, IfErr, IfOk, IsErrOf, OnErr, OnOk, drop, length, map};
+ghost use Rattle.qm_folder.specs.Names.{AreDistinct};
 ghost use Rattle.qm_index.specs.Indexed.{indexed, statistics};
 ghost use Rattle.birchagain_bytes.specs.Bytes.{AreBytesOf};
-ghost use Rattle.birchagain_bytes.specs.Refusals.{IsToBytesRefusal, IsWriteRefusal};
+ghost use Rattle.birchagain_bytes.specs.Packed.{File, IsFile, packed};
+ghost use Rattle.birchagain_bytes.specs.Refusals.{IsPackRefusal, IsToBytesRefusal, IsWriteRefusal};
 
 use crate::index_files::pack_index;
 use crate::numbering::number_files;
@@ -45,9 +47,20 @@ pub fn to_bytes(
     }
     let numbers = number_files(alloc, index, moment)?;
     let bytes = pack_index(alloc, index, &numbers, known)?;
-    // they can be read again: no two files have one name
-    PackedFiles::read(alloc, &bytes)?;
+    check_files(alloc, &bytes)?;
     Ok(bytes)
+}
+
+// Whether the files that some bytes are can be read again: no two have one name.
+fn check_files(alloc: Global, bytes: &[u8]) -> Result<(), BytesRefusal>
+    ensures distinct { (fs : List File) → All IsFile fs → bytes.now ≡ packed fs → OnOk result (AreDistinct (map (λ f. f.name) fs)) }
+    ensures refused { IfErr result IsPackRefusal }
+{
+    match PackedFiles::read(alloc, bytes) {
+        Ok(_) => Ok(()),
+        Err(BytesRefusal::Memory) => Err(BytesRefusal::Memory),
+        Err(_) => Err(BytesRefusal::NoNumber),
+    }
 }
 
 /// Fills the front of `out` with what [`to_bytes`] answers, and writes at `size` how many bytes these are, also where there

@@ -18,21 +18,21 @@ pub returns-in-Ok-Some-clause-documents : goal.returns-in-Ok-Some-clause-documen
 returns-in-Ok-Some-clause-documents c = λ saved are.
     let seen = contents_in c.in_ok-files.files.files in
     let there = c.in_ok-files.ensures.files are.packed.files are.packed.fit are.packed.spelled in
-    let opened = c.in-Ok-Some.ensures.opened tt saved (all-hold saved c.args.bytes.now seen are there) in
+    let opened = rw c.in-Ok-Some.field-0-is at c.in-Ok-Some.ensures.opened tt saved (all-hold saved c.args.bytes.now seen are there) in
     opened-same saved c.in-Ok-Some.index opened are.none_open
 
 pub returns-in-Ok-Some-clause-statistics : goal.returns-in-Ok-Some-clause-statistics
 returns-in-Ok-Some-clause-statistics c = λ saved are.
     let seen = contents_in c.in_ok-files.files.files in
     let there = c.in_ok-files.ensures.files are.packed.files are.packed.fit are.packed.spelled in
-    let opened = c.in-Ok-Some.ensures.opened tt saved (all-hold saved c.args.bytes.now seen are there) in
+    let opened = rw c.in-Ok-Some.field-0-is at c.in-Ok-Some.ensures.opened tt saved (all-hold saved c.args.bytes.now seen are there) in
     opened.statistics
 
 pub returns-in-Ok-None-clause-whole : goal.returns-in-Ok-None-clause-whole
 returns-in-Ok-None-clause-whole c = λ saved are sorted.
     let seen = contents_in c.in_ok-files.files.files in
     let there = c.in_ok-files.ensures.files are.packed.files are.packed.fit are.packed.spelled in
-    absurd (c.in-Ok-None.ensures.opened tt saved (all-hold saved c.args.bytes.now seen are there))
+    absurd (rw c.in-Ok-None.field-0-is at c.in-Ok-None.ensures.opened tt saved (all-hold saved c.args.bytes.now seen are there))
 
 pub returns-clause-whole : goal.returns-clause-whole
 returns-clause-whole c = λ saved are sorted.
