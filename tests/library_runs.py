@@ -81,7 +81,7 @@ GOES_ON = """
 import sys
 from birchagain import Index
 with Index.open(sys.argv[1]) as index:
-    print(len(index), index.frequencies(["old", "apple", "owl"]), [it.document for it in index.top("term apple")])
+    print(len(index), index.frequencies(["old", "apple", "owl"]), [it.document for it in index.top("apple")])
     index.add("an owl")
     index.save(sys.argv[1])
 """

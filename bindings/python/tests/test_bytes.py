@@ -30,8 +30,8 @@ def small_index():
 
 def told(index):
     """What an index answers: as many documents, words and scores as `small_index` has."""
-    tops = [index.top(f"bool 0 2 ? term {word} ? term a", 10) for word in "abcd"]
-    return len(index), index.frequencies("abcd"), index.count("term c"), index.count("phrase 0 2 b a"), tops
+    tops = [index.top(f"bool 0 2 ? term {word} ? term a", 10, language="script") for word in "abcd"]
+    return len(index), index.frequencies("abcd"), index.count("term c", language="script"), index.count("phrase 0 2 b a", language="script"), tops
 
 
 # the scores are 2000 * n / (n + length) for `a`, which stands there n times, and 1000 * n / (n + length) for the others
@@ -62,7 +62,7 @@ def test_there_and_back(through):
             index.add("f")
             assert (len(other), len(index)) == (6, 6)
             assert other.frequencies("ef") == [1, 0] and index.frequencies("ef") == [0, 1]
-            assert index.count("term a") == 3 and other.count("term a") == 2
+            assert index.count("term a", language="script") == 3 and other.count("term a", language="script") == 2
 
 
 def test_same_bytes_again():
@@ -78,14 +78,14 @@ def test_no_documents():
         other = Index.from_bytes(index.to_bytes())
         assert len(other) == len(index) and other.frequencies(["a"]) == [0]
         other.add("a")
-        assert other.count("term a") == 1
+        assert other.count("term a", language="script") == 1
 
 
 def test_many_documents():
     with Index(f"all w{n % 7} x{n % 1000}" for n in range(20_000)) as index:
         with Index.from_bytes(index.to_bytes()) as other:
             assert other.frequencies(["all", "w6", "x3"]) == [20_000, 2857, 20]
-            assert other.top("term x3", 3) == index.top("term x3", 3)
+            assert other.top("term x3", 3, language="script") == index.top("term x3", 3, language="script")
 
 
 class Named(Index):
@@ -96,7 +96,7 @@ def test_subclass():
     index = Named(["a"])
     index.name = "mine"
     other = pickle.loads(pickle.dumps(index))
-    assert type(other) is Named and other.name == "mine" and other.count("term a") == 1
+    assert type(other) is Named and other.name == "mine" and other.count("term a", language="script") == 1
     assert not hasattr(Named.from_bytes(index.to_bytes()), "name")
 
 
@@ -104,7 +104,7 @@ def test_pickled_elsewhere(tmp_path):
     """Another process reads what was pickled here."""
     with small_index() as index, open(tmp_path / "pickled", "wb") as it:
         pickle.dump(index, it)
-    program = "import pickle, sys; print(pickle.load(open(sys.argv[1], 'rb')).count('term a'))"
+    program = "import pickle, sys; print(pickle.load(open(sys.argv[1], 'rb')).count('term a', language='script'))"
     folder = os.path.dirname(os.path.dirname(os.path.abspath(__file__)))
     path = os.pathsep.join([folder, os.environ.get("PYTHONPATH", "")])
     words = [sys.executable, "-c", program, str(tmp_path / "pickled")]

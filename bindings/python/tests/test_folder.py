@@ -68,7 +68,7 @@ def test_what_is_new_is_written(tmp_path):
     fourth = stamps(tmp_path)
     assert sorted(name[-4:] for name in third.keys() - fourth.keys()) == [".del"]
     again = Index.open(tmp_path)
-    assert len(again) == 6 and again.count("all") == 3
+    assert len(again) == 6 and again.count("all", language="script") == 3
 
 
 def test_weights_alone(tmp_path):
@@ -88,7 +88,7 @@ def test_several_folders(tmp_path):
     index.save(tmp_path / "b")
     assert files_of(tmp_path / "a") == files_of(tmp_path / "b")
     other.save(tmp_path / "a")
-    assert endings(tmp_path / "a") == ["manifest", "seg"] and Index.open(tmp_path / "a").count("term other") == 1
+    assert endings(tmp_path / "a") == ["manifest", "seg"] and Index.open(tmp_path / "a").count("term other", language="script") == 1
     index.save(tmp_path / "a")
     assert told(Index.open(tmp_path / "a")) == TOLD
     copied = Index.from_bytes(index.to_bytes())
@@ -140,7 +140,7 @@ def test_a_file_of_another_index(tmp_path):
     (tmp_path / "b" / name).write_bytes(b"x")
     with pytest.raises(FileExistsError):
         index.save(tmp_path / "b")
-    assert Index.open(tmp_path / "b").count("term x") == 1
+    assert Index.open(tmp_path / "b").count("term x", language="script") == 1
 
 
 class Died(BaseException):
@@ -229,7 +229,7 @@ def test_crash_between_any_two_calls(monkeypatch, tmp_path, half):
         with Index.open(path) as opened:
             before = told(opened) == TOLD
             seen.append(before)
-            assert before or (len(opened), opened.count("all")) == (7, 5)
+            assert before or (len(opened), opened.count("all", language="script")) == (7, 5)
             # a later save goes on from there, and leaves nothing behind
             opened.add("later")
             opened.save(path)
@@ -251,10 +251,10 @@ def test_a_call_fails(monkeypatch, tmp_path, error):
             save_with(monkeypatch, Calls(at, error, half=True), index, path)
         assert caught.value is error
         with Index.open(path) as opened:
-            assert told(opened) == TOLD or (len(opened), opened.count("all")) == (7, 5)
+            assert told(opened) == TOLD or (len(opened), opened.count("all", language="script")) == (7, 5)
         index.save(path)
         with Index.open(path) as opened:
-            assert (len(opened), opened.count("all"), opened.frequencies("xz")) == (7, 5, [1, 1])
+            assert (len(opened), opened.count("all", language="script"), opened.frequencies("xz")) == (7, 5, [1, 1])
 
 
 def test_power_cut(monkeypatch, tmp_path):
@@ -323,9 +323,9 @@ def test_readers_and_writers(tmp_path):
         try:
             while not over.is_set():
                 with Index.open(tmp_path) as index:
-                    counts = [index.count(f"term of{number}") for number in (1, 2, 3)]
+                    counts = [index.count(f"term of{number}", language="script") for number in (1, 2, 3)]
                     number = 1 + next(k for k, count in enumerate(counts) if count)
-                    assert sum(counts) == counts[number - 1] == index.count("all") and len(index) >= 20 * number
+                    assert sum(counts) == counts[number - 1] == index.count("all", language="script") and len(index) >= 20 * number
         except BaseException as error:
             failed.append(error)
 
