@@ -11,12 +11,10 @@ its own, on a build of which nothing is proved (`tests/unproved.py --unchecked`)
 """
 
 import argparse
-import datetime
 import glob
 import gzip
 import itertools
 import os
-import random
 import re
 import statistics
 import subprocess
@@ -26,8 +24,13 @@ from collections import Counter
 
 sys.dont_write_bytecode = True
 ROOT = os.path.realpath(os.path.join(os.path.dirname(os.path.abspath(__file__)), ".."))
-# how many words there are, how fast they grow rare, and how many words a document has
-VOCABULARY, EXPONENT, WORDS = 200_000, 1.07, (5, 19)
+sys.path.append(f"{ROOT}/bench")
+
+from corpus import made_up
+from machine import load, machine
+
+# how many words a made-up document has
+WORDS = (5, 19)
 # what the text of this machine is taken from, in this order, up to so many bytes
 REAL = ["/usr/share/common-licenses/*", "/usr/share/doc/**/*", "/usr/share/man/man*/*", "/usr/lib/python3*/**/*.py"]
 MOST = 100_000_000
@@ -35,23 +38,6 @@ MOST = 100_000_000
 RANKS = [1, 10]
 # a paragraph with fewer words is no document
 FEWEST = 8
-
-
-def vocabulary(chance):
-    """Words of two to four syllables."""
-    words = {}
-    while len(words) < VOCABULARY:
-        syllables = chance.choices((2, 3, 4), (1, 30, 69))[0]
-        words["".join(chance.choice("bcdfghjklmnpqrstvwxz") + chance.choice("aeiou") for _ in range(syllables))] = None
-    return list(words)
-
-
-def made_up(documents):
-    chance = random.Random(1)
-    words = vocabulary(chance)
-    up_to = list(itertools.accumulate((place + 1) ** -EXPONENT for place in range(VOCABULARY)))
-    for _ in range(documents):
-        yield chance.choices(words, cum_weights=up_to, k=chance.randint(*WORDS))
 
 
 def read_text(path):
@@ -153,21 +139,6 @@ def queried(program, segment, text, times):
             yield row, f"{steps} ms, {holders:,} documents; {memory}"
 
 
-def load():
-    return ", ".join(f"{it:.1f}" for it in os.getloadavg())
-
-
-def machine():
-    """What machine this is, which commit, and what else it has to do."""
-    with open("/proc/cpuinfo", encoding="utf-8") as it:
-        model = re.search(r"model name\s*: (.*)", it.read())
-    how = {"cwd": ROOT, "capture_output": True, "text": True, "check": True}
-    commit = subprocess.run(["git", "rev-parse", "--short=8", "HEAD"], **how).stdout.strip()
-    day = datetime.date.today()
-    named = model[1] if model else "unknown"
-    return f"{named}, {os.cpu_count()} processors; {day:%-d %B %Y}, commit {commit}, load {load()}"
-
-
 def arguments():
     parser = argparse.ArgumentParser()
     parser.add_argument("--documents", type=int, default=1_000_000)
@@ -178,9 +149,9 @@ def arguments():
 
 def main():
     given = arguments()
-    kinds = {"made up": lambda: made_up(given.documents), "real": real}
+    kinds = {"made up": lambda: made_up(given.documents, WORDS), "real": real}
     names = [given.only] if given.only else [*kinds]
-    print(f"{machine()}\n")
+    print(f"{machine()}; load {load()}\n")
     with tempfile.TemporaryDirectory() as room:
         program, columns = f"{room}/bench_store", []
         words = [sys.executable, f"{ROOT}/tests/unproved.py", "bench_store", program, "--unchecked"]

@@ -1,5 +1,5 @@
 #!/usr/bin/env python3
-"""Whether what the documents show is so: runs each command of README.md, CONTRIBUTING.md, docs/ and
+"""Whether what the documents show is so: runs each command of README.md, CONTRIBUTING.md, bench/README.md, docs/ and
 tests/cases/ as it stands there, at the top of the repository.
 
     python3 tests/documented_commands.py
@@ -39,8 +39,8 @@ NOT_RUN = {
     "python3 tests/api.py": "it needs python3-markdown; tests/api_runs.py makes the pages",
     "python3 tests/cases.py": "quick.py and the gate run it; with other seeds it takes as long as one likes",
     "python3 tests/wrong_bodies.py": "the gate runs it; it takes proofs",
-    "python3 bench/measure_": "a measurement: it takes minutes, some of them a proof or valgrind",
-    "python3 bench/store_costs.py": "a measurement: it takes minutes",
+    "python3 bench/": "a measurement: it takes minutes, some of them a proof or valgrind",
+    "bench/": "a measurement: it takes minutes; tests/bench_runs.py runs a small one",
     "(cd crates/": "it proves, or compiles, for minutes; the gate proves and runs all programs",
     "./birch --proved": "it proves, for an hour; tests/installed_runs.py runs it over a stand-in",
     "make install": "tests/installed_runs.py runs it, into a folder of its own",
@@ -49,7 +49,7 @@ NOT_RUN = {
     "cd crates/": "it proves, or compiles, for minutes; the gate proves and runs all programs",
 }
 NAMED = re.compile(r"`((?:bindings|crates|tests|docs|examples|bench|packaging)/[\w./+-]+|[A-Z]+\.md|crates\.txt|\.ci/run)`")
-COMMAND = re.compile(r"`((?:(?:python3|cd|out/|\./birch)[ \w]|make \w)[^`]*)`")
+COMMAND = re.compile(r"`((?:(?:python3|cd|out/|\./birch|bench/run|bench/plot)[ \w]|make \w)[^`]*)`")
 STOOD_FOR = re.compile(r"(?<![A-Z])(CRATE|FILE|FOLDER|NAME|PATH|PROGRAM|TOPIC)(?![A-Z])")
 PROGRAM = "out/qm_search"
 # the runs so far, by their commands
@@ -58,7 +58,7 @@ RUNS, LOCK = {}, threading.Lock()
 
 def documents():
     pages = [f"{at}/{it}" for at in ("docs", "tests/cases") for it in os.listdir(f"{ROOT}/{at}") if it.endswith(".md")]
-    return ["README.md", "CONTRIBUTING.md", *sorted(pages)]
+    return ["README.md", "CONTRIBUTING.md", "bench/README.md", *sorted(pages)]
 
 
 def read(path):
