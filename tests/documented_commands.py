@@ -46,6 +46,7 @@ NOT_RUN = {
     "make install": "tests/installed_runs.py runs it, into a folder of its own",
     "make uninstall": "tests/installed_runs.py runs it",
     "pip install": "tests/library_runs.py runs it, into a folder of its own",
+    "python -m birchagain serve": "it ends when it is interrupted; tests/library_runs.py runs it",
     "cd crates/": "it proves, or compiles, for minutes; the gate proves and runs all programs",
 }
 NAMED = re.compile(r"`((?:bindings|crates|tests|docs|examples|bench|packaging)/[\w./+-]+|[A-Z]+\.md|crates\.txt|\.ci/run)`")

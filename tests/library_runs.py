@@ -7,8 +7,9 @@ The library is built with its checks, and with the makefile of bindings/c, whose
 warning. Header and package have to declare what the library exports (library_header.py). The example and all calls are
 run under valgrind, which must find no fault and nothing lost. Then each of its requests for memory is refused in turn,
 some of them under valgrind. It is installed, and taken away again. The example in Rust is built and run, the tests of
-the Python package, and what `pip install` makes of the package. FOLDER has libraries that were built before. Prints what
-went wrong, and then how many runs went as wanted. Called by tests/gate.py.
+the Python package, and what `pip install` makes of the package. Its search page is drawn by chromium; a line says so
+where there is none. FOLDER has libraries that were built before. Prints what went wrong, and then how many runs went as
+wanted. Called by tests/gate.py.
 """
 
 import os
@@ -54,6 +55,18 @@ with Index(texts) as index:
     index.weigh_by_rarity(words)
     for hit in index.top("bool 0 2 ? term old ? term apple"):
         print(f"{hit.score}  {texts[hit.document]}")
+"""
+# serves the notes of the repository by the package that is installed, and asks for what README asks the command
+SERVED = """
+import re, subprocess, sys, urllib.request
+words = [sys.executable, "-m", "birchagain", "serve", f"{sys.argv[1]}/examples/notes", "--port", "0"]
+process = subprocess.Popen(words, stdout=subprocess.PIPE, text=True)
+process.stdout.readline()
+address = process.stdout.readline().split()[0]
+page = urllib.request.urlopen(f"{address}?q=%22old+apple%22+nest*").read().decode()
+process.terminate()
+process.wait(60)
+print(re.search("<h1>(.*?)</h1>", page)[1])
 """
 
 
@@ -150,10 +163,12 @@ class Runs:
 
     def python_package(self):
         python = python_with("pytest")
-        words = [python, "-m", "pytest", "-q", "-p", "no:cacheprovider", "tests"]
+        words = [python, "-m", "pytest", "-q", "-rs", "-p", "no:cacheprovider", "tests"]
         text = self.expect("pytest", r"\d+ passed.*\n", *words, cwd=PYTHON, BIRCHAGAIN_LIBRARY=f"{self.folder}/libbirchagain.so")
         if text:
             self.count += int(re.search(r"(\d+) passed", text)[1]) - 1
+            # what was left out, and why
+            print("".join(re.findall(r"^SKIPPED .*\n", text, re.M)), end="", flush=True)
 
     def wheel(self):
         """Builds a wheel where no index of packages is reached, and takes the package that is in it."""
@@ -163,8 +178,11 @@ class Runs:
         words = ["-m", "pip", "install", "-q", "--no-index", "--no-deps", "--no-build-isolation", "--disable-pip-version-check"]
         library = f"{self.folder}/libbirchagain.so"
         self.expect("pip install", r"(?s:.*)", python, *words, "--root-user-action=ignore", "--target", target, copy, BIRCHAGAIN_LIBRARY=library)
-        for name, printed, program in (("the installed package", EXAMPLE, INSTALLED), ("what README shows", *shown_in_readme())):
-            self.expect(name, printed, python, "-c", program, cwd=self.room, PYTHONPATH=target, BIRCHAGAIN_LIBRARY="")
+        programs = [("the installed package", EXAMPLE, INSTALLED), ("what README shows", *shown_in_readme())]
+        programs.append(("the search page", "3 passages found\n", SERVED))
+        for name, printed, program in programs:
+            words = [python, "-c", program, ROOT]
+            self.expect(name, printed, *words, cwd=self.room, PYTHONPATH=target, BIRCHAGAIN_LIBRARY="")
 
     def play(self):
         if not self.make("all", f"{self.folder}/calls", f"{self.folder}/refused"):

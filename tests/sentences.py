@@ -17,7 +17,7 @@ import sys
 ROOT = os.path.realpath(os.path.join(os.path.dirname(os.path.abspath(__file__)), ".."))
 MOST, MOST_WORDS = 30, 20_000
 # its tables are what commands print, and what a line begins with that has a command
-FIGURES, COMMAND = "docs/COSTS.md", "`python3 "
+FIGURES, COMMAND = "docs/COSTS.md", ("`python3 ", "`bench/")
 MONTH = "January|February|March|April|May|June|July|August|September|October|November|December"
 # words of history, and dates
 HISTORY = re.compile(

@@ -1,0 +1,101 @@
+"""The language that people type, beside the plain model of the repository's tests."""
+
+import os
+import random
+import sys
+
+import pytest
+from birchagain.serve.typed import Boosted, Leaf, Named, Refusal, parse
+
+sys.path.append(os.path.join(os.path.dirname(os.path.abspath(__file__)), "..", "..", "..", "tests"))
+
+import model.typed_queries as parser_model  # noqa: E402
+
+TEXTS = 20_000
+PIECES = [
+    "a",
+    "b",
+    "\u00e9",
+    "AND",
+    "OR",
+    "NOT",
+    "IN",
+    '"',
+    '"a b"',
+    "(",
+    ")",
+    "*",
+    "a*",
+    "^2",
+    "^",
+    "~1",
+    "~",
+    "+",
+    "-",
+    "\\",
+]
+PIECES += [
+    ":",
+    "n:",
+    " ",
+    " ",
+    "  ",
+    "?",
+    "[",
+    "]",
+    "{",
+    "<",
+    "/",
+    "\u3000",
+    "\x1c",
+    "\\-",
+    '\\"',
+    "9" * 30,
+    "^2147483647",
+]
+PIECES += ["^2147483648", "~4294967295", "~4294967296", "^0002"]
+
+
+def plain(tree):
+    """A tree as the model has it."""
+    if isinstance(tree, Leaf):
+        if tree.is_phrase:
+            return ("phrase prefix", tree.text) if tree.goes_on else ("phrase", tree.text, tree.slop)
+        if tree.goes_on:
+            return ("prefix", tree.text) if tree.text else ("all",)
+        return ("word", tree.text)
+    if isinstance(tree, Boosted):
+        return ("boost", tree.factor, plain(tree.tree))
+    if isinstance(tree, Named):
+        return ("field", tree.name, plain(tree.tree))
+    return ("clauses", [(sign, plain(it)) for sign, it in tree.clauses]) if tree.clauses else ("empty",)
+
+
+def read(text):
+    try:
+        return plain(parse(text))
+    except Refusal as refusal:
+        # the model counts places in bytes
+        return (refusal.kind, len(text[: refusal.place].encode()))
+
+
+def model(text):
+    try:
+        return parser_model.parse(text)
+    except parser_model.Refused as refused:
+        return (refused.kind, refused.at)
+
+
+@pytest.mark.parametrize("seed", range(10))
+def test_beside_the_model(seed):
+    chance = random.Random(seed)
+    for _ in range(TEXTS // 10):
+        text = "".join(chance.choices(PIECES, k=chance.randrange(12)))
+        assert read(text) == model(text), text
+
+
+def test_deep_and_long():
+    assert read("(" * 64 + "a" + ")" * 64) == ("word", "a")
+    assert read("(" * 65 + "a" + ")" * 65) == ("TooDeep", 64)
+    assert len(parse("a " * 100_000).clauses) == 100_000
+    assert parse("x" * 1_000_000).text == "x" * 1_000_000
