@@ -18,10 +18,12 @@ ghost use Rattle.qm_term.specs.WandRun.{IsNewRun, IsRun, PrunesTerms, RunFinishe
 ghost use Rattle.qm_term.specs.WandRun.{run_combiner, run_lists, run_threshold, run_ticks, run_turns, run_union};
 
 use crate::term_scorer::TermScorer;
+use crate::wand::cells::Cells;
 use crate::wand::front::{TermScorerWithMaxScore, score_level};
 use crate::wand::heads::{Head, align, bounds_at, find_pivot, front_len, pass, settle, skip_one};
 use crate::wand::rows::{heads_of, row_of, tops_fit};
 use crate::wand::single::{call_at, is_above};
+use crate::wand::stretches::run_stretches;
 use crate::wand::ticks::{Ticks, WandCount};
 use qm_combine::BoundedBySum;
 use qm_docset::{DocId, Score, TERMINATED};
@@ -106,17 +108,6 @@ impl<'a, C: BoundedBySum> WandRun<'a, C> {
             ticks: self.ticks.get(),
         }
     }
-
-    // Turns until there is no pivot.
-    fn finish<F: FnMut(DocId, Score) -> Score>(&mut self, callback: &mut F)
-        requires valid { IsRun self.old }
-        requires callable { MayPrune (InRange F.step) F.pre (run_threshold self.old) callback.old (run_union C.combined self.old) }
-        ensures valid { IsRun self.new }
-        ensures turns { run_turns self.new ≤ run_turns self.old + postings (run_lists self.old) }
-        ensures run { RunFinishes (InRange F.step) C.combined callback.old self.old callback.new self.new }
-    {
-        while self.turn(callback) {}
-    }
 }
 
 /// Runs over what the scorers have left: calls `callback` for each document that scores above the
@@ -143,9 +134,26 @@ pub fn block_wand<C: BoundedBySum, F: FnMut(DocId, Score) -> Score>(
     ensures only { IfErr result IsBoundOrMemory }
     ensures untouched { OnErr result (callback.new ≡ callback.old) }
 {
-    let mut run = WandRun::new(alloc, scorers, combiner, threshold)?;
-    run.finish(callback);
-    Ok(run.count())
+    if !tops_fit(&scorers) {
+        return Err(QueryError::ScoreBound);
+    }
+    let mut row = row_of(alloc, scorers)?;
+    let mut heads = heads_of(alloc, &row)?;
+    let mut cells = Cells::new(alloc, combiner)?;
+    let mut ticks = Ticks::new();
+    run_stretches(
+        &mut heads,
+        &mut row,
+        &mut cells,
+        threshold,
+        &mut ticks,
+        callback,
+    );
+    let ticks = ticks.get();
+    Ok(WandCount {
+        turns: ticks,
+        ticks,
+    })
 }
 
 // What a turn did.

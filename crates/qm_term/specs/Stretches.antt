@@ -1,0 +1,66 @@
+-- The run over several terms by stretches of documents.
+use Rattle.std.specs.Prelude.{◌≡◌, ℕ, ℤ, ◌+◌, ◌<◌, ◌≤◌, List, length, slice_index_or, false, All}
+use Rattle.qm_combine.specs.Combiner.{HasRoomFor, IsCleared}
+use Rattle.qm_docset.specs.Entry.{greatest_score}
+use Rattle.qm_term.specs.Cells.{RunsOver, TakesIn, all_shown, cell_of, cells_clear, cells_end, cells_has, cuts, Shown}
+use Rattle.qm_term.specs.Heads.{moved_at, no_member}
+use Rattle.qm_term.specs.Members.{Member}
+use Rattle.qm_term.specs.Pivot.{Pruned, cut, head}
+use Rattle.qm_term.specs.declared.wand.cells.Cells.{Cells}
+use Rattle.qm_term.specs.declared.wand.heads.Head.{Head}
+
+-- the blocks of the records at or before a document are known there
+abbrev pub AreLookedAt : ℕ → List Head → Type 0
+AreLookedAt p hs = (k : ℕ) (d : Head) → k < length hs → (slice_index_or hs k d).doc ≤ p →
+    ((slice_index_or hs k d).block_first ≤ p) × (p ≤ (slice_index_or hs k d).block_end)
+
+-- no record stands before a document
+abbrev pub AreFrom : ℕ → List Head → Type 0
+AreFrom p hs = (k : ℕ) (d : Head) → k < length hs → p ≤ (slice_index_or hs k d).doc
+
+-- a clear cell has no bound and no score
+pub record BeginsClear {C : Type 0} (cleared : C → C) (w : Cells C) : Type 0 where
+  pub bound : (cells_clear w).bound ≡ 0
+  pub state : IsCleared cleared (cells_clear w).state
+
+-- there are cells for a list's documents below an end, and room in them for its scores and bounds
+pub record HasCellsFor {C : Type 0} (step : C → ℕ → C) (cleared : C → C) (end : ℕ) (m : Member) (w : Cells C) : Type 0 where
+  pub end : end ≤ cells_end w
+  pub room : (d : ℕ) → d < end → HasRoomFor step cleared m.top (cell_of w d).state
+  pub fits : (d : ℕ) → d < end → (cell_of w d).bound + m.top ≤ greatest_score
+
+-- the documents of the list at k are taken in up to the end of a block, or to an end before that
+pub record TakesBlock {C : Type 0} (step : C → ℕ → C) (end k : ℕ) (m : Member) (ms ns : List Member) (w w' : Cells C) : Type 0 where
+  pub stop : ℕ
+  pub within : stop ≤ end
+  pub past : head m < stop
+  pub lists : ns ≡ moved_at no_member k (cut stop) ms
+  pub cells : TakesIn step stop m w w'
+
+-- a document that is not there has a clear cell
+abbrev pub AreTidy : {C : Type 0} → Cells C → Type 0
+AreTidy w = (d : ℕ) → cells_has w d ≡ false → cell_of w d ≡ cells_clear w
+
+-- no score of a document passes its bound, which is a score
+abbrev pub AreWithin : List Shown → Type 0
+AreWithin es = All (λ e. (e.score ≤ e.bound) × (e.bound ≤ greatest_score)) es
+
+module _ {F : Type 0} (call : F → ℕ → ℤ → ℤ → F → Type 0) where
+  -- the run over all that is there, and what it adds to the ticks
+  pub record Drains {C : Type 0} (value : C → ℕ) (th : ℤ) (f : F) (w : Cells C) (ticks : ℕ) (th' : ℤ) (g : F) (ticks' : ℕ) : Type 0 where
+    pub count : ℕ
+    pub counted : ticks' ≡ ticks + count
+    pub run : RunsOver call th f (all_shown value w) count th' g
+
+  module _ (combined : List ℕ → ℕ) where
+    -- a run over lists from an end on is one from an earlier document on, with more ticks
+    pub record TakesStretch (th : ℤ) (f : F) (low end : ℕ) (ms : List Member) (ticks : ℕ) (th' : ℤ) (g : F) (ticks' : ℕ) : Type 0 where
+      pub count : ℕ
+      pub counted : ticks' ≡ ticks + count
+      pub back : (k : ℕ) (last : ℤ) (h : F) → Pruned call combined th' g (cuts end ms) k last h →
+          Pruned call combined th f (cuts low ms) (count + k) last h
+
+    -- the run over what the lists have
+    pub record RunsStretches (th : ℤ) (f : F) (ms : List Member) (ticks : ℕ) (g : F) : Type 0 where
+      pub last : ℤ
+      pub run : Pruned call combined th f ms ticks last g
