@@ -1,10 +1,10 @@
 -- The run over several terms by stretches of documents.
-use Rattle.std.specs.Prelude.{◌≡◌, ℕ, ℤ, ◌+◌, ◌<◌, ◌≤◌, List, length, slice_index_or, false, All}
+use Rattle.std.specs.Prelude.{◌≡◌, ℕ, ℤ, ◌+◌, ◌<◌, ◌≤◌, List, length, slice_index_or, true, false, All}
 use Rattle.qm_combine.specs.Combiner.{HasRoomFor, IsCleared}
 use Rattle.qm_docset.specs.Entry.{greatest_score}
-use Rattle.qm_term.specs.Cells.{RunsOver, TakesIn, all_shown, cell_of, cells_clear, cells_end, cells_has, cuts, Shown}
+use Rattle.qm_term.specs.Cells.{AreAlike, RunsOver, TakesIn, all_shown, cell_of, cells_clear, cells_end, cells_has, cuts, Shown}
 use Rattle.qm_term.specs.Heads.{moved_at, no_member}
-use Rattle.qm_term.specs.Members.{Member}
+use Rattle.qm_term.specs.Members.{Member, bound_at}
 use Rattle.qm_term.specs.Pivot.{Pruned, cut, head}
 use Rattle.qm_term.specs.declared.wand.cells.Cells.{Cells}
 use Rattle.qm_term.specs.declared.wand.heads.Head.{Head}
@@ -29,6 +29,10 @@ pub record HasCellsFor {C : Type 0} (step : C → ℕ → C) (cleared : C → C)
   pub room : (d : ℕ) → d < end → HasRoomFor step cleared m.top (cell_of w d).state
   pub fits : (d : ℕ) → d < end → (cell_of w d).bound + m.top ≤ greatest_score
 
+-- the documents of a list below an end are in one block, with this bound
+abbrev pub IsBoundedTo : ℕ → ℕ → Member → Type 0
+IsBoundedTo end bound m = (d : ℕ) → head m ≤ d → d < end → bound_at d m.blocks ≡ bound
+
 -- the documents of the list at k are taken in up to the end of a block, or to an end before that
 pub record TakesBlock {C : Type 0} (step : C → ℕ → C) (end k : ℕ) (m : Member) (ms ns : List Member) (w w' : Cells C) : Type 0 where
   pub stop : ℕ
@@ -41,11 +45,23 @@ pub record TakesBlock {C : Type 0} (step : C → ℕ → C) (end k : ℕ) (m : M
 abbrev pub AreTidy : {C : Type 0} → Cells C → Type 0
 AreTidy w = (d : ℕ) → cells_has w d ≡ false → cell_of w d ≡ cells_clear w
 
+-- some documents were taken out, whose cells are clear then: each that is left was there, and is as it was
+pub record TakenOut {C : Type 0} (w w' : Cells C) : Type 0 where
+  pub had : (d : ℕ) → cells_has w' d ≡ true → cells_has w d ≡ true
+  pub tidy : AreTidy w'
+  pub alike : AreAlike w w'
+
 -- no score of a document passes its bound, which is a score
 abbrev pub AreWithin : List Shown → Type 0
 AreWithin es = All (λ e. (e.score ≤ e.bound) × (e.bound ≤ greatest_score)) es
 
 module _ {F : Type 0} (call : F → ℕ → ℤ → ℤ → F → Type 0) where
+  -- a run over what is there then is one over what was there before, with more ticks
+  pub record GoesOn {C : Type 0} (value : C → ℕ) (th : ℤ) (f : F) (w : Cells C) (ticks : ℕ) (th' : ℤ) (g : F) (w' : Cells C) (ticks' : ℕ) : Type 0 where
+    pub count : ℕ
+    pub counted : ticks' ≡ ticks + count
+    pub back : (k : ℕ) (last : ℤ) (h : F) → RunsOver call th' g (all_shown value w') k last h → RunsOver call th f (all_shown value w) (count + k) last h
+
   -- the run over all that is there, and what it adds to the ticks
   pub record Drains {C : Type 0} (value : C → ℕ) (th : ℤ) (f : F) (w : Cells C) (ticks : ℕ) (th' : ℤ) (g : F) (ticks' : ℕ) : Type 0 where
     pub count : ℕ

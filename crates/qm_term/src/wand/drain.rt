@@ -1,12 +1,12 @@
 //! The run over the cells of a stretch.
 
-ghost use Rattle.std.specs.Prelude.{◌≡◌, ℕ, ◌+◌, ◌*◌, ◌<◌, ◌≤◌, ◌^◌, false, pos};
+ghost use Rattle.std.specs.Prelude.{◌≡◌, ℕ, ◌+◌, ◌*◌, ◌<◌, ◌≤◌, ◌^◌, false, length, pos};
 ghost use Rattle.qm_docset.specs.Entry.{greatest_score};
-ghost use Rattle.qm_term.specs.Cells.{AreClear, all_shown, cells_clear, cells_has, cells_start, hits_shown};
+ghost use Rattle.qm_term.specs.Cells.{AreClear, LackAll, all_shown, cells_clear, cells_has, cells_start, hits_shown};
 ghost use Rattle.qm_term.specs.HitRuns.{MayPrune, one_if_above};
 ghost use Rattle.qm_term.specs.Runs.{InRange, MayTurn, Turn};
 ghost use Rattle.qm_term.specs.RunScorers.{ticks_of};
-ghost use Rattle.qm_term.specs.Stretches.{AreTidy, AreWithin, Drains};
+ghost use Rattle.qm_term.specs.Stretches.{AreTidy, AreWithin, Drains, GoesOn, TakenOut};
 
 use crate::wand::cells::{Cell, Cells};
 use crate::wand::single::{call_at, is_above};
@@ -35,13 +35,42 @@ pub(super) fn drain<C: BoundedBySum, F: FnMut(DocId, Score) -> Score>(
     ensures run { Drains (InRange F.step) C.value threshold callback.old cells.old (ticks_of ticks.old) result callback.new (ticks_of ticks.new) }
 {
     let mut threshold = threshold;
-    // a run over what is left is one over all
+    // the words before are empty, and a run over what is left is one over all
     for word in 0..words {
-        // the same
-        while let Some(doc) = cells.first_in(word) {
-            let cell = cells.take(doc);
-            threshold = score_cell(doc, cell, threshold, ticks, callback);
-        }
+        threshold = drain_word(cells, word, threshold, ticks, callback);
+    }
+    threshold
+}
+
+// The same over one word, before which none has a document.
+fn drain_word<C: BoundedBySum, F: FnMut(DocId, Score) -> Score>(
+    cells: &mut Cells<C>,
+    word: usize,
+    threshold: Score,
+    ticks: &mut Ticks,
+    callback: &mut F,
+) -> Score
+    requires tidy { AreTidy cells.old }
+    requires within { AreWithin (all_shown C.value cells.old) }
+    requires word { word < 64 }
+    requires before { LackAll cells.old 0 (cells_start cells.old + 64 * word) }
+    requires room { ticks_of ticks.old + length (all_shown C.value cells.old) < 2 ^ 128 }
+    requires callable { MayPrune (InRange F.step) F.pre threshold callback.old (hits_shown (all_shown C.value cells.old)) }
+    ensures taken { TakenOut cells.old cells.new }
+    ensures within { AreWithin (all_shown C.value cells.new) }
+    ensures before { LackAll cells.new 0 (cells_start cells.old + 64 * (word + 1)) }
+    ensures room { ticks_of ticks.new + length (all_shown C.value cells.new) ≤ ticks_of ticks.old + length (all_shown C.value cells.old) }
+    ensures callable { MayPrune (InRange F.step) F.pre result callback.new (hits_shown (all_shown C.value cells.new)) }
+    ensures run { GoesOn (InRange F.step) C.value threshold callback.old cells.old (ticks_of ticks.old)
+        result callback.new cells.new (ticks_of ticks.new) }
+{
+    let mut threshold = threshold;
+    let mut next = cells.first_in(word);
+    // as before, and the next document is the first that is left
+    while let Some(doc) = next {
+        let cell = cells.take(doc);
+        threshold = score_cell(doc, cell, threshold, ticks, callback);
+        next = cells.first_in(word);
     }
     threshold
 }
