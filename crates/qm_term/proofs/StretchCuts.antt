@@ -3,7 +3,8 @@ use Rattle.std.proofs.Common.{◌≡◌, ◌∙◌, ℕ, ℤ, zero, suc, ◌+◌
 use Rattle.std.proofs.lemmas.Bool.{cases_lt, false≢true}
 use Rattle.qm_term.specs.Cells.{cuts}
 use Rattle.qm_term.specs.Heads.{no_member}
-use Rattle.qm_term.specs.Members.{AreMembers, Hit, IsMember, Member, all_of, has, hits_from}
+use Rattle.qm_docset.specs.declared.numbers.TheConstants.{TERMINATED}
+use Rattle.qm_term.specs.Members.{AreBounded, AreMembers, Block, Hit, IsMember, Member, all_of, has, hit_document, hits_from}
 use Rattle.qm_term.specs.Pivot.{AreCut, Held, Passes, Scores, blockbound, cut, head}
 use Rattle.qm_term.proofs.WandBounds.{AreBounded-from, ascends, cut_blockbound, cut_blockbound_le, cut_from, cut_held, cut_members, has-from, has-from_below, low_le}
 use Rattle.qm_term.proofs.WandScores.{cut_scores}
@@ -38,6 +39,14 @@ pub cuts_all : (t : ℕ) (ms : List Member) → AreMembers ms → ((k : ℕ) →
 cuts_all t [] h a = refl
 cuts_all t (m ∷ ms) h a = ap₂ (λ (x : Member) (xs : List Member). x ∷ xs) (cut_all t m h.0 (a zero (omega arith)))
     (cuts_all t ms h.1 (λ k l. a (suc k) (omega arith)))
+
+-- what is left of a list stands at the document or past it
+reaches : (t : ℕ) (bs : List Block) (es : List Hit) → AreBounded t bs es → t ≤ TERMINATED → t ≤ hit_document es
+reaches t bs [] h below = below
+reaches t bs (e ∷ es) h below = h.0
+
+pub cut_reaches : (t : ℕ) (m : Member) → IsMember m → t ≤ TERMINATED → t ≤ head (cut t m)
+cut_reaches t m h below = reaches t m.blocks (hits_from t m.entries) (AreBounded-from 0 t m.blocks m.entries h.entries).0 below
 
 -- ---- what is left of the documents
 

@@ -9,10 +9,13 @@ use Rattle.qm_term.specs.Pivot.{Pruned, cut, head}
 use Rattle.qm_term.specs.declared.wand.cells.Cells.{Cells}
 use Rattle.qm_term.specs.declared.wand.heads.Head.{Head}
 
--- the blocks of the records at or before a document are known there
+-- the block of a record at or before a document is known there
+abbrev pub IsLookedAt : ℕ → Head → Type 0
+IsLookedAt p h = h.doc ≤ p → (h.block_first ≤ p) × (p ≤ h.block_end)
+
+-- so are those of several
 abbrev pub AreLookedAt : ℕ → List Head → Type 0
-AreLookedAt p hs = (k : ℕ) (d : Head) → k < length hs → (slice_index_or hs k d).doc ≤ p →
-    ((slice_index_or hs k d).block_first ≤ p) × (p ≤ (slice_index_or hs k d).block_end)
+AreLookedAt p hs = (k : ℕ) (d : Head) → k < length hs → IsLookedAt p (slice_index_or hs k d)
 
 -- no record stands before a document
 abbrev pub AreFrom : ℕ → List Head → Type 0
@@ -26,8 +29,8 @@ pub record BeginsClear {C : Type 0} (cleared : C → C) (w : Cells C) : Type 0 w
 -- there are cells for a list's documents below an end, and room in them for its scores and bounds
 pub record HasCellsFor {C : Type 0} (step : C → ℕ → C) (cleared : C → C) (end : ℕ) (m : Member) (w : Cells C) : Type 0 where
   pub end : end ≤ cells_end w
-  pub room : (d : ℕ) → d < end → HasRoomFor step cleared m.top (cell_of w d).state
-  pub fits : (d : ℕ) → d < end → (cell_of w d).bound + m.top ≤ greatest_score
+  pub room : (d : ℕ) → head m ≤ d → d < end → HasRoomFor step cleared m.top (cell_of w d).state
+  pub fits : (d : ℕ) → head m ≤ d → d < end → (cell_of w d).bound + m.top ≤ greatest_score
 
 -- the documents of a list below an end are in one block, with this bound
 abbrev pub IsBoundedTo : ℕ → ℕ → Member → Type 0
