@@ -2,14 +2,22 @@
 use Rattle.std.proofs.Common.{◌≡◌, ◌∙◌, ℕ, zero, suc, ◌+◌, ◌<◌, ◌≤◌, List, [], ◌∷◌, ap, arith, drop, get_or, inl, inr, length, map, min, refl, set, sym}
 use Rattle.std.proofs.lemmas.Bool.{cases_lt, le-leb, lt-leb}
 use Rattle.qm_docset.specs.declared.numbers.TheConstants.{TERMINATED}
-use Rattle.qm_term.specs.Heads.{AreRecords, listed, lists}
+use Rattle.qm_term.specs.Heads.{AreRecords, listed, lists, no_member}
 use Rattle.qm_term.specs.Members.{AreMembers, Member, end_at}
-use Rattle.qm_term.specs.Pivot.{head, skip, skip_by, total_top}
-use Rattle.qm_term.specs.Stretches.{AreLookedAt, IsLookedAt}
+use Rattle.qm_term.specs.Pivot.{cut, head, skip, skip_by, total_top}
+use Rattle.qm_term.specs.Stretches.{AreFrom, AreLookedAt, IsLookedAt}
 use Rattle.qm_term.specs.declared.wand.heads.Head.{Head}
 use Rattle.qm_term.proofs.WandBounds.{skip-cons, skip_le_end, total-cons}
 use Rattle.qm_term.proofs.WandRows.{rest_at}
 use Rattle.std.proofs.Common.{leb, true, false}
+use Rattle.std.proofs.lemmas.List.{get_or-map, length-map}
+use Rattle.qm_term.specs.Cells.{cuts}
+use Rattle.qm_term.specs.HeadRow.{AreHeads, row_lists}
+use Rattle.qm_term.specs.RunScorers.{wand_member}
+use Rattle.qm_term.specs.declared.wand.front.TermScorerWithMaxScore.{TermScorerWithMaxScore}
+use Rattle.qm_term.proofs.RowMoves.{row_member}
+use Rattle.qm_term.proofs.RowRecords.{doc_at, row_members, zeros}
+use Rattle.qm_term.proofs.StretchCuts.{cut_reaches, cuts_all}
 
 -- how far a record's block at p, or its document, allows to pass
 pub end_by : (ms : List Member) (hs : List Head) (p k : ℕ) (d : Head) → AreRecords ms hs → k < length hs → IsLookedAt p (get_or hs k d) → (r : ℕ) →
@@ -66,3 +74,32 @@ pub tops_from : (ms : List Member) (k : ℕ) (d : Member) → k < length ms → 
 tops_from [] k d l = absurd (omega arith)
 tops_from (m ∷ ms) zero d l = omega (arith, total-cons (λ (x : Member). x.top) m ms)
 tops_from (m ∷ ms) (suc k) d l = omega (arith, total-cons (λ (x : Member). x.top) m ms, tops_from ms k d (omega arith))
+
+-- lists none of whose records stands before a document are as they were, cut to it
+pub cuts_from : (ss : List TermScorerWithMaxScore) (hs : List Head) (t : ℕ) → AreHeads ss hs → AreFrom t hs → cuts t (row_lists ss hs) ≡ row_lists ss hs
+cuts_from ss hs t r from =
+    cuts_all t (row_lists ss hs) (row_members ss hs r) (λ k l.
+    let inside : k < length hs = omega (arith, l, length-map hs (listed (map wand_member ss))) in
+    omega (arith, from k zeros inside, doc_at (map wand_member ss) hs r.records k zeros inside))
+
+-- and the records of lists that are cut to a document stand there or past it
+pub from_cuts : (ss ts : List TermScorerWithMaxScore) (hs gs : List Head) (t : ℕ) → AreHeads ss hs → AreHeads ts gs →
+    row_lists ts gs ≡ cuts t (row_lists ss hs) → t ≤ TERMINATED → AreFrom t gs
+from_cuts ss ts hs gs t r q is below = λ k d l.
+    let ls = row_lists ss hs in
+    let long : length gs ≡ length hs = omega (
+      arith,
+      ap length is,
+      length-map gs (listed (map wand_member ts)),
+      length-map ls (cut t),
+      length-map hs (listed (map wand_member ss)),
+    ) in
+    let inside : k < length ls = omega (arith, l, long, length-map hs (listed (map wand_member ss))) in
+    let at : get_or (row_lists ts gs) k no_member ≡ cut t (get_or ls k no_member) =
+    ap (λ (xs : List Member). get_or xs k no_member) is ∙ get_or-map (cut t) ls k no_member no_member inside in
+    omega (
+      arith,
+      doc_at (map wand_member ts) gs q.records k d l,
+      ap head at,
+      cut_reaches t (get_or ls k no_member) (row_member ss hs k r (omega (arith, l, long))) below,
+    )

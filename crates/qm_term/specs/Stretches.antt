@@ -72,12 +72,11 @@ module _ {F : Type 0} (call : F → ℕ → ℤ → ℤ → F → Type 0) where
     pub run : RunsOver call th f (all_shown value w) count th' g
 
   module _ (combined : List ℕ → ℕ) where
-    -- a run over lists from an end on is one from an earlier document on, with more ticks
-    pub record TakesStretch (th : ℤ) (f : F) (low end : ℕ) (ms : List Member) (ticks : ℕ) (th' : ℤ) (g : F) (ticks' : ℕ) : Type 0 where
+    -- a run over the lists then is one over those that were there before, with more ticks
+    pub record MovesOn (th : ℤ) (f : F) (ms : List Member) (ticks : ℕ) (th' : ℤ) (g : F) (ns : List Member) (ticks' : ℕ) : Type 0 where
       pub count : ℕ
       pub counted : ticks' ≡ ticks + count
-      pub back : (k : ℕ) (last : ℤ) (h : F) → Pruned call combined th' g (cuts end ms) k last h →
-          Pruned call combined th f (cuts low ms) (count + k) last h
+      pub back : (k : ℕ) (last : ℤ) (h : F) → Pruned call combined th' g ns k last h → Pruned call combined th f ms (count + k) last h
 
     -- the run over what the lists have
     pub record RunsStretches (th : ℤ) (f : F) (ms : List Member) (ticks : ℕ) (g : F) : Type 0 where

@@ -17,6 +17,7 @@ loop-k-preserved c =
             (omega (arith, c.min-least.ensures, ap (λ (h : Head). h.doc) (any hs k zeros d (omega (arith, c.loop-k-test.true)))))
         | inr other ↦ omega (arith, c.min-least.ensures, inside.least j d (omega (arith, l, other)))
       ];
+      from = λ p below all. omega (arith, c.min-least.ensures, inside.from p below all, all k zeros (omega (arith, c.loop-k-test.true)));
     }
 
 pub returns-clause-least : goal.returns-clause-least
