@@ -9,7 +9,7 @@ use Rattle.qm_term.specs.Members.{AreMembers, Hit, Member, has, all_of, scores_o
 use Rattle.qm_term.specs.Pivot.{Held, Pruned, blockbound, total_top}
 use Rattle.qm_term.specs.Runs.{MayTurn, Turn}
 use Rattle.qm_term.specs.declared.wand.cells.Cells.{Cells}
-use Rattle.qm_term.proofs.StretchCells.{bound_is, has_below, score_is, score_within}
+use Rattle.qm_term.proofs.StretchCells.{has_below}
 use Rattle.qm_term.proofs.StretchCuts.{AreCut-cuts, cuts_held, cuts_members, held_cuts, passes_cuts, scores_cuts}
 use Rattle.qm_term.proofs.WandBounds.{all_of-has, cut_blockbound, has-all_of, low_le}
 use Rattle.qm_term.proofs.WandPlain.{above_from_test, below_from_test, is_above, not_above, pass_may, pass_step, score_may, score_step}
@@ -17,9 +17,9 @@ use Rattle.qm_term.proofs.WandScores.{cut_scores, united_le}
 use lib.Signed.{clash_ℤ, lt_z}
 
 by_above : (P : Type 0) (th : ℤ) (n : ℕ) → (th <ℤ pos n → P) → (pos n ≤ℤ th → P) → P
-by_above P th n yes no = elim (cases_Bool (lt_z th (pos n))) [
-  | inl t ↦ yes (above_from_test th (pos n) t)
-  | inr t ↦ no (below_from_test th (pos n) t)
+by_above P th n up down = elim (cases_Bool (lt_z th (pos n))) [
+  | inl t ↦ up (above_from_test th (pos n) t)
+  | inr t ↦ down (below_from_test th (pos n) t)
 ]
 
 -- ---- what is shown
@@ -46,12 +46,6 @@ module _ {F C : Type 0} (call : F → ℕ → ℤ → ℤ → F → Type 0) (com
     (step : C → ℕ → C) (value : C → ℕ) (low end : ℕ) (ms : List Member) (are : AreMembers ms) (w : Cells C)
     (makes : (xs : List ℕ) → value (fold step (cells_clear w).state xs) ≡ combined xs)
     (h : HoldLists step end (cuts low ms) w) where
-  ls : List Member
-  ls = cuts low ms
-
-  are_cut : AreMembers (cuts low ms)
-  are_cut = cuts_members low ms are
-
   -- the document s is there
   module _ (s : ℕ) (from_low : low ≤ s) (y : cells_has w s ≡ true) where
     held_here : Held s ms

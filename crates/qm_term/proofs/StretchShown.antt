@@ -1,6 +1,7 @@
 -- What cells show as a document is taken out.
-use Rattle.std.proofs.Common.{◌≡◌, ◌≢◌, ◌∙◌, ℕ, ℤ, zero, suc, ◌+◌, ◌<◌, ◌≤◌, ◌==◌, ◌&&◌, Bool, true, false, not, List, [], ◌∷◌, ap, arith, eq-eqb, inl, inr, length, ne_eqb, refl, subst, sym}
-use Rattle.std.proofs.lemmas.Bool.{and_right, cases_Bool, cases_eq, cases_lt, false≢true}
+use Rattle.std.proofs.Common.{◌≡◌, ◌≢◌, ◌∙◌, ℕ, ℤ, zero, suc, ◌+◌, ◌<◌, ◌≤◌, ◌==◌, ◌&&◌, ◌-◌, Bool, true, false, nat_le, not, List, [], ◌∷◌, ap, arith, eq-eqb, inl, inr, length, ne_eqb, refl, subst, sym}
+use Rattle.std.proofs.lemmas.Bool.{and_parts, cases_Bool, cases_eq, cases_lt, false≢true, leb-true, lt-leb}
+use Rattle.qm_docset.specs.Words.{words_have}
 use Rattle.qm_term.specs.Cells.{AreAlike, LackAll, Shown, all_shown, cell_of, cells_end, cells_has, cells_start, shown_from}
 use Rattle.qm_term.specs.declared.wand.cells.Cell.{Cell}
 use Rattle.qm_term.specs.declared.wand.cells.Cells.{Cells}
@@ -96,3 +97,16 @@ shown_few value w (suc n) s = elim (cases_Bool (cells_has w s)) [
 pub all_few : {C : Type 0} (value : C → ℕ) (w : Cells C) → length (all_shown value w) ≤ length w.cells.items
 unfolding all_shown
 all_few value w = shown_few value w _ _
+
+-- what is there lies at the start or past it
+pub has_from : {C : Type 0} (w : Cells C) (d : ℕ) → cells_has w d ≡ true → cells_start w ≤ d
+unfolding cells_has
+has_from w d here = leb-true w.start d (and_parts (nat_le w.start d) (words_have w.words.items (d - w.start)) here).0
+
+pub lacks_before : {C : Type 0} (w : Cells C) (d : ℕ) → d < cells_start w → cells_has w d ≡ false
+unfolding cells_has
+lacks_before w d before = rw (lt-leb w.start d before) refl
+
+-- where nothing is there up to a document, and from there on to another, nothing is up to that
+pub lacks_all : {C : Type 0} (w : Cells C) (low mid end : ℕ) → LackAll w low mid → LackAll w mid end → LackAll w low end
+lacks_all w low mid end a b = λ d from to. elim (cases_lt d mid) [ inl before ↦ a d from before | inr past ↦ b d past to ]

@@ -1,8 +1,8 @@
 //! The run over the cells of a stretch.
 
-ghost use Rattle.std.specs.Prelude.{◌≡◌, ℕ, ◌+◌, ◌*◌, ◌<◌, ◌≤◌, ◌^◌, false, length, pos};
+ghost use Rattle.std.specs.Prelude.{◌≡◌, ℕ, ◌+◌, ◌*◌, ◌<◌, ◌≤◌, ◌^◌, false, length, pos, true};
 ghost use Rattle.qm_docset.specs.Entry.{greatest_score};
-ghost use Rattle.qm_term.specs.Cells.{AreClear, LackAll, all_shown, cells_clear, cells_has, cells_start, hits_shown};
+ghost use Rattle.qm_term.specs.Cells.{AreClear, LackAll, all_shown, cells_clear, cells_end, cells_has, cells_start, hits_shown};
 ghost use Rattle.qm_term.specs.HitRuns.{MayPrune, one_if_above};
 ghost use Rattle.qm_term.specs.Runs.{InRange, MayTurn, Turn};
 ghost use Rattle.qm_term.specs.RunScorers.{ticks_of};
@@ -24,6 +24,7 @@ pub(super) fn drain<C: BoundedBySum, F: FnMut(DocId, Score) -> Score>(
     callback: &mut F,
 ) -> Score
     requires tidy { AreTidy cells.old }
+    requires inside { (d : ℕ) → cells_has cells.old d ≡ true → d < cells_end cells.old }
     requires within { AreWithin (all_shown C.value cells.old) }
     requires words { words ≤ 64 }
     requires beyond { (d : ℕ) → cells_start cells.old + 64 * words ≤ d → cells_has cells.old d ≡ false }
@@ -51,6 +52,7 @@ fn drain_word<C: BoundedBySum, F: FnMut(DocId, Score) -> Score>(
     callback: &mut F,
 ) -> Score
     requires tidy { AreTidy cells.old }
+    requires inside { (d : ℕ) → cells_has cells.old d ≡ true → d < cells_end cells.old }
     requires within { AreWithin (all_shown C.value cells.old) }
     requires word { word < 64 }
     requires before { LackAll cells.old 0 (cells_start cells.old + 64 * word) }
@@ -65,12 +67,10 @@ fn drain_word<C: BoundedBySum, F: FnMut(DocId, Score) -> Score>(
         result callback.new cells.new (ticks_of ticks.new) }
 {
     let mut threshold = threshold;
-    let mut next = cells.first_in(word);
-    // as before, and the next document is the first that is left
-    while let Some(doc) = next {
+    // as before
+    while let Some(doc) = cells.first_in(word) {
         let cell = cells.take(doc);
         threshold = score_cell(doc, cell, threshold, ticks, callback);
-        next = cells.first_in(word);
     }
     threshold
 }
