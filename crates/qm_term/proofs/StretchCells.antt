@@ -1,5 +1,5 @@
 -- What cells hold as lists are taken in.
-use Rattle.std.proofs.Common.{◌≡◌, ◌≢◌, ◌∙◌, ℕ, zero, suc, ◌+◌, ◌<◌, ◌≤◌, ◌||◌, ◌==◌, Bool, true, false, cond, List, [], ◌∷◌, ◌++◌, fold, ap, ap₂, arith, eq-eqb, inl, inr}
+use Rattle.std.proofs.Common.{◌≡◌, ◌≢◌, ◌∙◌, ℕ, zero, suc, ◌+◌, ◌<◌, ◌≤◌, ◌||◌, ◌==◌, Bool, true, false, cond, leb, List, [], ◌∷◌, ◌++◌, fold, ap, ap₂, arith, eq-eqb, inl, inr}
 use Rattle.std.proofs.Common.{ne_eqb, refl, subst, sum, sym}
 use Rattle.std.specs.Prelude.{All}
 use Rattle.std.proofs.lemmas.Bool.{cases_Bool, cases_eq, cases_lt, cond_both, false≢true, or_left}
@@ -162,7 +162,7 @@ same_cell a b x y = ap₂ (λ n s. record { bound = n; state = s }) x y
 
 pub blockbound_le_top : (d : ℕ) (ms : List Member) → AreMembers ms → blockbound d ms ≤ total_top ms
 blockbound_le_top d ms h = total_le (bound_in d) (λ m. m.top) ms h (λ m i.
-    let least : top_by d m ≤ m.top = cond_both _ m.top 0 (λ n. n ≤ m.top) (λ _. omega arith) (λ _. omega arith) in
+    let least : top_by d m ≤ m.top = cond_both (leb (head m) d) m.top 0 (λ n. n ≤ m.top) (λ _. omega arith) (λ _. omega arith) in
     omega (arith, bound_le_top d m i, least))
 
 module _ {C : Type 0} (step : C → ℕ → C) (end : ℕ) (ms : List Member) (w : Cells C) (h : HoldLists step end ms w) where

@@ -6,6 +6,7 @@ use Rattle.qm_term.specs.Cells.{AreAlike, RunsOver, TakesIn, all_shown, cell_of,
 use Rattle.qm_term.specs.Heads.{moved_at, no_member}
 use Rattle.qm_term.specs.Members.{Member, bound_at}
 use Rattle.qm_term.specs.Pivot.{Pruned, cut, head}
+use Rattle.qm_term.specs.declared.wand.cells.Cell.{Cell}
 use Rattle.qm_term.specs.declared.wand.cells.Cells.{Cells}
 use Rattle.qm_term.specs.declared.wand.heads.Head.{Head}
 
@@ -22,9 +23,9 @@ abbrev pub AreFrom : ℕ → List Head → Type 0
 AreFrom p hs = (k : ℕ) (d : Head) → k < length hs → p ≤ (slice_index_or hs k d).doc
 
 -- a clear cell has no bound and no score
-pub record BeginsClear {C : Type 0} (cleared : C → C) (w : Cells C) : Type 0 where
-  pub bound : (cells_clear w).bound ≡ 0
-  pub state : IsCleared cleared (cells_clear w).state
+pub record BeginsClear {C : Type 0} (cleared : C → C) (cell : Cell C) : Type 0 where
+  pub bound : cell.bound ≡ 0
+  pub state : IsCleared cleared cell.state
 
 -- there are cells for a list's documents below an end, and room in them for its scores and bounds
 pub record HasCellsFor {C : Type 0} (step : C → ℕ → C) (cleared : C → C) (end : ℕ) (m : Member) (w : Cells C) : Type 0 where

@@ -4,7 +4,6 @@ ghost use Rattle.std.specs.Prelude.{◌≡◌, ℕ, ◌+◌, ◌*◌, ◌/◌, �
 ghost use Rattle.std.specs.Prelude.{IfOk, IfSome, IsOkUnless, None};
 ghost use Rattle.qm_docset.specs.Entry.{greatest_score};
 ghost use Rattle.qm_docset.specs.Words.{words_have};
-ghost use Rattle.qm_term.specs.Cells.{Adds, AreAlike, AreClear, LackAll, cell_of, cells_clear, cells_end, cells_has, cells_start};
 
 use crate::wand::front::scored;
 use qm_combine::BoundedBySum;
@@ -38,6 +37,8 @@ pub(crate) struct Cells<C> {
 }
 
 impl<C: BoundedBySum> Cells<C> {
+    ghost use Rattle.qm_term.specs.Cells.{Adds, AreAlike, AreClear, LackAll, cell_of, cells_clear, cells_end, cells_has, cells_start};
+
     /// Cells of no document. Refused for want of memory alone.
     pub(super) fn new(alloc: Global, combiner: C) -> Result<Cells<C>, QueryError>
         ensures clear { IfOk result AreClear }
