@@ -59,3 +59,84 @@ within_first : (g : Over) (c : After-take-cell g) →
     × ((cell_of c.loop-doc.cells c.in-Some.doc).bound ≤ greatest_score)
 within_first g c =
     All-head (λ (e : Shown). (e.score ≤ e.bound) × (e.bound ≤ greatest_score)) _ _ (subst AreWithin (shown g c) c.loop-doc.invariant.within)
+
+pub score_cell-threshold-requires-clause-within : goal.score_cell-threshold-requires-clause-within
+score_cell-threshold-requires-clause-within g c =
+    subst (λ (x : Cell _). g.C.ScoreCombiner.value x.state ≤ x.bound) (sym c.take-cell.ensures.cell)
+    (within_first g (goal.at.score_cell-threshold-requires-clause-within g c).After-take-cell).0
+
+pub score_cell-threshold-requires-clause-bound : goal.score_cell-threshold-requires-clause-bound
+score_cell-threshold-requires-clause-bound g c =
+    subst (λ (x : Cell _). x.bound ≤ greatest_score) (sym c.take-cell.ensures.cell)
+    (within_first g (goal.at.score_cell-threshold-requires-clause-bound g c).After-take-cell).1
+
+pub score_cell-threshold-requires-clause-room : goal.score_cell-threshold-requires-clause-room
+score_cell-threshold-requires-clause-room g c =
+    omega (
+      arith,
+      ap length (shown g (goal.at.score_cell-threshold-requires-clause-room g c).After-take-cell),
+      c.loop-doc.invariant.room,
+      c.requires.room,
+    )
+
+pub score_cell-threshold-requires-clause-callable : goal.score_cell-threshold-requires-clause-callable
+score_cell-threshold-requires-clause-callable g c =
+    let w = fnmut.words g.row.C g.row.F g.F.FnMut in
+    let may = subst (λ (xs : List Shown). MayPrune (InRange w.step) w.pre c.loop-doc.threshold c.loop-doc.callback (hits_shown xs))
+    (shown g (goal.at.score_cell-threshold-requires-clause-callable g c).After-take-cell) c.loop-doc.invariant.may in
+    subst (λ (x : Cell _). MayTurn w.pre c.loop-doc.threshold c.loop-doc.callback c.in-Some.doc (g.C.ScoreCombiner.value x.state))
+    (sym c.take-cell.ensures.cell) may.0
+
+pub loop-doc-preserved : goal.loop-doc-preserved
+loop-doc-preserved g c =
+    let w = fnmut.words g.row.C g.row.F g.F.FnMut in
+    let call = InRange w.step in
+    let value = g.C.ScoreCombiner.value in
+    let inv = c.loop-doc.invariant in
+    let old = c.loop-doc.cells in
+    let new = c.take-cell.new.self in
+    let doc : ℕ = c.in-Some.doc in
+    let e = c.take-cell.ensures in
+    let is = shown g (goal.at.loop-doc-preserved g c).After-take-cell in
+    let scored = c.score_cell-threshold in
+    let one = one_if_above c.loop-doc.threshold (cell_of old doc).bound in
+    let ticks : ticks_of scored.new.ticks ≡ ticks_of c.loop-doc.ticks + one = scored.ensures.ticks
+    ∙ ap (λ (x : Cell _). ticks_of c.loop-doc.ticks + one_if_above c.loop-doc.threshold x.bound) e.cell in
+    let turn : Turn call c.loop-doc.threshold c.loop-doc.callback doc (pos (value (cell_of old doc).state)) scored.result scored.new.callback =
+    subst (λ (x : Cell _). Turn call c.loop-doc.threshold c.loop-doc.callback doc (pos (value x.state)) scored.result scored.new.callback) e.cell scored.ensures.turn in
+    let may = subst (λ (xs : List Shown). MayPrune call w.pre c.loop-doc.threshold c.loop-doc.callback (hits_shown xs)) is inv.may in
+    record {
+      taken = record {
+        had = λ d here. inv.taken.had d (was_there value old new doc c.in-Some.ensures.has e.has e.others d here);
+        tidy = λ d none. tidy_taken value old new doc c.in-Some.ensures.has e.has e.others inv.taken.tidy e.cleared d none ∙ sym e.alike.clear;
+        alike = record {
+          start = e.alike.start ∙ inv.taken.alike.start;
+          end = e.alike.end ∙ inv.taken.alike.end;
+          clear = e.alike.clear ∙ inv.taken.alike.clear;
+        };
+      };
+      within = All-tail (λ (x : Shown). (x.score ≤ x.bound) × (x.bound ≤ greatest_score)) _ _ (subst AreWithin is inv.within);
+      before = λ d from to. e.has d ∙ ap (λ b. b && not (d == doc)) (inv.before d from to);
+      room = omega (arith, ap length is, inv.room, ticks, at_most_one c.loop-doc.threshold (cell_of old doc).bound);
+      may = may.1 scored.result scored.new.callback turn;
+      goes = record {
+        count = inv.goes.count + one;
+        counted = omega (arith, inv.goes.counted, ticks);
+        back = λ k last h p.
+            let step = subst (λ (xs : List Shown). RunsOver call c.loop-doc.threshold c.loop-doc.callback xs (one + k) last h) (sym is)
+            (scored.result, scored.new.callback, k, turn, refl, p) in
+            let same : inv.goes.count + (one + k) ≡ inv.goes.count + one + k = omega arith in
+            subst (λ (n : ℕ). RunsOver call c.args.threshold c.args.callback.now (all_shown value c.args.cells.now) n last h) same
+            (inv.goes.back (one + k) last h step);
+      };
+    }
+
+pub loop-doc-smaller : goal.loop-doc-smaller
+loop-doc-smaller g c = omega (arith, ap length (shown g (goal.at.loop-doc-smaller g c).After-take-cell))
+
+pub returns-clause-before : goal.returns-clause-before
+returns-clause-before g c =
+    let inv = c.loop-doc.invariant in
+    let start = inv.taken.alike.start in
+    lacks_all c.loop-doc.cells 0 (cells_start c.args.cells.now + 64 * c.args.word) (cells_start c.args.cells.now + 64 * (c.args.word + 1)) inv.before
+    (rw start at c.in_default.ensures.none refl)
