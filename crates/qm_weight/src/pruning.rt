@@ -73,7 +73,7 @@ pub(crate) fn counted_none() -> WandCount
 /// terms, and the more there are the less it passes over: of documents in mixed order the plain loop over the
 /// union is as fast for 10 terms, twice as fast for 32, and for thousands the run's time grows with their
 /// square.
-pub(crate) const MOST_TERMS_BY_BLOCKS: usize = 1000000;
+pub(crate) const MOST_TERMS_BY_BLOCKS: usize = 16;
 
 // The run over the scorers of terms, which passes over blocks. What they list together is the list of the weight's
 // tree at the boost.

@@ -113,7 +113,14 @@ impl<'a, C: BoundedBySum> WandRun<'a, C> {
 /// Runs over what the scorers have left: calls `callback` for each document that scores above the
 /// threshold, ascending, with what the combiner makes of its scores; its answer is the threshold from
 /// then on. It makes the calls of the plain loop, with the same thresholds, and scores only documents
-/// whose blocks' bounds add up to more than the threshold. It takes memory only before the first call.
+/// whose blocks' bounds add up to more than the threshold. It takes memory only before the first call: for a
+/// scorer a kilobyte and a record, and for the documents of a stretch, of which there are at most 4096, a word
+/// and a combiner each.
+///
+/// It goes by stretches: while the blocks that the scorers are at are bounded together by the threshold, it passes
+/// to where the first of them ends. Else it takes all documents from there to that end, or some 64 for each
+/// scorer, each with its scores and the bounds of its blocks. So a stretch costs a look at each scorer, and a
+/// division and an addition for each posting in it; a block that is passed costs one division.
 ///
 /// Asks that the callback may be called so, whatever the calls before answered and left of it. Refused
 /// where the scorers' greatest scores add up past the greatest score, and else for want of memory alone.
