@@ -81,7 +81,7 @@ module _ {C : Type 0} (step : C → ℕ → C) where
           | inr ne ↦ p.has d ∙ ap (λ b. b || cells_has w d) (ne_eqb d doc ne ∙ sym (none d (before d l ne)))
         ];
         bound = λ d l. elim (cases_eq d doc) [
-          | inl e ↦ at_doc (λ x. (cell_of w' x).bound ≡ (cell_of w x).bound + bound_in x m) (omega (arith, p.bound, own)) d e
+          | inl e ↦ at_doc (λ x. (cell_of w' x).bound ≡ (cell_of w x).bound + bound_in x m) (omega (arith, p.sum, own)) d e
           | inr ne ↦
               let zeroed : bound_in d m ≡ 0 = rw (none d (before d l ne)) refl in
               omega (arith, ap (λ (c : Cell C). c.bound) (p.others d ne), zeroed)

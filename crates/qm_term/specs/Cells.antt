@@ -50,7 +50,7 @@ pub record AreAlike {C : Type 0} (w w' : Cells C) : Type 0 where
 -- a score of a document is added, and the bound of a block that it is in
 pub record Adds {C : Type 0} (step : C → ℕ → C) (doc score bound : ℕ) (w w' : Cells C) : Type 0 where
   pub has : (d : ℕ) → cells_has w' d ≡ (d == doc || cells_has w d)
-  pub bound : (cell_of w' doc).bound ≡ (cell_of w doc).bound + bound
+  pub sum : (cell_of w' doc).bound ≡ (cell_of w doc).bound + bound
   pub state : (cell_of w' doc).state ≡ step (cell_of w doc).state score
   pub others : (d : ℕ) → d ≢ doc → cell_of w' d ≡ cell_of w d
   pub alike : AreAlike w w'

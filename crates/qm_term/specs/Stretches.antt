@@ -29,7 +29,7 @@ pub record BeginsClear {C : Type 0} (cleared : C → C) (cell : Cell C) : Type 0
 
 -- there are cells for a list's documents below an end, and room in them for its scores and bounds
 pub record HasCellsFor {C : Type 0} (step : C → ℕ → C) (cleared : C → C) (end : ℕ) (m : Member) (w : Cells C) : Type 0 where
-  pub end : end ≤ cells_end w
+  pub covered : end ≤ cells_end w
   pub room : (d : ℕ) → head m ≤ d → d < end → HasRoomFor step cleared m.top (cell_of w d).state
   pub fits : (d : ℕ) → head m ≤ d → d < end → (cell_of w d).bound + m.top ≤ greatest_score
 

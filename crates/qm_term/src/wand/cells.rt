@@ -4,6 +4,7 @@ ghost use Rattle.std.specs.Prelude.{◌≡◌, ℕ, ◌+◌, ◌*◌, ◌/◌, �
 ghost use Rattle.std.specs.Prelude.{IfOk, IfSome, IsOkUnless, None};
 ghost use Rattle.qm_docset.specs.Entry.{greatest_score};
 ghost use Rattle.qm_docset.specs.Words.{words_have};
+ghost use Rattle.qm_docset.specs.declared.numbers.TheConstants.{TERMINATED};
 
 use crate::wand::front::scored;
 use qm_combine::BoundedBySum;

@@ -65,7 +65,7 @@ take_list-requires-clause-cells g c =
     let tops : m.top + total_top rest ≤ greatest_score =
     omega (arith, tops_from ls k no_member l, tops_cut low (drop (k + 1) ls) rest (AreCut-cuts low (drop (k + 1) ls)), c.requires.fits) in
     subst (λ (x : Member). HasCellsFor step cleared c.args.end x c.loop-k.cells) (sym at) (record {
-      end = omega (arith, inv.alike.end, c.requires.end);
+      covered = omega (arith, inv.alike.end, c.requires.end);
       room = λ d after to.
           let bounded : sum (scores_of d rest) ≤ total_top rest =
           omega (arith, sum_scores d rest, score_le_blockbound d rest are, blockbound_le_top d rest are) in

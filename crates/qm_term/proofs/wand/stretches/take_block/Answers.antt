@@ -57,7 +57,7 @@ take_part-requires-clause-cells g c =
     let less : c.min-stop.result ≤ c.args.end = omega (arith, c.min-stop.ensures) in
     subst (λ (xs : List Member). HasCellsFor g.C.ScoreCombiner.step g.C.ScoreCombiner.cleared c.min-stop.result (get_or xs c.args.k no_member) c.args.cells.now)
     (sym c.bound_in-bound.ensures.lists) (record {
-      end = omega (arith, less, c.requires.cells.end);
+      covered = omega (arith, less, c.requires.cells.covered);
       room = λ d from l. c.requires.cells.room d from (omega (arith, l, less));
       fits = λ d from l. c.requires.cells.fits d from (omega (arith, l, less));
     })

@@ -77,7 +77,7 @@ take_block-doc-requires-clause-cells g c =
     let from : part.0 ≤ head (cut part.0 m) = cut_reaches part.0 m is (omega (arith, part.1, c.requires.below)) in
     let on : head m ≤ head (cut part.0 m) = cut_head part.0 m is in
     subst (λ (x : Member). HasCellsFor step cleared c.args.end x c.loop-doc.cells) (sym at) (record {
-      end = omega (arith, part.4.alike.end, c.requires.cells.end);
+      covered = omega (arith, part.4.alike.end, c.requires.cells.covered);
       room = λ d after to.
           let same = (part.4.beyond d (omega (arith, after, from))).1 in
           subst (λ (x : Cell _). HasRoomFor step cleared m.top x.state) (sym same) (c.requires.cells.room d (omega (arith, after, on)) to);

@@ -39,7 +39,7 @@ returns g c =
     record {
       has = λ d. ap (λ ws. has_at w.start ws d) words ∙ has_at-put w.start doc w.words.items c.put.new.words low (λ x. c.put.ensures.words x
           ∙ ap (λ ws. x == doc - w.start || words_have ws x) c.deref_mut.ensures.value) d;
-      bound = ap (λ (x : Cell _). x.bound) there ∙ ap (λ (x : Cell _). x.bound + c.args.bound) (sym here);
+      sum = ap (λ (x : Cell _). x.bound) there ∙ ap (λ (x : Cell _). x.bound + c.args.bound) (sym here);
       state = ap (λ (x : Cell _). x.state) there ∙ ap (λ (x : Cell _). g.C.ScoreCombiner.step x.state c.args.score) (sym here);
       others = λ d other. ap (λ (xs : List (Cell _)). cell_at w.start xs w.clear d) cells ∙ cell_other w.start w.cells.items w.clear v doc low d other;
       alike = record {

@@ -36,7 +36,7 @@ add-requires-clause-span g c =
     let on : head m ≤ head (cut part.0 m) = cut_head part.0 m (law c.args.self.now c.requires.valid) in
     let here : c.loop-doc.doc ≡ head (cut part.0 m) = c.loop-doc.invariant.here ∙ ap head part.2 in (
       omega (arith, part.3.alike.start, c.requires.start, on, here),
-      omega (arith, part.3.alike.end, c.requires.cells.end, c.loop-doc-test.true),
+      omega (arith, part.3.alike.end, c.requires.cells.covered, c.loop-doc-test.true),
     )
 
 pub add-requires-clause-score : goal.add-requires-clause-score
