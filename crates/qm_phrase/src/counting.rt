@@ -1,11 +1,12 @@
 //! How many starts a phrase has in a document.
 
-ghost use Rattle.std.specs.Prelude.{◌≡◌, ◌<◌, ◌∷◌, [], All, length, map, min};
-ghost use Rattle.qm_phrase.specs.Places.{Ascends, HavePassed, greatest_first, least_first, left_in, past};
+ghost use Rattle.std.specs.Prelude.{◌≡◌, ◌<◌, All, length, map, min};
+ghost use Rattle.qm_phrase.specs.Places.{Ascends, HavePassed, greatest_first, least_first, past};
 ghost use Rattle.qm_phrase.specs.Starts.{starts};
 ghost use Rattle.qm_phrase.specs.TermRows.{AreInside, rows_left, terms_of};
 
-use crate::row::{ALL_PLACES, Row};
+use crate::pair::count_pair;
+use crate::row::ALL_PLACES;
 use crate::term_row::TermRow;
 
 /// The least and the greatest of the first places; [`ALL_PLACES`] stands for that of a term which has
@@ -45,7 +46,7 @@ pub(crate) fn pass(rows: &mut [TermRow], positions: &[Vec<u32>], place: u64, flo
 /// slop, and then every term that begins with it passes it. What lies further than the slop before the
 /// greatest is no start, and is passed at once. So it takes at most the number of places times the number
 /// of terms, and where more than two terms have few places near each other their number times the logarithm
-/// of these.
+/// of these. Two terms are merged.
 pub(crate) fn count_starts(
     rows: &mut [TermRow],
     positions: &[Vec<u32>],
@@ -77,46 +78,6 @@ pub(crate) fn count_starts(
             least,
             greatest.saturating_sub(u64::from(slop)),
         );
-    }
-    count
-}
-
-// The same of two terms: a merge of their places, which takes at most a step for each of them, and no branch
-// that hangs on where they stand.
-#[inline]
-fn count_pair(
-    first: &Row,
-    ones: &[u32],
-    second: &Row,
-    others: &[u32],
-    slop: u32,
-    most: u32,
-) -> u32
-    requires { All (Ascends 0) (left_in ones.now first.now ∷ left_in others.now second.now ∷ []) }
-    ensures { result ≡ min most (starts slop (left_in ones.now first.now ∷ left_in others.now second.now ∷ [])) }
-{
-    let mut one = Row {
-        shift: first.shift,
-        passed: first.passed,
-    };
-    let mut other = Row {
-        shift: second.shift,
-        passed: second.passed,
-    };
-    let mut count = 0;
-    // the starts counted and those of what is left are all starts
-    while count < most {
-        let (place, other_place) = (one.first(ones), other.first(others));
-        let greatest = place.max(other_place);
-        if greatest == ALL_PLACES {
-            break;
-        }
-        let least = place.min(other_place);
-        if greatest <= least + u64::from(slop) {
-            count += 1;
-        }
-        one.pass(ones, least);
-        other.pass(others, least);
     }
     count
 }

@@ -1,7 +1,7 @@
 use Rattle.std.proofs.Common.{◌≡◌, ◌+◌, ◌-◌, ◌≤◌, [], ◌∷◌, All, min}
 use Rattle.qm_phrase.specs.Places.{Ascends, least_first, left_in}
 use Rattle.qm_phrase.specs.Starts.{all_places, starts}
-use Rattle.qm_phrase.proofs.counting.count_pair.Given as goal
+use Rattle.qm_phrase.proofs.pair.count_pair.Given as goal
 
 abbrev pub invariant-loop-count : goal.invariant-loop-count
 invariant-loop-count l = record {

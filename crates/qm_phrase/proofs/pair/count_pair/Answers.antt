@@ -3,8 +3,8 @@ use Rattle.std.proofs.Common.{◌≡◌, ◌≤◌, ◌<◌, ℕ, [], ◌∷◌,
 use Rattle.qm_phrase.specs.Places.{Ascends, first_place, greatest_first, least_first, left_in, past}
 use Rattle.qm_phrase.specs.Starts.{all_places, starts}
 use Rattle.qm_phrase.proofs.StartSteps.{All-past, counted, greatest_first-most, least_first-past, starts-ended, within}
-use Rattle.qm_phrase.proofs.counting.count_pair.Goals as goal
-use Rattle.qm_phrase.proofs.counting.count_pair.Goals.{then-greatest-least, else-greatest-least}
+use Rattle.qm_phrase.proofs.pair.count_pair.Goals as goal
+use Rattle.qm_phrase.proofs.pair.count_pair.Goals.{then-greatest-least, else-greatest-least}
 
 -- what is known of the lesser and the greater of two first places
 record IsStep (sets : List (List ℕ)) (least greatest : ℕ) : Type 0 where
