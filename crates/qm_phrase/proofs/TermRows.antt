@@ -81,11 +81,9 @@ passed_more f place floor (r ∷ rows) (y ∷ ys) (suc i) x d h long so_far rest
     rw add-one ((so_far.0, more.0), more.1)
 
 -- two terms, and nothing behind them
-pub two_left : (positions : List (Vec ℕ)) (rows : List TermRow) (first second : TermRow) → 2 ≤ length rows → length rows < 3 →
-    first ≡ get_or rows 0 first → second ≡ get_or rows 1 second →
-    rows_left positions rows ≡ term_left positions first ∷ term_left positions second ∷ []
-two_left positions [] first second some few one other = absurd (omega arith)
-two_left positions (a ∷ []) first second some few one other = absurd (omega arith)
-two_left positions (a ∷ b ∷ []) first second some few one other =
-    rw (one, other) refl
-two_left positions (a ∷ b ∷ c ∷ rows) first second some few one other = absurd (omega arith)
+pub two_left : (positions : List (Vec ℕ)) (rows : List TermRow) → 2 ≤ length rows → length rows < 3 →
+    rows_left positions rows ≡ term_left positions (get_or rows 0 no_term) ∷ term_left positions (get_or rows 1 no_term) ∷ []
+two_left positions [] some few = absurd (omega arith)
+two_left positions (a ∷ []) some few = absurd (omega arith)
+two_left positions (a ∷ b ∷ []) some few = refl
+two_left positions (a ∷ b ∷ c ∷ rows) some few = absurd (omega arith)

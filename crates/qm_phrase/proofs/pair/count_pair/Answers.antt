@@ -1,5 +1,5 @@
 -- The lesser of the first places is counted where it is a start, and passed.
-use Rattle.std.proofs.Common.{◌≡◌, ◌≤◌, ◌<◌, ℕ, [], ◌∷◌, List, All, min, max, map, ⊥, arith, refl, ap, sym, ◌∙◌}
+use Rattle.std.proofs.Common.{◌≡◌, ◌≤◌, ◌<◌, ℕ, [], ◌∷◌, List, All, min, max, map, arith, refl, ap, sym, ◌∙◌}
 use Rattle.qm_phrase.specs.Places.{Ascends, first_place, greatest_first, least_first, left_in, past}
 use Rattle.qm_phrase.specs.Starts.{all_places, starts}
 use Rattle.qm_phrase.proofs.StartSteps.{All-past, counted, greatest_first-most, least_first-past, starts-ended, within}
