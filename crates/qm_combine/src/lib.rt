@@ -33,7 +33,7 @@ pub use empty_scorer::EmptyScorer;
 pub use exclude::Exclude;
 pub use intersection::Intersection;
 pub use left::scores_left;
-pub use members::{by_cost, least_document, seek_below, seek_each, sum_of_bounds};
+pub use members::{by_cost, cheapest, least_document, seek_below, seek_each, sum_of_bounds};
 pub use reqopt_scorer::RequiredOptionalScorer;
 pub use score_combiner::ScoreCombiner;
 pub use scorer::Scorer;

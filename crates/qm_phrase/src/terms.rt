@@ -1,7 +1,7 @@
 //! The terms of a phrase: the postings of each, and beside them buffers for positions. They need not
 //! stand anywhere between two calls.
 
-ghost use Rattle.std.specs.Prelude.{◌≡◌, ℕ, ◌-◌, ◌<◌, ◌≤◌, All, IfOk, length, map, min, vec_capacity};
+ghost use Rattle.std.specs.Prelude.{◌≡◌, ℕ, ◌-◌, ◌<◌, ◌≤◌, All, IfOk, IfSome, length, map, min, vec_capacity};
 ghost use Rattle.qm_docset.specs.Entry.{head_document, head_positions};
 ghost use Rattle.qm_docset.specs.Lists.{bounds, lists};
 ghost use Rattle.qm_phrase.specs.PhraseTerms.{lists_given, members_of, offsets_of, terms_given};
@@ -10,10 +10,11 @@ ghost use Rattle.qm_phrase.specs.TermRows.{positions_in, rows_left, terms_of};
 ghost use Rattle.qm_phrase.specs.Terms.{AreHere, AreKept, AreMovedTo, AreRoomy, AreTerms, IsFirstStart, IsLook, begun, sets_here, shifts_in, term_lists};
 
 use crate::counting::count_starts;
+use crate::pair::count_pair;
 use crate::phrase_terms::PhraseTerms;
 use crate::row::Row;
 use crate::term_row::TermRow;
-use qm_combine::seek_each;
+use qm_combine::{cheapest, seek_each};
 use qm_docset::{DocId, DocSet, SeekDangerResult, TERMINATED};
 use qm_postings::Postings;
 use std::alloc::{AllocError, Global};
@@ -42,10 +43,13 @@ impl<P: Postings> TermPlaces<P> {
         ensures shifts { IfOk result (λ made. shifts_in made ≡ map (λ offset. greatest - offset) (offsets_of terms)) }
         ensures lists { IfOk result (λ made. term_lists P.DocSet made ≡ lists_given P.DocSet terms) }
     {
-        let positions = buffers_of(alloc, &terms.members)?;
-        let rows = rows_of(alloc, &terms.terms, greatest)?;
+        let mut members = terms.members;
+        let lead = cheapest(&members);
+        members.swap(0, lead);
+        let positions = buffers_of(alloc, &members)?;
+        let rows = rows_of(alloc, &terms.terms, greatest, lead)?;
         Ok(TermPlaces {
-            members: terms.members,
+            members,
             positions,
             rows,
         })
@@ -70,8 +74,27 @@ impl<P: Postings> TermPlaces<P> {
         ensures count { result ≡ min most (starts slop (sets_here P.DocSet self.old)) }
         ensures kept { AreKept P.DocSet self.old self.new }
     {
+        find_each(&mut self.members);
+        if let Some(count) = self.count_lent(slop, most) {
+            return count;
+        }
         self.read_places();
         count_starts(&mut self.rows, &self.positions, slop, most)
+    }
+
+    // The same where there are two terms, and their members lend their positions.
+    fn count_lent(&self, slop: u32, most: u32) -> Option<u32>
+        requires valid { AreTerms P.DocSet self.now }
+        requires here { AreHere P.DocSet self.now }
+        ensures { IfSome result (λ count. count ≡ min most (starts slop (sets_here P.DocSet self.now))) }
+    {
+        let [first, second] = self.rows.as_slice() else {
+            return None;
+        };
+        let ones = self.members[first.member].lent_positions()?;
+        let others = self.members[second.member].lent_positions()?;
+        let (one, other) = (first.row.shift, second.row.shift);
+        Some(count_pair(one, ones, other, others, slop, most))
     }
 
     /// Looks at one document: answers how many starts it has, or `most` where there are more; or, where it
@@ -103,14 +126,21 @@ impl<P: Postings> TermPlaces<P> {
         ensures found { IsFirstStart P.DocSet slop most target self.old result }
         ensures moved { AreMovedTo P.DocSet slop result.0 self.old self.new }
     {
-        let mut doc = target;
+        let mut doc = self.members[0].seek(target);
+        // the first member stands on the document, and none before it from the target on has a start
         while doc < TERMINATED {
-            match self.look_at(slop, doc, most) {
-                Ok(count) => return (doc, count),
-                Err(bound) => doc = bound,
+            let count = match seek_each(&mut self.members[1..], doc) {
+                SeekDangerResult::Found => self.count_here(slop, most),
+                SeekDangerResult::SeekLowerBound(bound) => {
+                    doc = self.members[0].seek(bound);
+                    continue;
+                }
+            };
+            if count > 0 {
+                return (doc, count);
             }
+            doc = self.members[0].seek(doc + 1);
         }
-        self.go_to_end();
         (TERMINATED, 0)
     }
 
@@ -159,11 +189,24 @@ fn buffers_of<P: Postings>(alloc: Global, members: &[P]) -> Result<Vec<Vec<u32>>
     Ok(buffers)
 }
 
-// The row of each term, shifted by the greatest offset less its own.
+// The place of a member in a row whose first member and this one are exchanged.
+fn exchanged(member: usize, lead: usize) -> usize {
+    if member == 0 {
+        lead
+    } else if member == lead {
+        0
+    } else {
+        member
+    }
+}
+
+// The row of each term, shifted by the greatest offset less its own, over members of which the first and this one
+// are exchanged.
 fn rows_of(
     alloc: Global,
     terms: &[(usize, usize)],
     greatest: usize,
+    lead: usize,
 ) -> Result<Vec<TermRow>, AllocError>
     requires { greatest ≤ 4294967295 }
     ensures { IfOk result (λ made. terms_of made.items ≡ map (λ t. (greatest - t.0, t.1)) terms.now) }
@@ -173,7 +216,7 @@ fn rows_of(
     for (offset, member) in terms {
         let shift = greatest.saturating_sub(*offset) as u32;
         rows.push(TermRow {
-            member: *member,
+            member: exchanged(*member, lead),
             row: Row { shift, passed: 0 },
         })?;
     }
@@ -193,6 +236,20 @@ fn read_positions<P: Postings>(members: &mut [P], positions: &mut [Vec<u32>])
 {
     for (i, buffer) in positions.iter_mut().enumerate() {
         members[i].positions(buffer);
+    }
+}
+
+// Has every member look for its positions in the document that it stands on.
+fn find_each<P: Postings>(members: &mut [P])
+    requires valid { All P.valid members.old }
+    requires here { All (λ m. P.placed m × (head_document (P.entries m) < TERMINATED)) members.old }
+    ensures entries { lists P.DocSet members.new ≡ lists P.DocSet members.old }
+    ensures limits { bounds P.DocSet members.new ≡ bounds P.DocSet members.old }
+    ensures valid { All P.valid members.new }
+    ensures here { All (λ m. P.placed m × (head_document (P.entries m) < TERMINATED)) members.new }
+{
+    for member in members.iter_mut() {
+        member.find_positions();
     }
 }
 

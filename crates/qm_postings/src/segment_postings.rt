@@ -282,24 +282,46 @@ impl<'a> SegmentPostings<'a> {
                 .min(self.arrays.documents.len() - start)
     }
 
-    // The positions of the posting that the cursor stands on; the mark comes along.
-    fn positions_here(&mut self) -> &'a [u32]
+    // Where the positions of the posting begin that the cursor stands on.
+    fn positions_start(&self) -> usize
+        requires valid { IsPostings self.now }
+        requires here { self.now.cursor < length self.now.arrays.documents.now }
+        requires some { 0 < length self.now.arrays.positions.now }
+        ensures { result ≡ sum (take self.now.cursor (listed self.now.arrays.frequencies)) }
+    {
+        let block = self.block_here();
+        self.arrays
+            .positions_start(self.cursor, block, self.mark, self.mark_start)
+    }
+
+    // The mark comes to the posting that the cursor stands on.
+    fn move_mark(&mut self)
         requires valid { IsPostings self.old }
         requires here { head_document (postings_left self.old) < TERMINATED }
-        ensures positions { result.now ≡ head_positions (postings_left self.old) }
         ensures entries { postings_left self.new ≡ postings_left self.old }
         ensures limits { postings_limits self.new ≡ postings_limits self.old }
         ensures kept { (s : _) → ReadsAs s self.old → ReadsAs s self.new }
         ensures stays { LooksAs self.old self.new }
         ensures valid { IsPostings self.new }
     {
+        if self.arrays.positions.is_empty() {
+            return;
+        }
+        self.mark_start = self.positions_start();
+        self.mark = self.cursor;
+    }
+
+    // The positions of the posting that the cursor stands on.
+    fn positions_here(&self) -> &'a [u32]
+        requires valid { IsPostings self.now }
+        requires here { head_document (postings_left self.now) < TERMINATED }
+        ensures { result.now ≡ head_positions (postings_left self.now) }
+    {
         let arrays = self.arrays;
         if arrays.positions.is_empty() {
             return arrays.positions;
         }
-        let start = arrays.positions_start(self.cursor, self.mark, self.mark_start);
-        self.mark = self.cursor;
-        self.mark_start = start;
+        let start = self.positions_start();
         let end = start + arrays.frequencies.at(self.cursor) as usize;
         &arrays.positions[start..end]
     }
@@ -458,10 +480,19 @@ impl<'a> Postings for SegmentPostings<'a> {
         ensures stays { LooksAs self.old self.new }
         ensures valid { IsPostings self.new }
     {
+        self.move_mark();
         let positions = self.positions_here();
         for position in positions {
             output.push(*position + offset).unwrap();
         }
+    }
+
+    fn find_positions(&mut self) {
+        self.move_mark();
+    }
+
+    fn lent_positions(&self) -> Option<&[u32]> {
+        Some(self.positions_here())
     }
 
     ghost ordered = { λ s h. ArePositions-postings s h };

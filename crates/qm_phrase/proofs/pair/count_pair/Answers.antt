@@ -25,27 +25,27 @@ step a b least greatest rows lesser greater here =
 
 pub pass-requires : goal.pass-requires
 pass-requires c =
-    (step (left_in c.args.ones.now c.loop-count.one) (left_in c.args.others.now c.loop-count.other) c.min-least.result c.max-greatest.result
+    (step (left_in c.args.positions.now c.loop-count.row) (left_in c.args.other_positions.now c.loop-count.other_row) c.min-least.result c.max-greatest.result
     c.loop-count.invariant.rows (omega (arith, c.min-least.ensures, c.first-place.ensures, c.first-other_place.ensures))
     (omega (arith, c.max-greatest.ensures, c.first-place.ensures, c.first-other_place.ensures)) c.if-greatest-eq-ALL_PLACES.false).under
 
 pub pass-requires-in-loop-count : goal.pass-requires-in-loop-count
 pass-requires-in-loop-count c =
-    (step (left_in c.args.ones.now c.loop-count.one) (left_in c.args.others.now c.loop-count.other) c.min-least.result c.max-greatest.result
+    (step (left_in c.args.positions.now c.loop-count.row) (left_in c.args.other_positions.now c.loop-count.other_row) c.min-least.result c.max-greatest.result
     c.loop-count.invariant.rows (omega (arith, c.min-least.ensures, c.first-place.ensures, c.first-other_place.ensures))
     (omega (arith, c.max-greatest.ensures, c.first-place.ensures, c.first-other_place.ensures)) c.if-greatest-eq-ALL_PLACES.false).under
 
 pub overflow_add-least : goal.overflow_add-least
 overflow_add-least c =
-    let known = step (left_in c.args.ones.now c.loop-count.one) (left_in c.args.others.now c.loop-count.other) c.min-least.result c.max-greatest.result
+    let known = step (left_in c.args.positions.now c.loop-count.row) (left_in c.args.other_positions.now c.loop-count.other_row) c.min-least.result c.max-greatest.result
     c.loop-count.invariant.rows (omega (arith, c.min-least.ensures, c.first-place.ensures, c.first-other_place.ensures))
     (omega (arith, c.max-greatest.ensures, c.first-place.ensures, c.first-other_place.ensures)) c.if-greatest-eq-ALL_PLACES.false in
     record { fits = omega (arith, known.under, c.from.ensures, c.ranges.slop.fits) }
 
 pub loop-count-smaller : goal.loop-count-smaller
 loop-count-smaller c =
-    let a = left_in c.args.ones.now c.loop-count.one in
-    let b = left_in c.args.others.now c.loop-count.other in
+    let a = left_in c.args.positions.now c.loop-count.row in
+    let b = left_in c.args.other_positions.now c.loop-count.other_row in
     let least = c.min-least.result in
     let known = step a b least c.max-greatest.result
     c.loop-count.invariant.rows (omega (arith, c.min-least.ensures, c.first-place.ensures, c.first-other_place.ensures))
@@ -55,14 +55,14 @@ loop-count-smaller c =
 
 pub loop-count-preserved : goal.loop-count-preserved
 loop-count-preserved c =
-    let a = left_in c.args.ones.now c.loop-count.one in
-    let b = left_in c.args.others.now c.loop-count.other in
+    let a = left_in c.args.positions.now c.loop-count.row in
+    let b = left_in c.args.other_positions.now c.loop-count.other_row in
     let least = c.min-least.result in
     let known = step a b least c.max-greatest.result
     c.loop-count.invariant.rows (omega (arith, c.min-least.ensures, c.first-place.ensures, c.first-other_place.ensures))
     (omega (arith, c.max-greatest.ensures, c.first-place.ensures, c.first-other_place.ensures)) c.if-greatest-eq-ALL_PLACES.false in
     let start = counted (a ∷ b ∷ []) c.args.slop least known.is known.under known.below known.rows in
-    let moved : starts c.args.slop (left_in c.args.ones.now c.pass.new.self ∷ left_in c.args.others.now c.pass-in-loop-count.new.self ∷ [])
+    let moved : starts c.args.slop (left_in c.args.positions.now c.pass.new.self ∷ left_in c.args.other_positions.now c.pass-in-loop-count.new.self ∷ [])
         ≡ starts c.args.slop (past least a ∷ past least b ∷ []) = rw (c.pass.ensures.left, c.pass-in-loop-count.ensures.left) refl in
     record {
       rows = rw (c.pass.ensures.left, c.pass-in-loop-count.ensures.left) (All-past 0 least (a ∷ b ∷ []) c.loop-count.invariant.rows);
@@ -75,7 +75,7 @@ loop-count-preserved c =
 
 pub returns-then-greatest-eq-ALL_PLACES : goal.returns-then-greatest-eq-ALL_PLACES
 returns-then-greatest-eq-ALL_PLACES c =
-    let sets = left_in c.args.ones.now c.loop-count.one ∷ left_in c.args.others.now c.loop-count.other ∷ [] in
+    let sets = left_in c.args.positions.now c.loop-count.row ∷ left_in c.args.other_positions.now c.loop-count.other_row ∷ [] in
     let most : greatest_first sets ≡ all_places =
     omega (arith, c.max-greatest.ensures, c.first-place.ensures, c.first-other_place.ensures, c.if-greatest-eq-ALL_PLACES.true) in
     omega (arith, starts-ended c.args.slop sets most c.loop-count.invariant.rows, c.loop-count.invariant.counted, c.loop-count.invariant.within)

@@ -3,7 +3,7 @@ use Rattle.qm_postings.specs.Frequencies.{listed}
 use Rattle.std.proofs.Common.{◌≡◌, ◌<◌, ◌≤◌, ◌+◌, ◌-◌, ℕ, length, sum, get_or, take, drop, ap, refl, sym, arith, ◌∙◌, rules}
 use Rattle.qm_docset.specs.Entry.{head_document}
 use Rattle.qm_docset.specs.declared.numbers.TheConstants.{TERMINATED}
-use Rattle.qm_postings.specs.SegmentPostings.{IsPostings, looked_block, postings_left}
+use Rattle.qm_postings.specs.SegmentPostings.{IsPostings, postings_left}
 use Rattle.qm_postings.specs.StoredFacts.{no_positions, positions_at}
 use Rattle.qm_postings.specs.TermArrays.{stored}
 use Rattle.qm_postings.specs.declared.segment_postings.SegmentPostings.{SegmentPostings}
@@ -22,34 +22,17 @@ end_inside : (s : SegmentPostings) (start : ℕ) → IsPostings s → head_docum
 end_inside s start valid here some is =
     omega (arith, is, valid.arrays.enough some, sum-past s.cursor (listed s.arrays.frequencies) (omega (arith, inside s valid here, valid.arrays.frequencies)))
 
-pub returns-then-is_empty-clause-positions : goal.returns-then-is_empty-clause-positions
-returns-then-is_empty-clause-positions c =
+pub returns-then-is_empty : goal.returns-then-is_empty
+returns-then-is_empty c =
     let s = c.args.self.now in
     let a = s.arrays in
     let none : length a.positions.now ≡ 0 = search rules in
     no_positions s.reading s.cursor a.documents.now (listed a.frequencies) a.positions.now none (inside s c.requires.valid c.requires.here)
 
-pub returns-then-is_empty-clause-valid : goal.returns-then-is_empty-clause-valid
-returns-then-is_empty-clause-valid c = c.requires.valid
-
-pub returns-then-is_empty-clause-entries : goal.returns-then-is_empty-clause-entries
-returns-then-is_empty-clause-entries c = refl
-
-pub returns-then-is_empty-clause-limits : goal.returns-then-is_empty-clause-limits
-returns-then-is_empty-clause-limits c = refl
-
 pub positions_start-start-requires : goal.positions_start-start-requires
 positions_start-start-requires c =
     let s = c.args.self.now in
-    let some : 0 < length s.arrays.positions.now = search rules in
-    let valid = c.requires.valid in
-    record {
-      arrays = (s.reading, valid.arrays);
-      some = some;
-      within = omega (arith, inside s valid c.requires.here, valid.arrays.frequencies);
-      mark = c.requires.valid.mark;
-      start = c.requires.valid.mark_start some;
-    }
+    record { valid = c.requires.valid; here = inside s c.requires.valid c.requires.here; some = search rules }
 
 pub at-requires : goal.at-requires
 at-requires c =
@@ -74,8 +57,8 @@ slice_bounds-result-end c = omega (
   c.at.ensures,
 )
 
-pub returns-clause-positions : goal.returns-clause-positions
-returns-clause-positions c =
+pub returns : goal.returns
+returns c =
     let s = c.args.self.now in
     let a = s.arrays in
     let start = c.positions_start-start in
@@ -84,31 +67,3 @@ returns-clause-positions c =
     ap (λ n. take n (drop start.result a.positions.now)) width
     ∙ ap (λ n. take f (drop n a.positions.now)) start.ensures
     ∙ sym (positions_at s.reading s.cursor a.documents.now (listed a.frequencies) a.positions.now (inside s c.requires.valid c.requires.here))
-
-pub returns-clause-entries : goal.returns-clause-entries
-returns-clause-entries c = refl
-
-pub returns-clause-limits : goal.returns-clause-limits
-returns-clause-limits c = refl
-
-pub returns-clause-valid : goal.returns-clause-valid
-returns-clause-valid c =
-    let valid = c.requires.valid in
-    record {
-      arrays = valid.arrays;
-      place = valid.place;
-      mark = omega arith;
-      mark_start = λ _. c.positions_start-start.ensures;
-      block = valid.block;
-      block_end = valid.block_end;
-      last_doc = valid.last_doc;
-      look_from = valid.look_from;
-      look = valid.look;
-    }
-
-pub returns-clause-stays : goal.returns-clause-stays
-unfolding looked_block
-returns-clause-stays c = refl
-
-pub returns-then-is_empty-clause-stays : goal.returns-then-is_empty-clause-stays
-returns-then-is_empty-clause-stays c = refl
