@@ -74,7 +74,6 @@ impl<P: Postings> TermPlaces<P> {
         ensures count { result ≡ min most (starts slop (sets_here P.DocSet self.old)) }
         ensures kept { AreKept P.DocSet self.old self.new }
     {
-        find_each(&mut self.members);
         if let Some(count) = self.count_lent(slop, most) {
             return count;
         }
@@ -83,18 +82,22 @@ impl<P: Postings> TermPlaces<P> {
     }
 
     // The same where there are two terms, and their members lend their positions.
-    fn count_lent(&self, slop: u32, most: u32) -> Option<u32>
-        requires valid { AreTerms P.DocSet self.now }
-        requires here { AreHere P.DocSet self.now }
-        ensures { IfSome result (λ count. count ≡ min most (starts slop (sets_here P.DocSet self.now))) }
+    fn count_lent(&mut self, slop: u32, most: u32) -> Option<u32>
+        requires valid { AreTerms P.DocSet self.old }
+        requires here { AreHere P.DocSet self.old }
+        ensures count { IfSome result (λ count. count ≡ min most (starts slop (sets_here P.DocSet self.old))) }
+        ensures kept { AreKept P.DocSet self.old self.new }
+        ensures here { AreHere P.DocSet self.new }
     {
-        let [first, second] = self.rows.as_slice() else {
+        if self.rows.len() != 2 {
             return None;
-        };
-        let ones = self.members[first.member].lent_positions()?;
-        let others = self.members[second.member].lent_positions()?;
-        let (one, other) = (first.row.shift, second.row.shift);
-        Some(count_pair(one, ones, other, others, slop, most))
+        }
+        find_each(&mut self.members);
+        let (first, second) = (&self.rows[0], &self.rows[1]);
+        let positions = self.members[first.member].lent_positions()?;
+        let other_positions = self.members[second.member].lent_positions()?;
+        let (shift, other_shift) = (first.row.shift, second.row.shift);
+        Some(count_pair(shift, positions, other_shift, other_positions, slop, most))
     }
 
     /// Looks at one document: answers how many starts it has, or `most` where there are more; or, where it
