@@ -16,7 +16,7 @@ use Rattle.qm_term.specs.TermScorer.{AreCovered}
 use Rattle.qm_phrase.specs.Phrase.{positions_at, starts_at}
 use Rattle.qm_phrase.specs.PhrasePrefix.{greatest_of}
 use Rattle.qm_phrase.specs.PhraseTerms.{lists_given, members_of, offsets_of, terms_given}
-use Rattle.qm_phrase.specs.TermRows.{AreInside, AreUsed, each_of, is_used, term_of}
+use Rattle.qm_phrase.specs.TermRows.{exchanged, AreInside, AreUsed, each_of, is_used, term_of}
 use Rattle.qm_phrase.specs.Terms.{AreRoomy, AreTerms, shifts_in, term_lists, terms_in}
 use Rattle.qm_phrase.specs.declared.phrase_terms.PhraseTerms.{PhraseTerms}
 use Rattle.qm_phrase.specs.declared.terms.TermPlaces.{TermPlaces}
@@ -99,12 +99,44 @@ used-equal count terms t used k below = used-before k terms t (used k below)
 
 -- The rows of terms.
 
--- how far a term is shifted, and its member
-abbrev pub placed : ℕ → ℕ × ℕ → ℕ × ℕ
-placed greatest t = (greatest - t.0, t.1)
+-- how far a term is shifted, and its member, of those of which the first and another were exchanged
+abbrev pub placed : ℕ → ℕ → ℕ × ℕ → ℕ × ℕ
+placed greatest lead t = (greatest - t.0, exchanged lead t.1)
 
-used-placed : (greatest count : ℕ) (terms : List (ℕ × ℕ)) → AreUsed count terms → AreUsed count (map (placed greatest) terms)
-used-placed greatest count terms used k below = list_any-map (λ t. t.1 == k) (placed greatest) terms ∙ used k below
+exchanged-below : (lead k count : ℕ) → lead < count → k < count → exchanged lead k < count
+exchanged-below lead k count first below =
+    elim (cases_eq k 0) [
+      | inl none ↦ rw (eq-eqb k 0 none) first
+      | inr some ↦ elim (cases_eq k lead) [
+        | inl here ↦ rw (ne_eqb k 0 some, eq-eqb k lead here) (omega arith)
+        | inr other ↦ rw (ne_eqb k 0 some, ne_eqb k lead other) below
+      ]
+    ]
+
+exchanged-twice : (lead k : ℕ) → exchanged lead (exchanged lead k) ≡ k
+exchanged-twice lead k = grind (arith, nat_tests)
+
+-- a number is that of a member exactly where the one that it was exchanged with was before
+is_used-exchanged : (lead k : ℕ) (terms : List (ℕ × ℕ)) (greatest : ℕ) → is_used terms (exchanged lead k) ≡ true →
+    is_used (map (placed greatest lead) terms) k ≡ true
+is_used-exchanged lead k terms greatest used =
+    let user = Any-from_list_any (λ t. t.1 == exchanged lead k) terms used in
+    ?
+
+used-placed : (greatest lead count : ℕ) (terms : List (ℕ × ℕ)) → lead < count → AreUsed count terms → AreUsed count (map (placed greatest lead) terms)
+used-placed greatest lead count terms first used k below =
+    is_used-exchanged lead k terms greatest (used (exchanged lead k) (exchanged-below lead k count first below))
+
+-- what the members have, each at its new number
+get_or-exchanged : {X : Type 0} (xs new : List X) (lead k : ℕ) (d : X) → SwappedAt xs new 0 lead → get_or new (exchanged lead k) d ≡ get_or xs k d
+get_or-exchanged xs new lead k d swapped =
+    elim (cases_eq k 0) [
+      | inl none ↦ rw (eq-eqb k 0 none, none) (swapped.1 d)
+      | inr some ↦ elim (cases_eq k lead) [
+        | inl here ↦ rw (ne_eqb k 0 some, eq-eqb k lead here, here) (swapped.0 d)
+        | inr other ↦ rw (ne_eqb k 0 some, ne_eqb k lead other) (swapped.2 k d some other)
+      ]
+    ]
 
 module _ {P : Type 0} (D : Ghosts P) where
   -- terms with their buffers are terms

@@ -1,5 +1,5 @@
 -- The terms of a phrase, each of which goes through the positions of a member; terms that are equal share one.
-use Rattle.std.specs.Prelude.{◌≡◌, ℕ, ◌<◌, ◌==◌, Bool, true, List, [], All, map, slice_index_or}
+use Rattle.std.specs.Prelude.{◌≡◌, ℕ, ◌<◌, ◌==◌, if◌then◌else◌, Bool, true, List, [], All, map, slice_index_or}
 use Rattle.std.specs.Global.{Vec}
 use Rattle.std.specs.List.{list_any}
 use Rattle.qm_phrase.specs.Places.{left_in}
@@ -11,6 +11,10 @@ term_of row = (row.row.shift, row.member)
 
 abbrev pub terms_of : List TermRow → List (ℕ × ℕ)
 terms_of rows = map term_of rows
+
+-- the number of a member where the first of all members and another are exchanged
+abbrev pub exchanged : ℕ → ℕ → ℕ
+exchanged other k = if k == 0 then other else (if k == other then 0 else k)
 
 -- the first of them
 abbrev pub first_term : List (ℕ × ℕ) → ℕ × ℕ

@@ -6,7 +6,7 @@ ghost use Rattle.qm_docset.specs.Entry.{head_document, head_positions};
 ghost use Rattle.qm_docset.specs.Lists.{bounds, lists};
 ghost use Rattle.qm_phrase.specs.PhraseTerms.{lists_given, members_of, offsets_of, terms_given};
 ghost use Rattle.qm_phrase.specs.Starts.{starts};
-ghost use Rattle.qm_phrase.specs.TermRows.{positions_in, rows_left, terms_of};
+ghost use Rattle.qm_phrase.specs.TermRows.{exchanged, positions_in, rows_left, terms_of};
 ghost use Rattle.qm_phrase.specs.Terms.{AreHere, AreKept, AreMovedTo, AreRoomy, AreTerms, IsFirstStart, IsLook, begun, sets_here, shifts_in, term_lists};
 
 use crate::counting::count_starts;
@@ -192,11 +192,13 @@ fn buffers_of<P: Postings>(alloc: Global, members: &[P]) -> Result<Vec<Vec<u32>>
     Ok(buffers)
 }
 
-// The place of a member in a row whose first member and this one are exchanged.
-fn exchanged(member: usize, lead: usize) -> usize {
+// The number of a member where the first of all members and another are exchanged.
+fn exchanged(other: usize, member: usize) -> usize
+    ensures { result ≡ exchanged other member }
+{
     if member == 0 {
-        lead
-    } else if member == lead {
+        other
+    } else if member == other {
         0
     } else {
         member
@@ -212,14 +214,14 @@ fn rows_of(
     lead: usize,
 ) -> Result<Vec<TermRow>, AllocError>
     requires { greatest ≤ 4294967295 }
-    ensures { IfOk result (λ made. terms_of made.items ≡ map (λ t. (greatest - t.0, t.1)) terms.now) }
+    ensures { IfOk result (λ made. terms_of made.items ≡ map (λ t. (greatest - t.0, exchanged lead t.1)) terms.now) }
 {
     let mut rows = Vec::with_capacity(alloc, terms.len())?;
     // the terms so far have theirs
     for (offset, member) in terms {
         let shift = greatest.saturating_sub(*offset) as u32;
         rows.push(TermRow {
-            member: exchanged(*member, lead),
+            member: exchanged(lead, *member),
             row: Row { shift, passed: 0 },
         })?;
     }
