@@ -9,7 +9,7 @@
 `checked` is the function whose body becomes wrong, as `rattle check --only` takes it; `refused by` is the
 clause or the call whose proof fails, as `short_words` of refusals.py spells it. Each `old` text stands in its
 file exactly once; there may be several pairs of `old` and `new`, and a `file` before each. An edit that says by its
-form what the code says (same_body.py) is none.
+form what the code says (same_body.py) is none, nor is one of which no text stands in the function that is checked.
 """
 
 import re
@@ -43,6 +43,8 @@ class Edit:
         # what it can break the proof of: two edits of one unit are not told apart by one check
         self.units = {self.path}
         self.apply(crate, {}, self.units)
+        if not self.changes_checked():
+            raise BadEdit(f"no text old: of it stands in {self.path}")
 
     def apply(self, crate, texts, units=None):
         """These texts of the crate, by path, with this edit over them; notes the units that it changes."""
@@ -56,6 +58,13 @@ class Edit:
                 units.add(unit_at(file, text, old))
             texts[file] = text.replace(old, new)
         return texts
+
+    def changes_checked(self):
+        """Whether a change stands in the function that is checked, or makes it; one in a cycle or in no function may."""
+        name, changed = self.path.split("::")[-1], self.units - {self.path}
+        functions = {it.split(" ")[1] for it in changed if " " in it}
+        is_made = any(re.search(rf"\bfn {name}\b", new) for _, _, new in self.pairs)
+        return is_made or name in functions or any(" " not in it for it in changed)
 
     def is_of_compiler(self):
         """Whether it must not reach the prover."""
