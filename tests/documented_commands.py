@@ -37,6 +37,7 @@ NOT_RUN = {
     "python3 tests/limits.py": "quick.py and the gate run it",
     "python3 tests/using_runs.py": "quick.py and the gate run it",
     "python3 tests/api.py": "it needs python3-markdown; tests/api_runs.py makes the pages",
+    "python3 tests/distributed_runs.py": "quick.py and the gate run it",
     "python3 tests/cases.py": "quick.py and the gate run it; with other seeds it takes as long as one likes",
     "python3 tests/wrong_bodies.py": "the gate runs it; it takes proofs",
     "python3 bench/": "a measurement: it takes minutes, some of them a proof or valgrind",

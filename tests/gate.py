@@ -12,8 +12,8 @@ those whose refusal does not stand, and some by chance (refused_before.py). test
 has rows of what counts as refused. Then tests/refused_calls.py looks whether each public call has its rows under
 refused memory, tests/cases.py plays the cases, tests/format_runs.py holds two plain readings of docs/FORMAT.md against
 each other, tests/program_runs.py and tests/birch_runs.py run the programs `qm_search` and `birch`,
-tests/library_runs.py calls the library from C, Rust and Python, and tests/bench_runs.py runs the bench over a few
-documents; at last what docs/ has of specs/, of crates.txt and of limits is compared with these, its sentences are looked
+tests/library_runs.py calls the library from C, Rust and Python, tests/distributed_runs.py holds it in several processes
+and hosts, and tests/bench_runs.py runs the bench over a few documents; at last what docs/ has of specs/, of crates.txt and of limits is compared with these, its sentences are looked
 through, a repository of one's own takes a crate, the API pages are made and looked through, the commands that the
 documents show are run, and tests/installed_runs.py installs `birch`. Then two tables say how many minutes each crate and
 each stage took, for docs/TESTS.md. The last line counts what passed; the exit status is 1 where anything did not. Called
@@ -48,6 +48,7 @@ COUNTED = {
     "program runs": r"program runs: (\d+) as wanted",
     "birch runs": r"birch runs: (\d+) as wanted",
     "library runs": r"library runs: (\d+) as wanted",
+    "distributed runs": r"distributed runs: (\d+) as wanted",
     "bench runs": r"bench runs: (\d+) as wanted",
     "forms that grow as wanted": r"growth: (\d+) as wanted",
     "words": r"definitions: (\d+) as specs/ says",
@@ -69,6 +70,7 @@ PLAYED = {
     "program runs": ["program_runs.py"],
     "birch runs": ["birch_runs.py"],
     "library runs": ["library_runs.py"],
+    "distributed runs": ["distributed_runs.py"],
     "bench runs": ["bench_runs.py"],
     "forms that grow as wanted": ["growth.py"],
     "words": ["definitions.py", "--check"],

@@ -18,8 +18,11 @@ IN_C = {
     "&mut usize": ["size_t *"],
     "&[u8]": ["const uint8_t *", "size_t"],
     "&[usize]": ["const size_t *", "size_t"],
+    "&[u64]": ["const uint64_t *", "size_t"],
+    "&[Hit]": ["const birchagain_hit *", "size_t"],
     "&mut [u8]": ["uint8_t *", "size_t"],
     "&mut [u64]": ["uint64_t *", "size_t"],
+    "&mut [usize]": ["size_t *", "size_t"],
     "&mut [Hit]": ["birchagain_hit *", "size_t"],
     "": ["void"],
 }
@@ -30,14 +33,15 @@ BY_CTYPES = {
     ctypes.c_int64: {"int64_t"},
     ctypes.c_size_t: {"size_t", "uint64_t"},
     ctypes.c_char_p: {"const uint8_t *"},
-    ctypes.c_void_p: {"const size_t *", "uint8_t *", "uint64_t *", "birchagain_hit *"},
+    ctypes.c_void_p: {f"{it} *" for it in ("const size_t", "const uint64_t", "const birchagain_hit", "size_t", "uint8_t", "uint64_t", "birchagain_hit")},
     ctypes.POINTER(ctypes.c_uint64): {"uint64_t *"},
     ctypes.POINTER(ctypes.c_size_t): {"size_t *", "uint64_t *"},
     None: {"void"},
 }
 DECLARED = re.compile(r"^(\w+) (birchagain_\w+)\(([^)]*)\);", re.M)
 STATUS = re.compile(r"\bBIRCHAGAIN_(\w+) = (\d+)")
-REFUSAL = re.compile(r"Refusal::(\w+) => (\d+),")
+REFUSAL = re.compile(r"Refusal(?:Kind)?::(\w+) => (\d+),")
+TEXT = re.compile(r'#\[error\("(.*)"\)\]\n    (\w+),')
 
 
 def exported(folder):
@@ -68,3 +72,10 @@ def unlike_statuses(header, refusals):
     """The refusals of the library's own that the header has no status for, or another."""
     named = {name.replace("_", ""): number for name, number in STATUS.findall(header)}
     return [name for name, number in REFUSAL.findall(refusals) if named.get(name.upper()) != number]
+
+
+def unlike_texts(header, kinds, told):
+    """What is said of a text of the typed language by a call, where the reader of the language says another thing."""
+    numbers = {name.replace("_", ""): int(number) for name, number in STATUS.findall(header)}
+    texts = {numbers.get(name.upper()): text.replace("\\\\", "\\") for text, name in TEXT.findall(kinds)}
+    return [(number, text) for number, text in texts.items() if number is None or told(number) != text]

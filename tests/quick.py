@@ -56,6 +56,7 @@ def main(words):
             [f"{ROOT}/tests/program_runs.py", f"{room}/qm_search"],
             [f"{ROOT}/tests/birch_runs.py", f"{room}/birch"],
             [f"{ROOT}/tests/library_runs.py"],
+            [f"{ROOT}/tests/distributed_runs.py"],
             [f"{ROOT}/tests/bench_runs.py", f"{room}/qm_search"],
             [f"{ROOT}/tests/growth.py", f"{room}/qm_search"],
             [f"{ROOT}/tests/definitions.py", "--check"],

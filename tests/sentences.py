@@ -15,9 +15,11 @@ import re
 import sys
 
 ROOT = os.path.realpath(os.path.join(os.path.dirname(os.path.abspath(__file__)), ".."))
-MOST, MOST_WORDS = 30, 20_000
+MOST, MOST_WORDS = 30, 23_200
 # its tables are what commands print, and what a line begins with that has a command
 FIGURES, COMMAND = "docs/COSTS.md", ("`python3 ", "`bench/")
+# pages whose tables have figures that commands print
+PRINTED = (FIGURES, "docs/SCALE.md")
 MONTH = "January|February|March|April|May|June|July|August|September|October|November|December"
 # words of history, and dates
 HISTORY = re.compile(
@@ -84,7 +86,8 @@ def main():
     for page in pages():
         with open(f"{ROOT}/{page}", encoding="utf-8") as it:
             text = it.read()
-        words += len(text.split()) if page.startswith("docs/") and page != FIGURES else 0
+        if page.startswith("docs/"):
+            words += sum(len(line.split()) for line in text.split("\n") if page not in PRINTED or not line.startswith("|"))
         for number, fault in [*faults_of(text), *(figures_in(text) if page == FIGURES else [])]:
             print(f"{page}:{number}: {fault}")
             told += 1

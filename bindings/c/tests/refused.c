@@ -18,16 +18,31 @@ static int done(uint32_t status) {
 /* An index has so many documents, so many of them have the words, and so many are left. */
 static void holds(birchagain_index *index, uint64_t documents, uint64_t with_a, uint64_t with_d, uint64_t alive) {
     static const size_t ends[] = {1, 2};
-    uint64_t count = 0, found = 99, held[2] = {99, 99};
+    uint64_t count = 0, found = 99, held[2] = {99, 99}, page[2] = {99, 99};
     birchagain_hit best[3];
-    size_t filled = 99;
+    size_t filled = 99, paged = 99;
     wrong += birchagain_documents(index, &count) != BIRCHAGAIN_DONE || count != documents;
     if (done(birchagain_frequencies(index, BYTES("ad"), ends, 2, held, 2))) wrong += held[0] != with_a || held[1] != with_d;
     else wrong += held[0] != 99 || held[1] != 99;
-    if (done(birchagain_count(index, BYTES("bool 0 2 ? phrase 0 2 b a ? term d"), &found))) wrong += found != alive;
+    if (done(birchagain_count(index, BIRCHAGAIN_TYPED, BYTES("\"b a\" OR d^2"), &found))) wrong += found != alive;
     else wrong += found != 99;
-    if (done(birchagain_top(index, BYTES("bool 0 2 ? term a ? term d"), best, 3, &filled))) wrong += filled != (alive < 3 ? alive : 3);
+    if (done(birchagain_top(index, BIRCHAGAIN_SCRIPT, BYTES("bool 0 2 ? term a ? term d"), best, 3, &filled)))
+        wrong += filled != (alive < 3 ? alive : 3);
     else wrong += filled != 99;
+    if (done(birchagain_page(index, BIRCHAGAIN_TYPED, BYTES("a-lon* d"), 1, page, 2, &paged)))
+        wrong += page[0] < 1 || page[1] <= page[0] || paged > 2;
+    else wrong += page[0] != 99 || paged != 99;
+}
+
+/* The words of a query, and that it is understood. */
+static void says(void) {
+    uint8_t bytes[64] = "?";
+    size_t ends[9], size = 99, words = 99, place = 99;
+    if (done(birchagain_query_words(BIRCHAGAIN_TYPED, BYTES("a AND (\"b c\" -d*)"), bytes, 64, ends, 9, &size, &words)))
+        wrong += size != 3 || words != 3;
+    else wrong += size != 99 || words != 99 || bytes[0] != '?';
+    done(birchagain_check_query(BIRCHAGAIN_SCRIPT, BYTES("bool 0 2 + term a ? boost 2 all"), &place));
+    wrong += place != 99;
 }
 
 int main(void) {
@@ -50,6 +65,7 @@ int main(void) {
     alive -= done(birchagain_delete(&index, texts + words - 1));
     done(birchagain_refresh(&index));
     holds(&index, texts + words, texts, words, alive);
+    says();
     birchagain_free(&index);
     printf("refused %u, wrong %u\n", refused, wrong);
     return wrong ? 1 : refused ? 0 : 2;

@@ -3,12 +3,29 @@
     from birchagain import Index
 
     with Index(["an old apple tree", "an apple a day"]) as index:
-        for hit in index.top("bool 0 2 ? term old ? term apple", 10):
+        index.weigh_for("old apple")
+        for hit in index.top("old apple", 10):
             print(hit.document, hit.score)
 """
 
-from .errors import BirchagainError, ClosedError, NoDocumentError, QueryError, WordError
-from .index import Hit, Index, rarity
+from .errors import BirchagainError, ClosedError, FormatError, MergeError, NoDocumentError, QueryError, WordError
+from .index import Index, rarity
+from .merging import merged
+from .queries import Hit, Language, query_words
 
-__all__ = ["BirchagainError", "ClosedError", "Hit", "Index", "NoDocumentError", "QueryError", "WordError", "rarity"]
+__all__ = [
+    "BirchagainError",
+    "ClosedError",
+    "FormatError",
+    "Hit",
+    "Index",
+    "Language",
+    "MergeError",
+    "NoDocumentError",
+    "QueryError",
+    "WordError",
+    "merged",
+    "query_words",
+    "rarity",
+]
 __version__ = "0.1.0"

@@ -5,10 +5,12 @@ from __future__ import annotations
 import ctypes
 import threading
 from itertools import accumulate
-from typing import Iterable, List, Mapping, NamedTuple, Tuple, Union
+from typing import Iterable, List, Mapping, Tuple, Union
 
 from . import _library
 from .errors import NO_DOCUMENT, NoDocumentError, raise_for
+from .queries import Queries
+from .stored import StoredIndex
 
 _NUMBERS, _SCORES = 1 << 64, 1 << 63
 
@@ -21,14 +23,7 @@ def _laid_out(words: Iterable[str]) -> Tuple[bytes, ctypes.Array, int]:
     return b"".join(encoded), ends, len(encoded)
 
 
-class Hit(NamedTuple):
-    """A document that was found, by its number, and its score."""
-
-    document: int
-    score: int
-
-
-class Index:
+class Index(Queries, StoredIndex):
     """Documents of words, numbered from 0 up in the order in which they are added.
 
     It is a context manager: behind the block its memory is freed. Any thread may call it; while one call runs, others
@@ -37,8 +32,7 @@ class Index:
 
     def __init__(self, documents: Iterable[Union[str, Iterable[str]]] = ()) -> None:
         """An index of these documents, as `add` takes them."""
-        self._handle = _library.Handle()
-        self._lock = threading.Lock()
+        self._begin()
         self._call(_library.open_index)
         try:
             for document in documents:
@@ -47,11 +41,18 @@ class Index:
             self.close()
             raise
 
-    def _call(self, call, *arguments) -> None:
+    def _begin(self) -> None:
+        self._handle = _library.Handle()
+        self._lock = threading.Lock()
+        super()._begin()
+
+    def _answered(self, call, *arguments) -> int:
         # ctypes lets other threads run during a call
         with self._lock:
-            status = call(self._handle, *arguments)
-        raise_for(status)
+            return call(self._handle, *arguments)
+
+    def _call(self, call, *arguments) -> None:
+        raise_for(self._answered(call, *arguments))
 
     def close(self) -> None:
         """Frees its memory. Harmless where it is closed already."""
@@ -68,9 +69,6 @@ class Index:
         # where __init__ has failed there is no handle, and at the end of the process no library
         if getattr(self, "_handle", None) is not None and _library is not None:
             _library.free(self._handle)
-
-    def __reduce__(self):
-        raise TypeError("an Index has no form as bytes yet: hand its documents on")
 
     def __len__(self) -> int:
         """How many documents were added, deleted ones too."""
@@ -134,25 +132,6 @@ class Index:
         words = [*words]
         documents = len(self)
         self.weigh({word: rarity(documents, held) for word, held in zip(words, self.frequencies(words))})
-
-    def count(self, query: str) -> int:
-        """How many documents match a query that weren't deleted. A query is a `Q` of docs/SCRIPT.md.
-
-        Raises `QueryError` where it is not understood, or is refused.
-        """
-        text, count = query.encode(), ctypes.c_uint64()
-        self._call(_library.count, text, len(text), count)
-        return count.value
-
-    def top(self, query: str, most: int = 10) -> List[Hit]:
-        """The best documents that match a query and weren't deleted, at most so many: by score downwards, and of one score by
-        number upwards.
-
-        Raises `QueryError` where it is not understood, or is refused.
-        """
-        text, out, filled = query.encode(), (_library.Hit * max(most, 1))(), ctypes.c_size_t()
-        self._call(_library.top, text, len(text), out, max(most, 0), filled)
-        return [Hit(it.document, it.score) for it in out[: filled.value]]
 
 
 def rarity(documents: int, held: int) -> int:

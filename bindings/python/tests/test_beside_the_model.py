@@ -103,11 +103,14 @@ class Beside:
             got = script_model.NOT_UNDERSTOOD if refused.status == 65 else f"refused {refused.status}"
         assert [got] == self.script.answer(f"{form} {query}".encode()), query
 
+    def best(self, query, most):
+        return " ".join(f"{it.document}:{it.score}" for it in self.index.top(query, most, language="script"))
+
     def search(self):
         for _ in range(3):
             query, most = self.query(self.chance.choice([0, 1, 2])), self.chance.choice([0, 1, 3, 1000])
-            self.ask("count", lambda: str(self.index.count(query)), query)
-            self.ask(f"top {most}", lambda: " ".join(f"{it.document}:{it.score}" for it in self.index.top(query, most)), query)
+            self.ask("count", lambda: str(self.index.count(query, language="script")), query)
+            self.ask(f"top {most}", lambda: self.best(query, most), query)
 
     def step(self):
         calls = {self.add: 60, self.delete: 10, self.count_words: 5, self.refuse: 2, self.end_segment: 3, self.index.refresh: 5}

@@ -1,7 +1,6 @@
 """What each call does, and what it refuses."""
 
 import gc
-import pickle
 
 import pytest
 from birchagain import BirchagainError, ClosedError, Index, NoDocumentError, WordError, rarity
@@ -70,12 +69,6 @@ def test_closed():
     with pytest.raises(UnicodeEncodeError):
         Index(["a", "\ud800"])
     gc.collect()
-
-
-def test_no_form_as_bytes_yet():
-    with Index() as index, pytest.raises(TypeError):
-        pickle.dumps(index)
-    assert pickle.loads(pickle.dumps(WordError(68))).status == 68
 
 
 def test_long_words_and_byte_0():

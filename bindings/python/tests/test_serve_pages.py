@@ -137,10 +137,10 @@ def test_nothing_found(tmp_path, query, said):
     "query, said, marked",
     [
         ('owl "oak', "Not understood at letter 5: the quote isn't ended.", '"'),
-        ("a ~", "Not understood at letter 3: a ~ stands behind a phrase alone", "~"),
+        ("a ~", "Not understood at letter 3: ~ stands only behind a phrase", "~"),
         ("owl &", "Not understood at letter 5: this has no letter or digit.", "&"),
         ("\u00e9 title:x", "Not understood at letter 3: there are no fields here", "t"),
-        ("<b>", "Not understood at letter 1: there are no ranges.", "<"),
+        ("<b>", "Not understood at letter 1: ranges can", "<"),
     ],
 )
 def test_refused(tmp_path, query, said, marked):

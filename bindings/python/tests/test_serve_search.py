@@ -7,8 +7,7 @@ import pytest
 from birchagain import QueryError
 from birchagain.serve.collection import Collection
 from birchagain.serve.explanation import explain, times_in
-from birchagain.serve.query import Joined, Words, read_query
-from birchagain.serve.typed import Refusal
+from birchagain.serve.query import Joined, Refusal, Words, read_query
 
 SEEDS = 40
 WORDS = ["owl", "owls", "oak", "old", "apple", "ant", "a", "b"]
@@ -161,22 +160,23 @@ def test_a_slop_is_explained(tmp_path):
 
 
 @pytest.mark.parametrize(
-    "text, kind, place",
+    "text, said, place",
     [
-        ("title:owl", "NoFields", 0),
-        ("owl title:(a b)", "NoFields", 4),
-        ("owl & oak", "NoWord", 4),
-        ('"..."', "NoWord", 0),
-        ("a _*", "NoWord", 2),
-        ('"a', "OpenQuote", 0),
-        ("a b)", "StrayParenthesis", 3),
-        ("\u00e9 (", "OpenParenthesis", 2),
+        ("title:owl", "there are no fields", 0),
+        ("owl title:(a b)", "there are no fields", 4),
+        ("owl & oak", "no letter or digit", 4),
+        ('"..."', "no letter or digit", 0),
+        ("a _*", "no letter or digit", 2),
+        ('"a', "the quote isn't ended", 0),
+        ("a b)", "parenthesis", 3),
+        ("\u00e9 (", "the parenthesis isn't ended", 2),
+        ("(" * 65 + "owl" + ")" * 65, "64 deep", 64),
     ],
 )
-def test_refused(text, kind, place):
+def test_refused(text, said, place):
     with pytest.raises(Refusal) as caught:
         read_query(text)
-    assert (caught.value.kind, caught.value.place) == (kind, place) and str(caught.value)
+    assert said in str(caught.value) and caught.value.place == place
 
 
 def test_a_score_that_is_too_great_is_refused(tmp_path):
@@ -196,5 +196,3 @@ def test_deep_queries(tmp_path):
         query = read_query(opened * depth + "owl" + closed * depth)
         answer = collection.search(query, 1, 10, 1)
         explain(query, [it.text for it in answer.results], answer.weights)
-    with pytest.raises(Refusal):
-        read_query("(" * 65 + "owl" + ")" * 65)

@@ -5,7 +5,8 @@ import random
 import sys
 
 import pytest
-from birchagain.serve.typed import Boosted, Leaf, Named, Refusal, parse
+from birchagain import QueryError, query_words
+from birchagain.serve.typed import Boosted, Leaf, Named, tree_of
 
 sys.path.append(os.path.join(os.path.dirname(os.path.abspath(__file__)), "..", "..", "..", "tests"))
 
@@ -71,31 +72,27 @@ def plain(tree):
     return ("clauses", [(sign, plain(it)) for sign, it in tree.clauses]) if tree.clauses else ("empty",)
 
 
-def read(text):
-    try:
-        return plain(parse(text))
-    except Refusal as refusal:
-        # the model counts places in bytes
-        return (refusal.kind, len(text[: refusal.place].encode()))
-
-
-def model(text):
-    try:
-        return parser_model.parse(text)
-    except parser_model.Refused as refused:
-        return (refused.kind, refused.at)
-
-
 @pytest.mark.parametrize("seed", range(10))
 def test_beside_the_model(seed):
-    chance = random.Random(seed)
+    chance, read = random.Random(seed), 0
     for _ in range(TEXTS // 10):
         text = "".join(chance.choices(PIECES, k=chance.randrange(12)))
-        assert read(text) == model(text), text
+        try:
+            tree = parser_model.parse(text)
+        except parser_model.Refused as refused:
+            # a text that is none of the language is refused before a tree is made of it
+            with pytest.raises(QueryError) as caught:
+                query_words(text)
+            # the model counts places in bytes
+            assert len(text[: caught.value.place].encode()) == refused.at
+        else:
+            assert plain(tree_of(text)) == tree, text
+            read += 1
+    assert read > 100
 
 
 def test_deep_and_long():
-    assert read("(" * 64 + "a" + ")" * 64) == ("word", "a")
-    assert read("(" * 65 + "a" + ")" * 65) == ("TooDeep", 64)
-    assert len(parse("a " * 100_000).clauses) == 100_000
-    assert parse("x" * 1_000_000).text == "x" * 1_000_000
+    assert plain(tree_of("(" * 64 + "a" + ")" * 64)) == ("word", "a")
+    assert len(tree_of("a " * 100_000).clauses) == 100_000
+    assert tree_of("x" * 1_000_000).text == "x" * 1_000_000
+    assert plain(tree_of(f'"{"x" * 1_000_000}"')) == ("phrase", "x" * 1_000_000, 0)

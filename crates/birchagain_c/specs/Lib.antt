@@ -1,4 +1,5 @@
 pub mod Statuses
 pub mod Held
 pub mod Frequencies
-pub mod Queries
+pub mod QueryTexts
+pub mod Bytes

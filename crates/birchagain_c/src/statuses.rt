@@ -5,6 +5,9 @@ ghost use Rattle.birchagain.specs.Statuses.{status_of};
 ghost use Rattle.birchagain_c.specs.Statuses.{status_after};
 
 use birchagain::{Refusal, status_text};
+use birchagain_bytes::status_text as bytes_status_text;
+use birchagain_partitions::merge_status_text;
+use birchagain_queries::query_status_text;
 
 /// The call has done what it was asked.
 pub(crate) const DONE: u32 = 0;
@@ -28,8 +31,22 @@ pub(crate) fn status_after(done: Result<(), Refusal>) -> u32
 pub extern "C" fn birchagain_status_text(status: u32, out: &mut [u8]) -> usize
     ensures { (text : List ℕ) × (length text ≡ result) × (out.new ≡ take (length out.old) text ++ drop result out.old) }
 {
-    let text = status_text(status).as_bytes();
+    let text = text_of(status).as_bytes();
     let count = text.len().min(out.len());
     out[..count].copy_from_slice(&text[..count]);
     text.len()
+}
+
+// What a status says, whichever call answers it.
+fn text_of(status: u32) -> &'static str {
+    if let Some(text) = bytes_status_text(status) {
+        return text;
+    }
+    if let Some(text) = merge_status_text(status) {
+        return text;
+    }
+    if let Some(text) = query_status_text(status) {
+        return text;
+    }
+    status_text(status)
 }

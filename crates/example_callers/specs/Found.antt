@@ -1,7 +1,8 @@
 -- What callers find, and what they do.
-use Rattle.std.specs.Prelude.{◌≡◌, ℕ, ℤ, ◌⊎◌, ◌&&◌, All, Bool, IsTrue, List, Option, filter, length, nat_le, option_and_then, slice_get}
+use Rattle.std.specs.Prelude.{◌≡◌, ℕ, ℤ, ◌⊎◌, ◌&&◌, ◌++◌, All, Bool, IsTrue, List, Option, drop, filter, length, nat_le, option_and_then, slice_get}
 use Rattle.std.specs.List.{list_any, range_with_len}
 use Rattle.std.specs.Ordering.{eq_by_cmp}
+use Rattle.birchagain_partitions.specs.BestOverIndexes.{listed}
 use Rattle.qm_docset.specs.Entry.{Entry, head_document}
 use Rattle.qm_docset.specs.Gather.{documents_below, scores_at}
 use Rattle.qm_docset.specs.declared.numbers.TheConstants.{TERMINATED}
@@ -18,6 +19,9 @@ use Rattle.qm_query.specs.Searches.{count_in, with_scores}
 use Rattle.qm_query.specs.TopDocs.{StandsBefore, score_first}
 use Rattle.qm_schema.specs.Term.{TermKey, term_cmp}
 use Rattle.qm_schema.specs.declared.schema.option.IndexRecordOption.TheVariants.{WithFreqs}
+use Rattle.qm_script.specs.Script as language
+use Rattle.qm_script.specs.Searching.{AreBestIn}
+use Rattle.qm_script.specs.declared.searching.Hit.{Hit}
 use Rattle.qm_store.specs.declared.document_place.DocumentPlace.{DocumentPlace}
 use Rattle.qm_weight.specs.Best.{best}
 use Rattle.qm_weight.specs.BoostFacts.{RoundsNothing}
@@ -64,3 +68,10 @@ found_count S searcher query = count_in (query_tree S (with_scores searcher) que
 -- whether a term is one of these
 abbrev pub is_wanted : List TermKey → TermKey → Bool
 is_wanted terms t = list_any (λ u. eq_by_cmp term_cmp u t) terms
+
+-- The front of an array has the best hits of an index, as many as there is room for, and the rest is what it was.
+pub record HasBestIn (q : language.Query) (s : Indexed) (words : Searched) (before after : List Hit) (count : ℕ) : Type 0 where
+  pub hits : List Hit
+  pub best : AreBestIn q s words (length before) (listed hits)
+  pub counted : length hits ≡ count
+  pub front : after ≡ hits ++ drop count before

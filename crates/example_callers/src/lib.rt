@@ -11,6 +11,7 @@ mod index_callers;
 mod joining_callers;
 mod laws;
 mod library_use;
+mod partition_callers;
 mod phrase_callers;
 mod place_callers;
 mod query_callers;
@@ -31,6 +32,7 @@ pub use laws::{
     Both, collect_boosted, collect_reordered, join_and_collect, join_scored_and_unscored,
 };
 pub use library_use::phrase_and_word;
+pub use partition_callers::{PartitionError, best_of_both, count_in_both};
 pub use phrase_callers::{count_behind_buffer, positions_behind_buffer, scored_phrase};
 pub use place_callers::{PlaceError, place_of_best, place_through_file};
 pub use query_callers::{best_document, matches, matching_documents};

@@ -1,5 +1,5 @@
 -- What is answered where a query was listed, or was not.
-use Rattle.std.proofs.Common.{◌≡◌, ◌⊎◌, inl, inr, ℕ, ℤ, Bool, true, List, [], ◌∷◌, ◌++◌, length, arith, Option, None, Result, Ok, Err, IfOk, IfErr, OnOk}
+use Rattle.std.proofs.Common.{◌≡◌, ◌⊎◌, inl, inr, ℕ, ℤ, Bool, true, List, [], ◌∷◌, ◌++◌, filter, length, map, nat_le, arith, Option, None, Result, Ok, Err, IfOk, IfErr, OnOk}
 use Rattle.std.proofs.Common.{refl, sym, subst, ap, ◌∙◌, ◌+◌, ◌≤◌, length-append}
 use Rattle.std.proofs.lemmas.List.{length-map}
 use Rattle.std.specs.Borrow.{Bor}
@@ -19,9 +19,9 @@ use Rattle.qm_schema.specs.declared.error.QueryError.TheVariants.{Memory}
 use Rattle.qm_script.specs.AllSegments.{all_listed}
 use Rattle.qm_script.specs.Answers.{AnswersQuery, IsLineRefusal, IsListingAnswer}
 use Rattle.qm_script.specs.Asked.{Builds, asked}
-use Rattle.qm_script.specs.BestListed.{best_listed}
+use Rattle.qm_script.specs.BestListed.{alive_listed_from, scored_item}
 use Rattle.qm_script.specs.Counts.{alive_count}
-use Rattle.qm_script.specs.Found.{found_above, found_above_in_parts, found_alive, found_best}
+use Rattle.qm_script.specs.Found.{found_above, found_above_in_parts, found_alive, found_best, found_from}
 use Rattle.qm_script.specs.Narrowed.{AreNarrowed, narrowed}
 use Rattle.qm_script.specs.PrefixFree.{all_prefixes}
 use Rattle.qm_script.specs.ProgramNumbers.{ungiven_weight}
@@ -35,12 +35,13 @@ use Rattle.qm_script.specs.Text.{IsListing, listing_text}
 use Rattle.qm_script.specs.Under.{IsForDocuments, IsForScores, IsScoreRefusal, tree_of}
 use Rattle.qm_script.specs.declared.answer.Answer.{Answer}
 use Rattle.qm_script.specs.declared.answer.Answer.TheVariants.{Refused}
+use Rattle.qm_weight.specs.Best.{best}
 use Rattle.qm_weight.specs.Tree.{Tree}
 use Rattle.qm_script.proofs.AskedNames.{all-named}
 use Rattle.qm_script.proofs.AskedTrees.{asked-passes}
-use Rattle.qm_script.proofs.BestListings.{best-one_part, best-segments}
+use Rattle.qm_script.proofs.BestListings.{alive-one_part, alive-segments}
 use Rattle.qm_script.proofs.CountLemmas.{counted-one_part, counted-segments}
-use Rattle.qm_script.proofs.NarrowedListings.{AllName, best-narrowed, counted-narrowed, listed-narrowed, pruned-narrowed}
+use Rattle.qm_script.proofs.NarrowedListings.{AllName, alive-narrowed, counted-narrowed, listed-narrowed, pruned-narrowed}
 use Rattle.qm_script.proofs.NarrowedScripts.{narrowed-all}
 use Rattle.qm_script.proofs.OverParts.{listed-few_parts, listed-one_part, listed-parts, listed-segments}
 use Rattle.qm_script.proofs.PrunedParts.{pruned-segments}
@@ -166,10 +167,18 @@ module _ (enable : EnableScoring Searched) (s : Script) (q : language.Query) (qu
       counted-one_part own (narrowed are.wanted s) readers are.merged
       ∙ ap (alive_count own) (narrowed-all are.wanted s) ∙ counted-narrowed own are.wanted (all_segments s) (names-all are)
 
-  -- the best
+  -- the documents that weren't deleted, each with its score
+  pub alive-same : Serve q s readers → alive_listed_from own 0 (segments_of readers) ≡ alive_listed_from own 0 (all_segments s)
+  alive-same (inl one) = alive-one_part own s readers one
+  alive-same (inr (inl are)) = alive-segments own s readers are.searched (all-expanded are)
+  alive-same (inr (inr are)) =
+      alive-one_part own (narrowed are.wanted s) readers are.merged
+      ∙ ap (alive_listed_from own 0) (narrowed-all are.wanted s) ∙ alive-narrowed own are.wanted (all_segments s) (names-all are)
+
+  -- the best of them
   pub best-same : (count : ℕ) → Serve q s readers → found_best count enable query (segments_of readers) ≡ found_best count enable query (all_segments s)
-  best-same count (inl one) = best-one_part own count s readers one
-  best-same count (inr (inl are)) = best-segments own count s readers are.searched (all-expanded are)
-  best-same count (inr (inr are)) =
-      best-one_part own count (narrowed are.wanted s) readers are.merged
-      ∙ ap (best_listed count own) (narrowed-all are.wanted s) ∙ best-narrowed own are.wanted (all_segments s) (names-all are) count
+  best-same count serve = ap (λ l. map scored_item (best count l)) (alive-same serve)
+
+  -- those from a number on
+  pub page-same : (first : ℕ) → Serve q s readers → found_from first enable query (segments_of readers) ≡ found_from first enable query (all_segments s)
+  page-same first serve = ap (λ l. filter (nat_le first) (map (λ i. i.0) l)) (alive-same serve)

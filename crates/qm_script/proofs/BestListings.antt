@@ -156,20 +156,20 @@ module _ (tree : Tree) where
       ∙ sym (picked-append (items tree (scored_flag tree) first s) (items_from tree (scored_flag tree) next segments))
 
   -- a tree whose prefixes are expanded to all terms of the parts
-  pub best-segments : (k : ℕ) (script : Script) (readers : List Reader) (are : AreSearched script readers) →
-      all_prefixes (is_reached are.parts) tree ≡ true → best_listed k tree (segments_of readers) ≡ best_listed k tree (all_segments script)
-  best-segments k script readers are pass =
-      ap (λ l. map scored_item (best k l)) (listed-picked 0 (segments_of readers)
+  pub alive-segments : (script : Script) (readers : List Reader) (are : AreSearched script readers) →
+      all_prefixes (is_reached are.parts) tree ≡ true → alive_listed_from tree 0 (segments_of readers) ≡ alive_listed_from tree 0 (all_segments script)
+  alive-segments script readers are pass =
+      listed-picked 0 (segments_of readers)
       ∙ ap picked (items-segments tree (scored_flag tree) script readers are pass
       (λ n s t d e reach reach_too schema document alive.
       λ i. (alive i, (n, pos (score-same (is_reached are.parts) tree pass s t reach reach_too d e schema document 1 i)))))
-      ∙ sym (listed-picked 0 (all_segments script)))
+      ∙ sym (listed-picked 0 (all_segments script))
 
   -- any tree, where the open segment is in one part at most
-  pub best-one_part : (k : ℕ) (script : Script) (readers : List Reader) → AreMerged script readers →
-      best_listed k tree (segments_of readers) ≡ best_listed k tree (all_segments script)
-  best-one_part k script readers are =
-      ap (λ l. map scored_item (best k l)) (listed-picked 0 (segments_of readers)
+  pub alive-one_part : (script : Script) (readers : List Reader) → AreMerged script readers →
+      alive_listed_from tree 0 (segments_of readers) ≡ alive_listed_from tree 0 (all_segments script)
+  alive-one_part script readers are =
+      listed-picked 0 (segments_of readers)
       ∙ ap picked (items-few_segments tree (scored_flag tree) script readers
       (λ n s t d schema documents alive. λ i. (alive i, (n, pos (score-documents s t schema documents tree 1 d i)))) are.searched are.one)
-      ∙ sym (listed-picked 0 (all_segments script)))
+      ∙ sym (listed-picked 0 (all_segments script))

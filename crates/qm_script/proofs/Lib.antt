@@ -38,5 +38,6 @@ mod NarrowedScripts
 mod CountedSegments
 mod NarrowedListings
 mod CountLemmas
-mod BestListings
+pub mod BestListings
 mod PrunedParts
+mod Pages

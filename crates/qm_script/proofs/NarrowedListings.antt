@@ -6,10 +6,9 @@ use Rattle.qm_postings.specs.Restriction.{keeping, restricted}
 use Rattle.qm_postings.specs.Segment.{Segment, is_alive, is_deleted}
 use Rattle.qm_schema.specs.Term.{TermKey}
 use Rattle.qm_script.specs.AllSegments.{all_listed, listed, wanted_score}
-use Rattle.qm_script.specs.BestListed.{best_listed, scored_item}
+use Rattle.qm_script.specs.BestListed.{alive_listed_from}
 use Rattle.qm_script.specs.Counts.{alive_count}
 use Rattle.qm_script.specs.Pruned.{all_pruned, pruned_from, rising}
-use Rattle.qm_weight.specs.Best.{best}
 use Rattle.qm_weight.specs.Names.{Names}
 use Rattle.qm_weight.specs.Tree.{Tree, matching}
 use Rattle.qm_weight.proofs.RestrictedTrees.{matching-restricted, score-restricted}
@@ -63,11 +62,11 @@ module _ (tree : Tree) (wanted : TermKey → Bool) where
         ∙ ap trues (all-kept flag (λ s own n d. alive-kept s d) 0 segments named)
         ∙ sym (counted-items tree 0 segments)
 
-    pub best-narrowed : (count : ℕ) → best_listed count tree (map (restricted wanted) segments) ≡ best_listed count tree segments
-    best-narrowed count =
-        ap (λ l. map scored_item (best count l)) (listed-picked tree 0 (map (restricted wanted) segments)
+    pub alive-narrowed : alive_listed_from tree 0 (map (restricted wanted) segments) ≡ alive_listed_from tree 0 segments
+    alive-narrowed =
+        listed-picked tree 0 (map (restricted wanted) segments)
         ∙ ap picked (all-kept (scored_flag tree) (λ s own n d. λ i. (alive-kept s d i, (n, pos (score-restricted wanted s tree own 1 d i)))) 0 segments named)
-        ∙ sym (listed-picked tree 0 segments))
+        ∙ sym (listed-picked tree 0 segments)
 
   pruned-kept : (threshold : ℤ) (first : ℕ) (segments : List Segment) → AllName segments →
       pruned_from threshold tree first (map (restricted wanted) segments) ≡ pruned_from threshold tree first segments

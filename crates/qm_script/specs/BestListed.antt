@@ -15,6 +15,10 @@ abbrev pub alive_listed_from : Tree → ℕ → List Segment → List (ℕ × �
 alive_listed_from tree first [] = []
 alive_listed_from tree first (s ∷ ss) = alive_listed tree first s ++ alive_listed_from tree (first + length s.documents) ss
 
+-- their numbers over all segments, ascending
+abbrev pub alive_numbers : Tree → List Segment → List ℕ
+alive_numbers tree segments = map (λ i. i.0) (alive_listed_from tree 0 segments)
+
 -- an item of a listing
 abbrev pub scored_item : ℕ × ℤ → ℕ × Option ℤ
 scored_item i = (i.0, Some i.1)

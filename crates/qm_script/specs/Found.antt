@@ -1,5 +1,5 @@
 -- What a query finds in several segments, by what it is asked under.
-use Rattle.std.specs.Prelude.{◌≡◌, ℕ, ℤ, List, ◌++◌, OnOk, Option, Result, String, drop, string_bytes, take}
+use Rattle.std.specs.Prelude.{◌≡◌, ℕ, ℤ, List, ◌++◌, OnOk, Option, Result, String, drop, filter, nat_le, string_bytes, take}
 use Rattle.std.specs.Fmt.{decimal}
 use Rattle.std.specs.Global.{Global}
 use Rattle.qm_postings.specs.Segment.{Segment}
@@ -8,7 +8,7 @@ use Rattle.qm_query.specs.EnableScoring.{is_enabled}
 use Rattle.qm_query.specs.Query.{Query}
 use Rattle.qm_query.specs.declared.enable_scoring.EnableScoring.{EnableScoring}
 use Rattle.qm_script.specs.AllSegments.{all_listed}
-use Rattle.qm_script.specs.BestListed.{best_listed}
+use Rattle.qm_script.specs.BestListed.{alive_numbers, best_listed}
 use Rattle.qm_script.specs.Counts.{alive_count}
 use Rattle.qm_script.specs.Parts.{document_count}
 use Rattle.qm_script.specs.Pruned.{all_pruned, parts_pruned}
@@ -35,6 +35,10 @@ found_best count enable query segments = best_listed count (tree_of enable query
 -- how many match that weren't deleted
 abbrev pub found_alive : EnableScoring Searched → Query → List Segment → ℕ
 found_alive enable query segments = alive_count (tree_of enable query) segments
+
+-- the numbers of these, ascending, from a number on
+abbrev pub found_from : ℕ → EnableScoring Searched → Query → List Segment → List ℕ
+found_from first enable query segments = filter (nat_le first) (alive_numbers (tree_of enable query) segments)
 
 -- Where the call succeeds, the text has a number in decimal digits behind what it was.
 abbrev pub AddsNumber : {T E : Type 0} → Result T E → ℕ → String Global → String Global → Type 0

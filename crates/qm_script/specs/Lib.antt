@@ -32,3 +32,4 @@ pub mod RowPlaces
 pub mod Narrowed
 pub mod Served
 pub mod Searching
+pub mod Paging

@@ -1,5 +1,5 @@
 -- What a query of the language finds in an index.
-use Rattle.std.specs.Prelude.{◌≡◌, ◌⊎◌, ℕ, ℤ, List, [], Ok, Option, Some, None, false}
+use Rattle.std.specs.Prelude.{◌≡◌, ◌⊎◌, ℕ, ℤ, List, [], Ok, Option, Some, None, false, take}
 use Rattle.qm_index.specs.Indexed.{Indexed, IsMerged, IsRefreshed, all_segments, open_parts}
 use Rattle.qm_index.specs.declared.index.Index.{Index}
 use Rattle.qm_postings.specs.Statistics.{Searched, with_segments}
@@ -7,7 +7,7 @@ use Rattle.qm_query.specs.EnableScoring.{provider_of, schema_of}
 use Rattle.qm_query.specs.Query.{Query}
 use Rattle.qm_query.specs.declared.enable_scoring.EnableScoring.{EnableScoring}
 use Rattle.qm_script.specs.Asked.{asked}
-use Rattle.qm_script.specs.Found.{found_alive, found_best}
+use Rattle.qm_script.specs.Found.{found_alive, found_best, found_from}
 use Rattle.qm_script.specs.Prefixes.{has_failing}
 use Rattle.qm_script.specs.Reached.{is_reached}
 use Rattle.qm_script.specs.Script as language
@@ -39,3 +39,13 @@ pub record AreBestIn (q : language.Query) (s : Indexed) (words : Searched) (limi
   pub scores : provider_of enable ≡ Some searched
   pub weighed : with_segments searched [] ≡ words
   pub best : hits ≡ found_best limit enable query (all_segments s)
+
+-- The documents that match and weren't deleted, by number, from a number on, at most so many.
+pub record IsPageIn (q : language.Query) (s : Indexed) (first limit : ℕ) (documents : List ℕ) : Type 0 where
+  pub query : Query
+  pub built : asked q ≡ Ok query
+  -- documents alone are wanted
+  pub enable : EnableScoring Searched
+  pub fields : schema_of enable ≡ s.current.schema
+  pub scores : provider_of enable ≡ None
+  pub page : documents ≡ take limit (found_from first enable query (all_segments s))

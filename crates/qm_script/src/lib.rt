@@ -19,6 +19,7 @@ mod lines;
 mod listing;
 mod narrowed;
 mod non_negative_score;
+mod paging;
 mod parse;
 mod pruning;
 mod read_query;
@@ -31,6 +32,8 @@ mod terms_alone;
 mod unparsed;
 mod words;
 
+pub use non_negative_score::NonNegativeScore;
+pub use paging::page_hits;
 pub use parse::parse_query_text;
 pub use runner::{RunError, run, run_buffered, text_of};
 pub use searching::{Hit, best_hits, count_hits};

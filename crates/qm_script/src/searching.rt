@@ -76,8 +76,12 @@ pub fn best_hits(
     Ok(hits)
 }
 
-// Builds an index, so that it can be searched for a query.
-fn make_ready(alloc: Global, index: &mut Index, spelled: &SpelledQuery) -> Result<(), QueryError>
+/// Builds an index, so that it can be searched for a query.
+pub(crate) fn make_ready(
+    alloc: Global,
+    index: &mut Index,
+    spelled: &SpelledQuery,
+) -> Result<(), QueryError>
     ensures ready { OnOk result (IsReadyFor (query_of spelled.now) index.new) }
     ensures documents { indexed index.new ≡ indexed index.old }
     ensures statistics { statistics index.new ≡ statistics index.old }

@@ -131,10 +131,10 @@ class Collection:
             begun, index = time.perf_counter(), self._passages.index
             weights = self._weigh(query)
             script = query.script(weights.of_beginnings())
-            found = index.count(script)
+            found = index.count(script, language="script")
             pages = max(1, min(-(-found // size), most_pages))
             page = min(page, pages)
-            hits = index.top(script, page * size)[(page - 1) * size :]
+            hits = index.top(script, page * size, language="script")[(page - 1) * size :]
             took = time.perf_counter() - begun
             return Answer(len(self._passages), found, page, pages, [self._found(*it) for it in hits], weights, took)
 
@@ -147,7 +147,7 @@ class Collection:
         return Weights(words, beginnings, self._passages.mean_length())
 
     def _weighed(self, part: Words) -> Weighed:
-        held = self._passages.index.count(part.script({}))
+        held = self._passages.index.count(part.script({}), language="script")
         return Weighed(held, rarity(len(self._passages), held))
 
     def _found(self, document: int, score: int) -> Found:
@@ -162,7 +162,7 @@ class Collection:
     def count(self, part: Part) -> int:
         """How many passages something finds."""
         with self._lock:
-            return self._passages.index.count(part.script({}))
+            return self._passages.index.count(part.script({}), language="script")
 
     def file(self, key: str) -> Optional[File]:
         """The text of a key, as it stands in the folder, or nothing."""

@@ -58,7 +58,7 @@ def explain(query: Part, texts: Sequence[str], weights: Weights) -> List[Explana
 
 
 def _scores(index: Index, script: str, most: int) -> Dict[int, int]:
-    return {hit.document: hit.score for hit in index.top(script, most)}
+    return {hit.document: hit.score for hit in index.top(script, most, language="script")}
 
 
 def _shares_of(place: int, scored: Sequence[Tuple[int, Part, Dict[int, int]]]) -> Iterator[Share]:

@@ -9,9 +9,8 @@ from .files import File
 from .layout import address, counted, main_part, number, page_links, shown_path
 from .markup import Markup, element
 from .passages import Passage
-from .query import Words, read_query, scoring_leaves
+from .query import Refusal, Words, read_query, scoring_leaves
 from .results import PART, marked
-from .typed import Refusal
 
 
 def file_page(file: File, query: str, part: int) -> Markup:

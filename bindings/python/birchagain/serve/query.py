@@ -4,11 +4,21 @@ from __future__ import annotations
 
 from typing import Iterator, List, Mapping, NamedTuple, Sequence, Tuple, Union
 
-from .typed import Boosted, Clauses, Leaf, Named, Refusal, Tree, parse
+from ..errors import QueryError
+from ..queries import query_words
+from .typed import Boosted, Clauses, Leaf, Named, Tree, tree_of
 from .words import words_of
 
 # how many words that begin so are tried: all
 _ALL_BEGINNINGS = 4294967295
+
+
+class Refusal(Exception):
+    """Why a query is refused, and behind how many letters of it that stands."""
+
+    def __init__(self, said: str, place: int) -> None:
+        super().__init__(said)
+        self.place = place
 
 
 class Words(NamedTuple):
@@ -84,13 +94,19 @@ def _boost(factor: int, script: str) -> str:
 
 def read_query(text: str) -> Part:
     """What a text asks for. Raises `Refusal` where it isn't understood."""
-    return _part_of(parse(text))
+    try:
+        query_words(text)
+    except QueryError as error:
+        # without a place it is refused for a field, which stands in its tree
+        if error.place is not None:
+            raise Refusal(str(QueryError(error.status)), error.place) from error
+    return _part_of(tree_of(text))
 
 
 def _part_of(tree: Tree) -> Part:
     """A tree with its words folded."""
     if isinstance(tree, Named):
-        raise Refusal("NoFields", tree.place)
+        raise Refusal("there are no fields here: put a \\ before the :, or quotes around the whole", tree.place)
     if isinstance(tree, Boosted):
         part = _part_of(tree.tree)
         # a boost around another is a list of one, so that each is as it was typed
@@ -105,7 +121,7 @@ def _leaf_of(leaf: Leaf) -> Part:
         return Everything()
     words = tuple(words_of(leaf.text))
     if not words:
-        raise Refusal("NoWord", leaf.place)
+        raise Refusal("this has no letter or digit", leaf.place)
     return Words(words, leaf.goes_on, leaf.slop if len(words) > 1 else 0)
 
 

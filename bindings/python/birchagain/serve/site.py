@@ -14,9 +14,8 @@ from .files_page import file_page
 from .hints import hints_for, listed
 from .layout import address, counted, footer, form, help_fold, main_part, number, page, page_links, site_header
 from .markup import Markup, element, joined
-from .query import Part, read_query
+from .query import Part, Refusal, read_query
 from .results import result_list
-from .typed import Refusal
 
 # results on a page, pages of results, and letters of a query
 SIZE, MOST_PAGES, MOST_LETTERS = 10, 100, 2000

@@ -1,0 +1,10 @@
+mod MoreNames
+mod Packs
+mod FilesRead
+mod Taken
+mod DeletedCount
+mod OpenCounts
+mod Listed
+mod Known
+mod IndexBytes
+mod SegmentFiles

@@ -1,0 +1,5 @@
+pub mod Statuses
+pub mod Packed
+pub mod PackedFolder
+pub mod Refusals
+pub mod Bytes

@@ -1,0 +1,85 @@
+//! What is said of the text of a query, without an index.
+
+ghost use Rattle.std.specs.Prelude.{◌≡◌, ◌≢◌, ◌<◌, ◌≤◌, ◌++◌, drop, length};
+ghost use Rattle.birchagain_c.specs.QueryTexts.{AreTold, AreWordsOf, IsUnderstood, IsUntypedAt, IsWordsRefusal};
+ghost use Rattle.birchagain_c.specs.Statuses.{IsTextStatus};
+ghost use Rattle.birchagain_queries.specs.Found.{IsQueryRefusal};
+ghost use Rattle.birchagain_queries.specs.declared.laid_words.LaidWords.{LaidWords};
+
+use crate::queries::understood;
+use crate::query_statuses::status_after_query;
+use crate::statuses::DONE;
+use birchagain_queries::{LaidWords, QueryRefusal, query_words};
+use std::alloc::Global;
+
+/// Fills the fronts of `bytes` and `ends` with the words of a query that weigh anything, one behind the other and where
+/// each ends; writes at `bytes_filled` how many bytes these are, and at `words` how many words. Where there is less
+/// room, both numbers are written, and the arrays are as they were.
+#[unsafe(no_mangle)]
+pub extern "C" fn birchagain_query_words(
+    alloc: Global,
+    language: u32,
+    query: &[u8],
+    bytes: &mut [u8],
+    ends: &mut [usize],
+    bytes_filled: &mut usize,
+    words: &mut usize,
+) -> u32
+    ensures told { result ≡ 0 → (laid : LaidWords) × AreWordsOf language query.now laid × AreTold laid bytes_filled.new words.new
+        × (bytes.new ≡ laid.bytes.items ++ drop bytes_filled.new bytes.old)
+        × (ends.new ≡ laid.ends.items ++ drop words.new ends.old) }
+    ensures room { result ≡ 86 → (laid : LaidWords) × AreWordsOf language query.now laid × AreTold laid bytes_filled.new words.new }
+    ensures untouched { result ≢ 0 → (bytes.new ≡ bytes.old) × (ends.new ≡ ends.old) }
+    ensures numbers { result ≢ 0 → result ≢ 86 → (bytes_filled.new ≡ bytes_filled.old) × (words.new ≡ words.old) }
+    ensures status { IsTextStatus (IsWordsRefusal language query.now (length bytes.old) (length ends.old)) result }
+{
+    status_after_query(write_words(alloc, language, query, bytes, ends, bytes_filled, words))
+}
+
+// Writes the words of a query.
+fn write_words(
+    alloc: Global,
+    language: u32,
+    text: &[u8],
+    bytes: &mut [u8],
+    ends: &mut [usize],
+    bytes_filled: &mut usize,
+    words: &mut usize,
+) -> Result<(), QueryRefusal> {
+    let query = understood(alloc, language, text)?;
+    let found = query_words(alloc, &query)?;
+    let laid = LaidWords::new(alloc, &found)?;
+    *bytes_filled = laid.bytes.len();
+    *words = laid.ends.len();
+    if bytes.len() < laid.bytes.len() || ends.len() < laid.ends.len() {
+        return Err(QueryRefusal::NoRoom);
+    }
+    bytes[..laid.bytes.len()].copy_from_slice(&laid.bytes);
+    ends[..laid.ends.len()].copy_from_slice(&laid.ends);
+    Ok(())
+}
+
+/// Whether a query is understood, as all calls that take one take it. Where its text is none of the typed language,
+/// writes at `place` how many bytes stand before what isn't understood.
+#[unsafe(no_mangle)]
+pub extern "C" fn birchagain_check_query(
+    alloc: Global,
+    language: u32,
+    query: &[u8],
+    place: &mut usize,
+) -> u32
+    ensures understood { result ≡ 0 → IsUnderstood language query.now }
+    ensures placed { 101 ≤ result → IsUntypedAt language query.now result place.new }
+    ensures untouched { result < 101 → place.new ≡ place.old }
+    ensures status { IsTextStatus (IsQueryRefusal language query.now) result }
+{
+    match understood(alloc, language, query) {
+        Ok(_) => DONE,
+        Err(refusal) => {
+            if let QueryRefusal::Untyped(untyped) = refusal {
+                *place = untyped.at;
+            }
+            refusal.status()
+        }
+    }
+}

@@ -1,0 +1,2 @@
+mod RankedSteps
+mod MergeSteps

@@ -1,0 +1,5 @@
+pub mod Statuses
+pub mod Ranked
+pub mod BestOfParts
+pub mod Merging
+pub mod BestOverIndexes

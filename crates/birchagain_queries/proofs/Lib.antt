@@ -1,0 +1,4 @@
+mod TypedForms
+mod SpelledForms
+mod Clauses
+mod Words

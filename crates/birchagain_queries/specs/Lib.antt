@@ -1,0 +1,5 @@
+pub mod Translation
+pub mod Languages
+pub mod Statuses
+pub mod QueryWords
+pub mod Found
