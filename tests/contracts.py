@@ -11,6 +11,8 @@ import re
 
 # (a `const fn` may be computed where a constant of a crate above is made, so its body stays)
 FUNCTION = re.compile(r"( *)(?:pub(?:\([^)]*\))? )?fn \w+")
+# what begins a line that is a comment
+COMMENTS = {".rt": "//", ".antt": "--"}
 # what proves a function, in its own folder of proofs/
 ANSWERS = ("Answers.antt", "Invariants.antt", "Proof.antt")
 
@@ -20,6 +22,13 @@ def contracts_of(path, text):
     if path.startswith("proofs/") and os.path.basename(path) in ANSWERS:
         return None
     return without_bodies(text) if path.endswith(".rt") else text
+
+
+def without_comments(path, text):
+    """The lines of a file that say something to a proof. (No string of a source goes over several lines.)"""
+    mark = COMMENTS.get(os.path.splitext(path)[1])
+    lines = (line for line in text.split("\n") if line.strip())
+    return "\n".join(line for line in lines if mark is None or not line.lstrip().startswith(mark))
 
 
 def without_bodies(text):

@@ -9,7 +9,7 @@ import os
 import shutil
 import subprocess
 
-from contracts import contracts_of
+from contracts import contracts_of, without_comments
 
 PARTS = ("src", "specs", "proofs")
 HOME = os.path.dirname(os.path.dirname(os.path.realpath(shutil.which("rt") or "")))
@@ -56,10 +56,10 @@ class Crate:
         return made.hexdigest()
 
     def own_sum(self):
-        """A checksum of the crate's own line and files."""
+        """A checksum of the crate's own line and files, but for their comments."""
         made = hashlib.sha256(self.line.encode())
         for path in self.files():
-            made.update(repr((path, self.read(path))).encode())
+            made.update(repr((path, without_comments(path, self.read(path)))).encode())
         return made.hexdigest()
 
     def contracts_sum(self):
@@ -70,7 +70,7 @@ class Crate:
             for path in crate.files():
                 seen = contracts_of(path, crate.read(path))
                 if seen is not None:
-                    made.update(repr((path, seen)).encode())
+                    made.update(repr((path, without_comments(path, seen))).encode())
         return made.hexdigest()
 
 
@@ -100,6 +100,11 @@ def keeps_proofs():
 
 def version():
     return subprocess.run(["rt", "version"], capture_output=True, text=True, check=True).stdout.strip()
+
+
+def logic():
+    """The sum of the logic that proves. Kits of other names may have the same, and refuse the same."""
+    return version().partition(" logic ")[2]
 
 
 def build_library(crate, jobs):

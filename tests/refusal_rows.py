@@ -94,7 +94,7 @@ TRIED = [
     ("nothing changed", BEFORE, BEFORE, COMMITS[0], False),
     ("its text changed", BEFORE._replace(edit="x"), BEFORE, COMMITS[1], True),
     ("its crate changed", BEFORE._replace(crate="x"), BEFORE, COMMITS[1], True),
-    ("the toolchain changed", BEFORE._replace(judge="x"), BEFORE, COMMITS[1], True),
+    ("the logic changed", BEFORE._replace(judge="x"), BEFORE, COMMITS[1], True),
     ("a contract below changed, in the tenth", BEFORE._replace(below="x"), BEFORE, COMMITS[0], True),
     ("a contract below changed, not in the tenth", BEFORE._replace(below="x"), BEFORE, COMMITS[1], False),
 ]

@@ -1,8 +1,8 @@
 """What was refused before, and which wrong bodies are tried again.
 
 tests/wrong_bodies/refused.txt has a line for each edit that was refused: its name, and checksums of its text, of
-its crate's files, of the contracts and definitions that the crate stands on, and of what judges it: the toolchain,
-refusals.py, renamed_proof.py and same_body.py. Only wrong_bodies.py writes it, and it goes with the repository, so
+its crate's files, of the contracts and definitions that the crate stands on, and of what judges it: the toolchain's
+logic, refusals.py, renamed_proof.py and same_body.py. Comments count for nothing, since no proof sees them. Only wrong_bodies.py writes it, and it goes with the repository, so
 that a machine which never tried an edit knows of it. What this machine refused itself is kept in ~/.cache/birchagain/wrong_bodies
 too, or in the folder that WRONG_BODIES_KEPT names, a file for each, named by the same sums.
 
@@ -49,7 +49,7 @@ def judge_sum():
     for name in ("refusals.py", "renamed_proof.py", "same_body.py"):
         with open(f"{HERE}/{name}", encoding="utf-8") as it:
             texts.append(it.read())
-    return sum_of(kit.version(), *texts)
+    return sum_of(kit.logic(), *texts)
 
 
 def around(crate):
@@ -66,7 +66,7 @@ def why_tried(name, now, before, commit):
     if now.crate != before.crate:
         return "its crate changed"
     if now.judge != before.judge:
-        return "the toolchain changed, or what counts as refused"
+        return "the logic changed, or what counts as refused"
     if now.below != before.below and is_of_the_tenth(name, commit):
         return "contracts below changed, and it is of this commit's tenth"
     return None
