@@ -1,5 +1,5 @@
 -- What is told of the text of a query.
-use Rattle.std.specs.Prelude.{◌≡◌, ◌<◌, ◌⊎◌, ℕ, List, Some, Err, length}
+use Rattle.std.specs.Prelude.{◌≡◌, ◌<◌, ◌⊎◌, ◌++◌, ℕ, List, Some, Err, drop, length}
 use Rattle.qm_parser.specs.Trees.{tree_of_text}
 use Rattle.qm_parser.specs.declared.parse_error.Refusal.{Refusal}
 use Rattle.qm_script.specs.Script.{Query}
@@ -28,6 +28,11 @@ AreWordsOf number text laid = (q : Query) × SaysBy number text q × AreLaid (we
 -- how many bytes and words they are
 abbrev pub AreTold : LaidWords → ℕ → ℕ → Type 0
 AreTold laid bytes words = (bytes ≡ length laid.bytes.items) × (words ≡ length laid.ends.items)
+
+-- the fronts of two arrays have these words, and the rest is what it was
+pub record HaveWords (laid : LaidWords) (bytes bytes_after ends ends_after : List ℕ) : Type 0 where
+  pub bytes : bytes_after ≡ laid.bytes.items ++ drop (length laid.bytes.items) bytes
+  pub ends : ends_after ≡ laid.ends.items ++ drop (length laid.ends.items) ends
 
 -- there is less room than the words of a query take
 abbrev pub IsTooLittle : ℕ → List ℕ → ℕ → ℕ → Type 0

@@ -1,7 +1,7 @@
 //! What is said of the text of a query, without an index.
 
-ghost use Rattle.std.specs.Prelude.{◌≡◌, ◌≢◌, ◌<◌, ◌≤◌, ◌++◌, drop, length};
-ghost use Rattle.birchagain_c.specs.QueryTexts.{AreTold, AreWordsOf, IsUnderstood, IsUntypedAt, IsWordsRefusal};
+ghost use Rattle.std.specs.Prelude.{◌≡◌, ◌≢◌, ◌<◌, ◌≤◌, IfErr, IfOk, IsErrOf, OnErr, OnOk, length};
+ghost use Rattle.birchagain_c.specs.QueryTexts.{AreTold, AreWordsOf, HaveWords, IsUnderstood, IsUntypedAt, IsWordsRefusal};
 ghost use Rattle.birchagain_c.specs.Statuses.{IsTextStatus};
 ghost use Rattle.birchagain_queries.specs.Found.{IsQueryRefusal};
 ghost use Rattle.birchagain_queries.specs.declared.laid_words.LaidWords.{LaidWords};
@@ -26,8 +26,7 @@ pub extern "C" fn birchagain_query_words(
     words: &mut usize,
 ) -> u32
     ensures told { result ≡ 0 → (laid : LaidWords) × AreWordsOf language query.now laid × AreTold laid bytes_filled.new words.new
-        × (bytes.new ≡ laid.bytes.items ++ drop bytes_filled.new bytes.old)
-        × (ends.new ≡ laid.ends.items ++ drop words.new ends.old) }
+        × HaveWords laid bytes.old bytes.new ends.old ends.new }
     ensures room { result ≡ 86 → (laid : LaidWords) × AreWordsOf language query.now laid × AreTold laid bytes_filled.new words.new }
     ensures untouched { result ≢ 0 → (bytes.new ≡ bytes.old) × (ends.new ≡ ends.old) }
     ensures numbers { result ≢ 0 → result ≢ 86 → (bytes_filled.new ≡ bytes_filled.old) × (words.new ≡ words.old) }
@@ -45,10 +44,16 @@ fn write_words(
     ends: &mut [usize],
     bytes_filled: &mut usize,
     words: &mut usize,
-) -> Result<(), QueryRefusal> {
-    let query = understood(alloc, language, text)?;
-    let found = query_words(alloc, &query)?;
-    let laid = LaidWords::new(alloc, &found)?;
+) -> Result<(), QueryRefusal>
+    ensures told { OnOk result ((laid : LaidWords) × AreWordsOf language text.now laid × AreTold laid bytes_filled.new words.new
+        × HaveWords laid bytes.old bytes.new ends.old ends.new) }
+    ensures room { IsErrOf result QueryRefusal.NoRoom
+        → (laid : LaidWords) × AreWordsOf language text.now laid × AreTold laid bytes_filled.new words.new }
+    ensures untouched { OnErr result ((bytes.new ≡ bytes.old) × (ends.new ≡ ends.old)) }
+    ensures numbers { IfErr result (λ why. why ≢ QueryRefusal.NoRoom → (bytes_filled.new ≡ bytes_filled.old) × (words.new ≡ words.old)) }
+    ensures refused { IfErr result (IsWordsRefusal language text.now (length bytes.old) (length ends.old)) }
+{
+    let laid = laid_words(alloc, language, text)?;
     *bytes_filled = laid.bytes.len();
     *words = laid.ends.len();
     if bytes.len() < laid.bytes.len() || ends.len() < laid.ends.len() {
@@ -57,6 +62,16 @@ fn write_words(
     bytes[..laid.bytes.len()].copy_from_slice(&laid.bytes);
     ends[..laid.ends.len()].copy_from_slice(&laid.ends);
     Ok(())
+}
+
+// The words of a query that weigh anything, one behind the other.
+fn laid_words(alloc: Global, language: u32, text: &[u8]) -> Result<LaidWords, QueryRefusal>
+    ensures words { IfOk result (AreWordsOf language text.now) }
+    ensures refused { IfErr result (IsQueryRefusal language text.now) }
+{
+    let query = understood(alloc, language, text)?;
+    let found = query_words(alloc, &query)?;
+    Ok(LaidWords::new(alloc, &found)?)
 }
 
 /// Whether a query is understood, as all calls that take one take it. Where its text is none of the typed language,

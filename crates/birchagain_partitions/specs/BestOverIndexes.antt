@@ -15,8 +15,8 @@ use Rattle.qm_query.specs.EnableScoring.{provider_of}
 use Rattle.qm_query.specs.Query.{Query}
 use Rattle.qm_query.specs.declared.enable_scoring.EnableScoring.{EnableScoring}
 use Rattle.qm_query.specs.declared.enable_scoring.EnableScoring.TheVariants.{Enabled, Disabled}
-use Rattle.qm_schema.specs.declared.error.QueryError.{QueryError}
 use Rattle.qm_script.proofs.BestListings.{best-renamed}
+use Rattle.qm_script.specs.Asked.{asked}
 use Rattle.qm_script.specs.BestListed.{alive_listed, alive_listed_from, best_listed, scored_item}
 use Rattle.qm_script.specs.Counts.{alive_count}
 use Rattle.qm_script.specs.Found.{found_alive, found_best}
@@ -111,7 +111,9 @@ pub record HasSegmentsOf (s t both : Indexed) : Type 0 where
 tree-alike : (e f : EnableScoring Searched) (x y : Searched) → provider_of e ≡ Some x → provider_of f ≡ Some y →
     with_segments x [] ≡ with_segments y [] → (query : Query) → tree_of e query ≡ tree_of f query
 tree-alike (Enabled s p) (Enabled t r) x y here there alike query =
-    let is : with_segments p.now [] ≡ with_segments r.now [] = ap (λ s. with_segments s []) (cc : p.now ≡ x) ∙ alike ∙ ap (λ s. with_segments s []) (cc : y ≡ r.now) in
+    let first : p.now ≡ x = cc in
+    let second : y ≡ r.now = cc in
+    let is : with_segments p.now [] ≡ with_segments r.now [] = ap (λ s. with_segments s []) first ∙ alike ∙ ap (λ s. with_segments s []) second in
     same_tree ghosts (Enabled s p) (Enabled t r) refl (λ terms i. Some (record { weight = ghosts.weight_of (is i) terms; norms = (is i).norms; boost = 1 })) query
 tree-alike (Disabled schema s) f x y here there alike query = cc
 tree-alike (Enabled s p) (Disabled schema t) x y here there alike query = cc
@@ -122,8 +124,9 @@ tree-without (Disabled a s) (Disabled b t) here there query = same_tree ghosts (
 tree-without (Enabled s p) f here there query = cc
 tree-without (Disabled a s) (Enabled t r) here there query = cc
 
-same_query : {x y : Query} → Ok {T = Query} {E = QueryError} x ≡ Ok y → x ≡ y
-same_query is = cc
+-- one text says one query
+same_query : (q : language.Query) (x y : Query) → asked q ≡ Ok x → asked q ≡ Ok y → y ≡ x
+same_query q x y first second = cc
 
 -- The best of both are the best of both's best, where words weigh alike in both.
 pub best_in-both : (q : language.Query) (s t both : Indexed) (words : Searched) (limit : ℕ) (xs ys hits : List Hit) → HasSegmentsOf s t both →
@@ -131,7 +134,7 @@ pub best_in-both : (q : language.Query) (s t both : Indexed) (words : Searched) 
     items hits ≡ best limit (of_both (document_count (all_segments s)) xs ys) → AreBestIn q both words limit (listed hits)
 best_in-both q s t both words limit xs ys hits all first second is =
     let query = first.query in
-    let asked_alike : second.query ≡ query = same_query (sym second.built ∙ first.built) in
+    let asked_alike : second.query ≡ query = same_query q query second.query first.built second.built in
     let tree : tree_of second.enable second.query ≡ tree_of first.enable query =
     ap (tree_of second.enable) asked_alike
     ∙ tree-alike second.enable first.enable second.searched first.searched second.scores first.scores (second.weighed ∙ sym first.weighed) query in
@@ -154,7 +157,7 @@ pub count_in-both : (q : language.Query) (s t both : Indexed) (n m : ℕ) → Ha
     IsCountIn q s n → IsCountIn q t m → IsCountIn q both (n + m)
 count_in-both q s t both n m all first second =
     let query = first.query in
-    let asked_alike : second.query ≡ query = same_query (sym second.built ∙ first.built) in
+    let asked_alike : second.query ≡ query = same_query q query second.query first.built second.built in
     let tree : tree_of second.enable second.query ≡ tree_of first.enable query =
     ap (tree_of second.enable) asked_alike ∙ tree-without second.enable first.enable second.scores first.scores query in
     let other : m ≡ found_alive first.enable query (all_segments t) = second.count ∙ ap (λ u. alive_count u (all_segments t)) tree in
