@@ -1,4 +1,6 @@
 //! What is searched for a query whose prefixes are cut: segments of the terms alone that it asks for.
+//!
+//! A prefix that is cut stands for the first terms of the whole open segment, which none of its parts knows alone.
 
 ghost use Rattle.std.specs.Prelude.{◌≡◌, ◌<◌, IfOk, length, map};
 ghost use Rattle.std.specs.List.Sorted.{IsStrictlySortedBy};

@@ -1,4 +1,6 @@
 //! Ended segments of an index, joined by their rows, or without what is deleted of them.
+//!
+//! Neighbours alone are joined, with their deleted documents, so that all documents keep their numbers.
 
 ghost use Rattle.std.specs.Prelude.{◌≡◌, ◌≢◌, ◌≤◌, ◌<◌, ◌↔◌, ◌*◌, ◌-◌, IfErr, IfOk, IsErrOf, IsOkUnless, OnErr, OnOk, length, true};
 ghost use Rattle.qm_folder.specs.Disk.{Contents};
