@@ -28,6 +28,8 @@ import kit  # noqa: E402
 
 ROOT = os.path.realpath(os.path.join(HERE, ".."))
 MADE = f"{ROOT}/out/api"
+# in which order the libraries are listed, by how their names begin
+ORDER = ("qm_", "birchagain", "birch", "")
 LINK = re.compile(r"\[(`[\w:]+`)\](?!\()|\[([^\]]+)\]\(([\w:]+)\)")
 WORD = re.compile(r"[^\s(){}\[\],;.]+")
 PAGE = """<!DOCTYPE html>
@@ -55,7 +57,7 @@ table { border-collapse: collapse; }
 td { padding: .25rem .75rem .25rem 0; vertical-align: top; }
 td p { margin: 0; }
 :target { background: #fc04; }
-@media (max-width: 40rem) { .part { margin-left: 0; } td { display: block; padding: 0 0 .25rem; } }
+@media (max-width: 40rem) { .part { margin-left: 0; } td { display: block; padding: 0; } td:first-child { padding-top: .5rem; } }
 """
 
 
@@ -75,7 +77,7 @@ class Pages:
         return pages | {words_page(*key): self.words_of(*key) for key in self.specs}
 
     def index(self):
-        ordered = sorted(self.libraries, key=lambda it: not it.name.startswith("qm_"))
+        ordered = sorted(self.libraries, key=lambda it: [it.name.startswith(begins) for begins in ORDER].index(True))
         rows = [f"<tr><td>{link(f'{it.name}.html', it.name)}<td>{self.marked(first_of(it.docs), it)}" for it in ordered]
         return page("The libraries", "\n".join(["<h1>The libraries</h1>", "<table>", *rows, "</table>"]))
 

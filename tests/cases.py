@@ -7,7 +7,7 @@ Each program of cases plays the files of its crates, and then what tests/generat
 plain model, in as many parts as there are processors: tables of all small cases, and N rows by chance, by a
 seed that is always the same where none is given. Before that the model is compared with worked rows. The files
 flat.case, of very many parts and none of them deep, are played with a stack of one megabyte. Every run is under
-an allocator that refuses the requests for memory that a case names (tests/refuse_memory.c). The programs are
+an allocator that refuses the requests for memory that a case names (tests/native/refuse_memory.c). The programs are
 those that `rt ci` has left in crates/PROGRAM/out, or those in a FOLDER. Prints the rows that are wrong, and last
 how many rows were played; the exit status is 1 where one is wrong, or where a program plays none.
 
@@ -59,7 +59,7 @@ def build_refusing(room):
     """Builds the allocator that is preloaded."""
     library = f"{room}/refuse_memory.so"
     words = "cc -O2 -Wall -Wextra -Werror -shared -fPIC -o".split()
-    subprocess.run([*words, library, f"{ROOT}/tests/refuse_memory.c"], check=True)
+    subprocess.run([*words, library, f"{ROOT}/tests/native/refuse_memory.c"], check=True)
     return library
 
 

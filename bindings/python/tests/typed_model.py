@@ -1,5 +1,5 @@
-"""What a typed query says, by docs/QUERIES.md and docs/LIBRARY.md: the language is that of tests/parser_model.py, and a
-query of tests/model.py has the meaning. Words stand as they were typed."""
+"""What a typed query says, by docs/QUERIES.md and docs/LIBRARY.md: the language is that of tests/model/typed_queries.py,
+and a query of tests/model has the meaning. Words stand as they were typed."""
 
 import model
 import model.typed_queries as parser_model

@@ -1,4 +1,7 @@
 //! Letters with accents.
+//!
+//! Accents are U+0300 to U+036F alone. The marks of other scripts are vowels and the like, without which words would be
+//! others.
 
 /// Whether a letter with an accent is the letter without it.
 #[derive(Clone, Copy, Debug, PartialEq, Eq)]
@@ -9,8 +12,7 @@ pub enum Accents {
     Kept,
 }
 
-/// Whether a mark is an accent, as Latin, Greek and Cyrillic letters have them. The marks of other scripts
-/// are vowels and the like there, without which words would be others.
+/// Whether a mark is an accent, as Latin, Greek and Cyrillic letters have them.
 pub(crate) fn is_accent(letter: char) -> bool {
     matches!(letter, '\u{300}'..='\u{36f}')
 }

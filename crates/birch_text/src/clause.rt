@@ -1,4 +1,6 @@
 //! Words that are asked for.
+//!
+//! Field and boosts are carried down to the words, so a query is as deep as its parentheses alone.
 
 /// Where words are asked for.
 #[derive(Debug, Drop)]

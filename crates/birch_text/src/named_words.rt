@@ -1,4 +1,6 @@
 //! Words of named fields, as they are kept.
+//!
+//! A field's words are words of one field of the index, with its name before them. So files may have different columns.
 
 use std::alloc::{AllocError, Global};
 

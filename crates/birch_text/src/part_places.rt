@@ -1,4 +1,6 @@
 //! Where the parts of a query stand.
+//!
+//! The tree of a query has no places. They are found again here, without the grammar, in a text that has a tree.
 
 use std::alloc::{AllocError, Global};
 

@@ -1,4 +1,6 @@
 //! What a query asks for.
+//!
+//! A list of `-` parts alone finds all else: whoever types `-fox` wants the rest.
 
 use crate::clause::Clause;
 use qm_parser::Sign;

@@ -1,4 +1,6 @@
 //! Words, as they are compared.
+//!
+//! A number is cut as any word is. That is one rule, at the price that `3.14` finds `3,14`.
 
 use crate::accents::{Accents, is_accent};
 use caseless::Caseless;

@@ -1,4 +1,7 @@
 //! Documents that are added and deleted.
+//!
+//! Words come as their bytes and where each ends, two plain slices. A row of pointers would need a condition on memory
+//! for each word.
 
 ghost use Rattle.std.specs.Prelude.{◌≡◌, ◌↔◌, IfErr, IfOk, IsErrOf, IsUtf8, OnErr, OnOk, length, map, string_bytes};
 ghost use Rattle.qm_index.specs.Indexed.{indexed, statistics, with_document_of};

@@ -1,4 +1,6 @@
 //! How many documents hold a word.
+//!
+//! All counts are made before a caller can write the first, so that a refused call leaves its buffer as it was.
 
 ghost use Rattle.std.specs.Prelude.{◌≡◌, ◌≤◌, ◌*◌, IfErr, IfOk, IsOkUnless, OnOk, length, map};
 ghost use Rattle.std.specs.List.{sum_by};

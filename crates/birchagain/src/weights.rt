@@ -1,4 +1,6 @@
 //! What words weigh.
+//!
+//! `weigh` takes one word. Of several, the first would have their weights where memory runs out for a later one.
 
 ghost use Rattle.std.specs.Prelude.{◌≡◌, ◌↔◌, ◌≤◌, ◌<◌, ◌^◌, ◌≤ℤ◌, IfErr, IsErrOf, OnErr, OnOk, nat_abs, pos};
 ghost use Rattle.qm_index.specs.Indexed.{indexed, statistics};

@@ -1,4 +1,6 @@
 //! An index as bytes, and back.
+//!
+//! Nothing is kept between two calls, so nothing has to be freed; the buffer is the caller's.
 
 ghost use Rattle.std.specs.Prelude.{◌≡◌, ◌≢◌, ◌↔◌, ◌⊎◌, [], Err, IfErr, IfOk, IsErrOf, IsOkUnless, None};
 ghost use Rattle.std.specs.List.Sorted.{IsNonDecreasing};

@@ -1,4 +1,6 @@
 //! The documents that a query finds, a page at a time.
+//!
+//! Nothing is kept between two calls, so no iterator has to be freed; the buffer is the caller's.
 
 ghost use Rattle.std.specs.Prelude.{◌≡◌, ◌≢◌, ◌↔◌, ◌++◌, IfErr, List, ℕ, None, OnErr, OnOk, drop, length};
 ghost use Rattle.birchagain.specs.Changes.{IsSame};

@@ -1,4 +1,6 @@
 //! What a query finds, by its text in the language that people type or in that of scripts.
+//!
+//! Answers are made before the first is written, so that a refused call leaves the buffer as it was.
 
 ghost use Rattle.std.specs.Prelude.{◌≡◌, ◌≢◌, ◌↔◌, ◌++◌, IfErr, IfOk, List, None, OnErr, OnOk, drop, length};
 ghost use Rattle.birchagain.specs.Changes.{IsSame};

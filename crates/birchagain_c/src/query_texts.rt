@@ -1,4 +1,6 @@
 //! What is said of the text of a query, without an index.
+//!
+//! Where a query isn't understood is told by a call of its own, so that all others have a parameter fewer.
 
 ghost use Rattle.std.specs.Prelude.{◌≡◌, ◌≢◌, ◌<◌, ◌≤◌, IfErr, IfOk, IsErrOf, OnErr, OnOk, length};
 ghost use Rattle.birchagain_c.specs.QueryTexts.{AreTold, AreWordsOf, HaveWords, IsUnderstood, IsUntypedAt, IsWordsRefusal};

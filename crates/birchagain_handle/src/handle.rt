@@ -1,4 +1,6 @@
 //! An index on the heap, as the pointer that C holds.
+//!
+//! The handle is a struct in the caller's memory, which can say that it is empty. So a call after a free is refused.
 
 ghost use Rattle.std.specs.Prelude.{◌≡◌, None, Option, Some};
 ghost use Rattle.qm_index.specs.declared.index.Index.{Index};

@@ -1,4 +1,7 @@
 //! A box as the pointer that it is.
+//!
+//! Its proofs are of pointers, and written by hand. They stand in a crate of their own, so that no other crate has such
+//! ones.
 
 ghost use Rattle.std.specs.Prelude.{◌≡◌};
 ghost use Rattle.std.specs.Box.Ownership.{box_owns};

@@ -1,4 +1,7 @@
 //! The words of a query that weigh anything.
+//!
+//! Words are answered as they stand, also twice. Who weighs them loses nothing, and to tell them apart would cost a
+//! sort.
 
 ghost use Rattle.std.specs.Prelude.{◌≡◌, ◌++◌, IfOk, OnOk, map};
 ghost use Rattle.birchagain_queries.specs.QueryWords.{full_words, weighing_words};

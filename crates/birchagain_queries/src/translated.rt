@@ -1,4 +1,8 @@
 //! The query of scripts that a typed one says.
+//!
+//! Why it is so:
+//! - A typed query becomes one of scripts, so what is proved of these holds of it.
+//! - A query that names a field is refused: as a word it would find something else.
 
 ghost use Rattle.std.specs.Prelude.{◌≡◌, IfOk, string_bytes};
 ghost use Rattle.birchagain_queries.specs.Translation.{beginning_query, leaf_query, occur_of, said_query, words_query};

@@ -1,4 +1,4 @@
-//! Memory that is refused. `tests/refuse_memory.c`, where it is preloaded, hears a request of an
+//! Memory that is refused. `tests/native/refuse_memory.c`, where it is preloaded, hears a request of an
 //! impossible size; without it such a request just fails, and nothing is refused.
 
 use std::alloc::Global;

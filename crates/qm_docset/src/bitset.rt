@@ -1,4 +1,6 @@
 //! A set of numbers below a bound, in words.
+//!
+//! The number of members is kept, so that `len` costs nothing. For that, adding one looks whether it is there.
 
 ghost use Rattle.std.specs.Prelude.{◌≡◌, ℕ, ◌+◌, ◌*◌, ◌/◌, ◌<◌, ◌≤◌, ◌==◌, ◌||◌, ◌&&◌, nat_lt, not, false, length, slice_get, option_map, vec_len, IfOk, IsTrue};
 ghost use Rattle.qm_docset.specs.Members.{members_between};

@@ -1,4 +1,6 @@
 //! A cursor over the members of a bit set.
+//!
+//! The cursor keeps a copy of what is left of its word, so that a step changes that, and never the set.
 
 ghost use Rattle.std.specs.Prelude.{◌≡◌, ℕ, ◌+◌, ◌*◌, ◌/◌, ◌%◌, ◌≤◌, ◌&&◌, nat_lt, nat_le, map, drop, slice_get};
 ghost use Rattle.qm_docset.specs.BitSet.{set_has, set_max_value, set_members, set_members_from, members_left};

@@ -1,4 +1,11 @@
 //! The contract of a cursor over documents.
+//!
+//! Why it is so:
+//! - Scores, frequencies and positions stand in one list of entries, which the trait of the plain cursor owns. So no
+//!   trait above says again what a move does.
+//! - What a type keeps is a relation of two cursors (`keeps`), so it composes over calls without a law.
+//! - `fill_buffer_below` hands on a buffer below a bound, so that a union fills its window without a step for each
+//!   document.
 
 ghost use Rattle.std.specs.Prelude.{◌≡◌, ◌≤◌, List, [], length, take, drop, min};
 ghost use Rattle.qm_docset.specs.AliveBitSet.{alive_entries};

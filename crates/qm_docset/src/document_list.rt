@@ -1,4 +1,6 @@
 //! Lists of documents that a cursor can be made of.
+//!
+//! A cursor that can't know whether its documents are in order asks its caller; `are_documents` is the test.
 
 ghost use Rattle.std.specs.Prelude.{◌↔◌, IsTrue};
 ghost use Rattle.qm_docset.specs.Documents.{AreDocuments};

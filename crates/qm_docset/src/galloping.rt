@@ -1,4 +1,7 @@
 //! Search in an ascending list, from a place near the answer.
+//!
+//! Four single steps come first, then blocks of eight that are counted without a branch, then doubling and halving:
+//! most seeks are near.
 
 ghost use Rattle.std.specs.Prelude.{ℕ, ◌<◌, ◌≤◌, length, slice_index};
 ghost use Rattle.std.specs.List.Sorted.{IsStrictlyIncreasing};

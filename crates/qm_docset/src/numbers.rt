@@ -1,4 +1,7 @@
 //! Numbers of documents, and their scores.
+//!
+//! Scores stand beside the numbers, in the lowest crate: statistics of postings, combiners and weights all speak of
+//! them.
 
 /// A document's number within its segment, from 0 up.
 pub type DocId = u32;

@@ -1,4 +1,7 @@
 //! A cursor over a list of documents.
+//!
+//! What a place of an ascending list has left is proved once, for this cursor and for those over postings
+//! (`proofs/PlacesLeft.antt`).
 
 ghost use Rattle.std.specs.Prelude.{◌≡◌, ◌≤◌, [], length, map, min, take, drop, vec_len};
 ghost use Rattle.qm_docset.specs.AliveBitSet.{alive_entries};

@@ -1,4 +1,6 @@
 //! Where documents stand that are numbered over several segments.
+//!
+//! The number behind the last document of each segment is kept, so that a document's segment is found by halving.
 
 ghost use Rattle.std.specs.Prelude.{◌≡◌, ◌<◌, ◌≤◌, ◌+◌, ◌*◌, IfOk, IfSome, length, map};
 ghost use Rattle.std.specs.Option.{IsNone};

@@ -1,4 +1,7 @@
 //! A document of an open segment, and what is built of such documents.
+//!
+//! Whether a document is deleted stands beside its texts, and in its part where there is one. So a deletion outlives
+//! every part.
 
 ghost use Rattle.std.specs.Prelude.{[], ◌≡◌, ◌<◌, ◌⊎◌, IfErr, IfOk, ◌≤◌, IsOkUnless, OnErr, OnOk, length};
 ghost use Rattle.qm_docset.specs.declared.numbers.TheConstants.{TERMINATED};

@@ -1,4 +1,6 @@
 //! How many starts a phrase has in a document.
+//!
+//! What lies further than the slop before the greatest of the first places is passed at once: no start is there.
 
 ghost use Rattle.std.specs.Prelude.{◌≡◌, ◌<◌, All, length, map, min};
 ghost use Rattle.qm_phrase.specs.Places.{Ascends, HavePassed, greatest_first, least_first, past};

@@ -1,4 +1,6 @@
 //! The documents in which the terms of a phrase stand together.
+//!
+//! It has a row of postings and one of buffers, and no intersection, which says nothing of positions.
 
 ghost use Rattle.std.specs.Prelude.{◌≡◌, ◌<◌, ◌≤◌, All, IfOk, IsOkUnless, true, length, map, min, vec_len};
 ghost use Rattle.qm_docset.specs.Cursor.{IsSeekAnswer, OnFound};

@@ -1,4 +1,6 @@
 //! The making of a segment.
+//!
+//! A document is checked, and room is made for it, before anything changes. So a refused one leaves nothing behind.
 
 ghost use Rattle.std.specs.Prelude.{◌≡◌, ◌≤◌, ◌<◌, ◌↔◌, ◌⊎◌, [], length, IfOk, OnOk, OnErr, IsErrOf, IsOkUnless};
 ghost use Rattle.std.specs.List.Sorted.{IsStrictlySortedBy};

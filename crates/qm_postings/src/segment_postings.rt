@@ -1,4 +1,6 @@
 //! A cursor over the postings of a term.
+//!
+//! A cursor knows its block. So a seek within it gallops, and no posting of a block that is passed over is touched.
 
 ghost use Rattle.std.specs.Prelude.{ℕ, ◌≡◌, ◌+◌, ◌*◌, ◌/◌, ◌≤◌, ◌<◌, ◌++◌, IfSome, List, [], drop, length, map, min, take};
 ghost use Rattle.std.specs.Prelude.{All, slice_index, slice_index_or, vec_capacity, vec_len};

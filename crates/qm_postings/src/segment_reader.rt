@@ -1,4 +1,6 @@
 //! A segment, to be read.
+//!
+//! Deletions are one set beside the rows, of which no proof about postings knows.
 
 ghost use Rattle.std.specs.Prelude.{◌≡◌, ◌<◌, ◌≤◌, ℕ, [], None, false, IsTrue, IsOkUnless, IsSome, IfOk, IfSome, OnErr, OnOk, ◌↔◌, length, map};
 ghost use Rattle.std.specs.List.{range_with_len};

@@ -1,4 +1,6 @@
 //! A cursor over the documents of a term.
+//!
+//! Such a cursor has three words of memory, where one with frequencies has twenty: a query may have 10,000 of them.
 
 ghost use Rattle.std.specs.Prelude.{◌≡◌, ◌≤◌, [], drop, length, map, min, take};
 ghost use Rattle.qm_docset.specs.AliveBitSet.{alive_entries};

@@ -1,4 +1,6 @@
 //! Where the terms of a segment may stand, by their texts.
+//!
+//! A guess says where a term stands before it is halved for. A wrong one costs a look, and is never an answer.
 
 ghost use Rattle.std.specs.Prelude.{IsOkUnless};
 

@@ -1,4 +1,6 @@
 //! Weights in memory of their own.
+//!
+//! A weight is made where it is kept, since each `Result` on its way would copy it.
 
 ghost use Rattle.std.specs.Prelude.{◌≡◌, IfOk, IsOkUnless};
 ghost use Rattle.qm_query.specs.SharedTerms.{shared_tree};

@@ -1,4 +1,6 @@
 //! What the terms of a leaf weigh, by what a weight is built under.
+//!
+//! The weight of a term is made where it is kept: each `Result` on its way would copy it, a kilobyte.
 
 ghost use Rattle.std.specs.Prelude.{◌≡◌, ◌⊎◌, ◌≤ℤ◌, IfErr, IfOk, nat_abs, pos};
 ghost use Rattle.std.specs.List.Sorted.{IsNonDecreasing};

@@ -1,4 +1,7 @@
 //! What every query can do.
+//!
+//! `count` and `explain` have bodies over the query's own weight, so that a query of one's own owes the other two
+//! alone.
 
 ghost use Rattle.std.specs.Prelude.{◌≡◌, IfErr, IfOk, IsOkUnless, IsTrue};
 ghost use Rattle.qm_term.specs.Explained.{value_of};

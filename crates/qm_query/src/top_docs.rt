@@ -1,4 +1,6 @@
 //! The best documents of all segments of a searcher.
+//!
+//! One heap and one threshold serve all segments. A deleted document is looked for only where the run calls.
 
 ghost use Rattle.std.specs.Prelude.{◌≡◌, ◌<◌, ◌≤◌, IfErr, IfOk, IsTrue, length};
 ghost use Rattle.qm_docset.specs.declared.numbers.TheConstants.{TERMINATED};

@@ -1,4 +1,6 @@
 //! The fields that the documents of a segment may have.
+//!
+//! Two fields may have one name. `get_field` answers the first, by a walk, since it is asked once a query.
 
 ghost use Rattle.std.specs.Prelude.{◌≡◌, ◌<◌, ◌≤◌, [], length, slice_get, IfSome, IfOk, IsOkUnless};
 ghost use Rattle.std.specs.Option.{option_copied};

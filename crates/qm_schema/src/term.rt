@@ -1,4 +1,6 @@
 //! A term: a text of a field.
+//!
+//! `Term` has no `Clone`, whose `clone` has no place for an allocator. Its own takes one.
 
 ghost use Rattle.std.specs.Prelude.{◌≡◌, IfOk, IsOkUnless};
 

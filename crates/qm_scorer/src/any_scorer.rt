@@ -1,4 +1,6 @@
 //! The tree of scorers.
+//!
+//! Each node over several members has a form of its own. One form for all would look at every member for each document.
 
 ghost use Rattle.std.specs.Prelude.{◌≡◌, ◌≤◌, ◌<◌, pos};
 ghost use Rattle.qm_docset.specs.Cursor.{IsSeekAnswer, OnFound};

@@ -1,4 +1,6 @@
 //! A node over several scorers, of which a minimum has each document.
+//!
+//! Members' documents stand in a row with the least of each 32, and not in a heap, so no proof goes by permutations.
 
 ghost use Rattle.std.specs.Prelude.{◌≡◌, ◌<◌, ◌≤◌, ◌↔◌, length, map, true};
 ghost use Rattle.qm_docset.specs.Cursor.{IsSeekAnswer};

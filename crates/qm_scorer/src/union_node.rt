@@ -1,4 +1,7 @@
 //! A node over several scorers, any of which has each document, with a window that is filled from them.
+//!
+//! The window is that of qm_combine, with its lemmas. It takes in scores as members move, so moves and scores of a tree
+//! are one cycle of calls.
 
 ghost use Rattle.std.specs.Prelude.{◌≡◌, ◌<◌, ◌≤◌, ℕ, map, true};
 ghost use Rattle.qm_docset.specs.Cursor.{IsSeekAnswer};

@@ -1,4 +1,7 @@
 //! The terms that a query asks for in some segments.
+//!
+//! The first terms of all segments together are among these. The others do no harm, since a prefix is expanded anew
+//! over what is made of them.
 
 ghost use Rattle.std.specs.Prelude.{◌≡◌, ◌++◌, All, IfOk, IsOkUnless, OnOk, map, true};
 ghost use Rattle.std.specs.List.Sorted.{IsStrictlySortedBy};

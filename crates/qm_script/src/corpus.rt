@@ -1,4 +1,7 @@
 //! The documents of a script, and the weights of its words.
+//!
+//! The index searches the open segment in parts. What a query lists over these is proved to be what it lists over the
+//! one segment.
 
 ghost use Rattle.std.specs.Prelude.{◌≡◌, ◌↔◌, ◌+◌, ◌≤◌, ◌*◌, ◌⊎◌, IfErr, IfOk, IsErrOf, IsOkUnless, OnErr, OnOk, drop, length, map, nat_abs, string_bytes};
 ghost use Rattle.std.specs.FinMap.{empty, insert};

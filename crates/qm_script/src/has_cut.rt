@@ -1,4 +1,7 @@
 //! Whether a query asks for the terms of a segment that begin with a prefix, and gets fewer than there are.
+//!
+//! A term that several segments have counts in each. So segments may be narrowed where that was not needed; what is
+//! listed is the same.
 
 ghost use Rattle.std.specs.Prelude.{◌≡◌, ◌≤◌, SomeIff, length, not};
 ghost use Rattle.qm_index.specs.Parts.{segments_of};

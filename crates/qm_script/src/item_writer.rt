@@ -1,4 +1,6 @@
 //! A text to which documents are added, one after another.
+//!
+//! The text stands in one formatter for a whole listing, since `write!` would move it for each number.
 
 ghost use Rattle.std.specs.Prelude.{◌≡◌, ℕ, ℤ, ◌∷◌, [], IsOkUnless, List, None, Option, Some, length, string_bytes};
 ghost use Rattle.qm_script.specs.Text.{IsListing};

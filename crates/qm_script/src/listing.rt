@@ -1,4 +1,6 @@
 //! The documents that a query matches in all segments, written one after another.
+//!
+//! The text of a listing counts as the query's, so that one too large for memory costs its own line alone.
 
 ghost use Rattle.std.specs.Prelude.{◌≡◌, ◌≤◌, ◌*◌, ◌+◌, ◌∷◌, [], None, Some, IfErr, IsOkUnless, IsTrue, OnOk, false, length, map, string_bytes, true};
 ghost use Rattle.qm_docset.specs.declared.numbers.TheConstants.{TERMINATED};

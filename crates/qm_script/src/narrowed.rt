@@ -1,4 +1,9 @@
 //! What is searched for a query whose prefixes are cut: segments of the terms alone that it asks for.
+//!
+//! Why it is so:
+//! - A prefix that is cut stands for the first terms of the whole open segment, which none of its parts knows alone.
+//! - The ended segments are narrowed too, though they need it not: a search takes a searcher that owns all its
+//!   segments.
 
 ghost use Rattle.std.specs.Prelude.{◌≡◌, ◌<◌, IfOk, length, map};
 ghost use Rattle.std.specs.List.Sorted.{IsStrictlySortedBy};

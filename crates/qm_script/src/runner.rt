@@ -1,4 +1,6 @@
 //! Running a script.
+//!
+//! Answers are written before more input is asked for. Behind the end of the input it is asked for nothing.
 
 ghost use Rattle.std.specs.Prelude.{◌≤◌, IfOk, IfSome, OnOk, string_bytes};
 ghost use Rattle.std.specs.Io.Buffered.{writer_contents};

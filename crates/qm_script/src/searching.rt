@@ -1,4 +1,7 @@
 //! What a query finds in an index, for whoever keeps one without a script.
+//!
+//! The open segment is built whole where a prefix begins too many terms, and not narrowed as in a script: an index that
+//! somebody keeps may have any fields.
 
 ghost use Rattle.std.specs.Prelude.{◌≡◌, ◌⊎◌, ◌<◌, ◌≤◌, ◌*◌, All, IfOk, OnOk, Some, length, map, false};
 ghost use Rattle.qm_docset.specs.declared.numbers.TheConstants.{TERMINATED};

@@ -1,4 +1,7 @@
 //! A query as a line of a script spells it.
+//!
+//! A line is read into this tree before a query is built. Want of memory for the tree ends the run; for the query it
+//! refuses the line.
 
 use crate::non_negative_score::NonNegativeScore;
 use qm_schema::Occur;

@@ -1,5 +1,7 @@
 //! Runs a script of documents and queries from standard input, and writes the answers to standard
 //! output.
+//!
+//! All else is a library, qm_script, since no other crate can call into a program.
 #![tactic(auto)]
 
 use qm_script::run_buffered;

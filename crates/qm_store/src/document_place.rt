@@ -1,4 +1,6 @@
 //! Where a document stands.
+//!
+//! A place has sixteen bytes, so where it stands follows from the document's number.
 
 /// Where a document stands among the files that it was read from.
 #[derive(Clone, Copy, Debug, PartialEq, Eq)]

@@ -1,4 +1,8 @@
 //! Where the documents of a segment stand, of which is read what is asked for.
+//!
+//! Why it is so:
+//! - The digest of a piece stands behind it, so an open reads forty bytes however many documents there are.
+//! - A file is as long as its number of documents says, so one that was cut is refused as it is opened.
 
 ghost use Rattle.std.specs.Prelude.{◌≡◌, ◌≤◌, ◌+◌, ◌*◌, ◌<◌, List, ℕ, Some, IfOk, IfSome, length, option_and_then};
 ghost use Rattle.qm_store.specs.Pieces.{Gives, GivesSome};

@@ -1,4 +1,6 @@
 //! The scorer over the postings of a term.
+//!
+//! The norms stand in the scorer, a kilobyte. So it is moved seldom, and is no `Copy`, which would copy it unseen.
 
 ghost use Rattle.std.specs.Prelude.{◌≡◌, ◌<◌, ◌≤◌, ◌↔◌, [], drop, length, map, min, pos, take, slice_get, slice_index_or};
 ghost use Rattle.std.specs.Prelude.{IfOk, IfSome, IsOkUnless, IsSome, Some};

@@ -1,4 +1,9 @@
 //! Pruned runs over a scorer of their own, which pass over what they can.
+//!
+//! Why it is so:
+//! - A run goes down through boosts and lone clauses. Past 16 terms it is the plain loop, which is the quicker one
+//!   there.
+//! - The plain loop ends where no score can pass the threshold; a constant gains no more by another way.
 
 ghost use Rattle.std.specs.Prelude.{◌≡◌, IfErr, IfOk, OnErr};
 ghost use Rattle.qm_docset.specs.Lists.{IsPlaced};

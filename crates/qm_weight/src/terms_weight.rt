@@ -1,4 +1,7 @@
 //! A weight of clauses that are terms, which share the norms of the length ids.
+//!
+//! It stands for the tree of the Boolean, so no definition knows of it. The norms, a kilobyte, are there once and not
+//! for each term.
 
 ghost use Rattle.std.specs.Prelude.{◌≡◌, ◌≤◌, length};
 ghost use Rattle.std.specs.List.Sorted.{IsNonDecreasing};

@@ -1,4 +1,6 @@
 //! The documents that enough of several scorers have, over a window.
+//!
+//! A count beside each state says how many members had the document, so a posting costs one step.
 
 ghost use Rattle.std.specs.Prelude.{◌≡◌, ℕ, ◌<◌, ◌≤◌, ⊤, All, List, IfErr, IfOk, IfSome, min, true};
 ghost use Rattle.std.specs.Option.{IsNone};

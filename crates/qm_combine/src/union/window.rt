@@ -1,4 +1,10 @@
 //! A window of documents, each with what a combiner makes of the scores that were added to it.
+//!
+//! Why it is so:
+//! - Members hand their documents and scores over once, into the window. A state counts only where its document's bit
+//!   is set.
+//! - The first window has 64 documents, and a further one up to 4096, so that rare cursors that seek pay for little.
+//! - A state is made when its place is first reached: to make all 4096 costs more than a query over two rare words.
 
 ghost use Rattle.std.specs.Prelude.{◌≡◌, ℕ, ◌+◌, ◌-◌, ◌*◌, ◌<◌, ◌≤◌, ◌≢◌, ◌==◌, ◌||◌, ◌++◌, All};
 ghost use Rattle.std.specs.Prelude.{length, map, min, not, slice_index_or, take, vec_capacity, vec_len};

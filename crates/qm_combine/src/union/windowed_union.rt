@@ -1,4 +1,6 @@
 //! What every union over a window does in the same way.
+//!
+//! So steps, buffers and counts of every such union are proved once.
 
 ghost use Rattle.std.specs.Prelude.{◌≡◌, ◌<◌, ◌≤◌, List, [], drop, length, min, take, true};
 ghost use Rattle.qm_docset.specs.Entry.{documents, from, head_document};

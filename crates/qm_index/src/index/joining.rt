@@ -1,4 +1,10 @@
 //! Ended segments of an index, joined by their rows, or without what is deleted of them.
+//!
+//! Why it is so:
+//! - Neighbours alone are joined, with their deleted documents, so that all documents keep their numbers.
+//! - Segments are joined by hand, since joining costs all that they hold: a caller knows when there is time for it.
+//! - `join_small_segments` stops where two can't be joined, and is not refused: it is called behind each end of a
+//!   segment.
 
 ghost use Rattle.std.specs.Prelude.{◌≡◌, ◌≢◌, ◌≤◌, ◌<◌, ◌↔◌, ◌*◌, ◌-◌, IfErr, IfOk, IsErrOf, IsOkUnless, OnErr, OnOk, length, true};
 ghost use Rattle.qm_folder.specs.Disk.{Contents};

@@ -1,4 +1,6 @@
 //! An index that is saved in a folder.
+//!
+//! A file's number is that of the moment, or past all that were given. A save that writes nothing uses none up.
 
 ghost use Rattle.std.specs.Prelude.{◌≡◌, ◌≤◌, All, IfOk, OnOk, vec_len};
 ghost use Rattle.qm_folder.specs.Disk.{IsSettled, LeavesOnly};

@@ -1,4 +1,6 @@
 //! The numbers of short terms that were asked for before, found without a search.
+//!
+//! Terms of at most eight bytes stand in slots beside the map of all terms, so that one look finds most numbers.
 
 ghost use Rattle.std.specs.Prelude.{List, IsTrue, IfSome, IsOkUnless};
 ghost use Rattle.qm_schema.specs.Term.{TermKey};

@@ -1,4 +1,7 @@
 //! The best documents so far.
+//!
+//! What is kept is known by its order alone, so no lemma speaks of how a heap is laid out. A refused request for memory
+//! leaves a mark, since a callback can't be refused.
 
 ghost use Rattle.std.specs.Prelude.{◌≡◌, ◌≤◌};
 ghost use Rattle.std.specs.BinaryHeap.{IsHeap, heap_items, heap_len};

@@ -1,4 +1,6 @@
 //! The bytes of a term's text.
+//!
+//! Fourteen bytes of a text stand in the term itself, so most words take no memory of their own.
 
 ghost use Rattle.std.specs.Prelude.{◌≡◌, ◌≤◌, IfOk, IsOkUnless, length};
 ghost use Rattle.qm_schema.specs.TermBytes.{IsWithin, bytes_of};

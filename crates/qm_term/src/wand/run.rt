@@ -1,4 +1,7 @@
 //! The run over several terms, turn by turn.
+//!
+//! A run scores its pivot where the scorers stand, and each turn goes one way: shorter ways cost more where most turns
+//! skip.
 
 ghost use Rattle.std.specs.Prelude.{◌≡◌, ◌+◌, ◌<◌, ◌≤◌, ◌^◌, ◌↔◌, cond, true, false};
 ghost use Rattle.std.specs.Prelude.{All, IfErr, IfOk, IsErrOf, OnErr, drop, length, map, pos, sum_by, take};

@@ -1,4 +1,6 @@
 //! How the clauses of a Boolean are put together.
+//!
+//! That is told by a rule, and not by a weight, so it is proved once for all weights of clauses.
 
 use qm_scorer::AnyCombiner;
 

@@ -1,5 +1,7 @@
 //! Terms that should match: where one of them is enough a union of the terms' own cursors, and else what enough of these
 //! have, with no tree of scorers between them. Tantivy has the union so too.
+//!
+//! A run goes through all that the cursors have, so nothing is lost by a window.
 
 ghost use Rattle.std.specs.Prelude.{◌≡◌, ◌≤◌, ◌↔◌, IfErr, IfOk, IsTrue, true};
 ghost use Rattle.qm_docset.specs.Entry.{greatest_score};
