@@ -51,6 +51,7 @@ enum {
     BIRCHAGAIN_NO_MEMORY = 13,
     BIRCHAGAIN_TOO_MANY_DOCUMENTS = 14, /* the open segment has 2147483647 */
     BIRCHAGAIN_BAD_DOCUMENT = 15,       /* it has more than 4294967295 words */
+    BIRCHAGAIN_BAD_NORMS = 17,          /* a norm is less than the one before it */
     BIRCHAGAIN_TOO_MANY_SEGMENTS = 18,  /* there are 4294967295 */
     BIRCHAGAIN_EMPTY = 64,              /* the index was never opened, or was freed */
     BIRCHAGAIN_NOT_UNDERSTOOD = 65,     /* a query does not fit its language, or is not UTF-8 */
@@ -128,6 +129,12 @@ uint32_t birchagain_documents(birchagain_index *index, uint64_t *out);
 /* A word weighs so much from now on, from 0 up; one that was given no weight weighs 1000.
  * BIRCHAGAIN_NEGATIVE_WEIGHT, BIRCHAGAIN_NOT_TEXT. */
 uint32_t birchagain_weigh(birchagain_index *index, const uint8_t *word, size_t word_length, int64_t weight);
+
+/* From now on a document counts as so many words as the norm of its length says, from 0 up: one of n words as norms[n], and
+ * one of 255 or more as norms[255]. At first that is n. With floor(1 + 1.5 n / mean) lengths count by their mean, as BM25
+ * has them.
+ * BIRCHAGAIN_UNEVEN_ROWS where these are not 256, BIRCHAGAIN_BAD_NORMS. */
+uint32_t birchagain_set_norms(birchagain_index *index, const uint32_t *norms, size_t norms_length);
 
 /* Fills `out` with how many documents hold each word, deleted ones too. The words stand in `bytes` as
  * `birchagain_add_words` takes them, and `out` has as many numbers. Builds what was added.

@@ -10,6 +10,7 @@ static int checks = 0, failed = 0;
 #define SCRIPT(s) BIRCHAGAIN_SCRIPT, BYTES(s)
 
 static const size_t one[] = {1}, two[] = {1, 2};
+static uint32_t norms[257];
 
 /* How many documents hold this word; 99 where that is refused. */
 static uint64_t held(birchagain_index *index, const char *word) {
@@ -38,6 +39,7 @@ static void empty(void) {
     CHECK(birchagain_refresh(&index) == BIRCHAGAIN_EMPTY);
     CHECK(birchagain_documents(&index, &out) == BIRCHAGAIN_EMPTY && out == 7);
     CHECK(birchagain_weigh(&index, BYTES("a"), 5) == BIRCHAGAIN_EMPTY);
+    CHECK(birchagain_set_norms(&index, norms, 256) == BIRCHAGAIN_EMPTY);
     CHECK(birchagain_frequencies(&index, BYTES("a"), one, 1, &out, 1) == BIRCHAGAIN_EMPTY && out == 7);
     CHECK(birchagain_count(&index, SCRIPT("all"), &out) == BIRCHAGAIN_EMPTY && out == 7);
     CHECK(birchagain_top(&index, SCRIPT("all"), &hit, 1, &filled) == BIRCHAGAIN_EMPTY && filled == 9
@@ -90,6 +92,25 @@ static void refused(void) {
     CHECK(birchagain_frequencies(&index, BYTES("ab"), two, 2, out, 1) == BIRCHAGAIN_UNEVEN_ROWS && out[0] == 7);
     CHECK(birchagain_frequencies(&index, BYTES("a "), two, 2, out, 2) == BIRCHAGAIN_NOT_WORDS && out[0] == 7 && out[1] == 7);
     CHECK(documents(&index) == 1 && held(&index, "a") == 1);
+    birchagain_free(&index);
+}
+
+/* What documents of a length count as. */
+static void lengths(void) {
+    birchagain_index index = {0};
+    birchagain_hit best[2] = {{7, 7}, {7, 7}};
+    size_t filled = 9;
+    for (int id = 0; id < 257; id++) norms[id] = 3;
+    norms[2] = 9;
+    CHECK(birchagain_open(&index) == BIRCHAGAIN_DONE && birchagain_add_text(&index, BYTES("a")) == BIRCHAGAIN_DONE
+          && birchagain_add_text(&index, BYTES("a b")) == BIRCHAGAIN_DONE);
+    CHECK(birchagain_set_norms(&index, norms, 256) == BIRCHAGAIN_BAD_NORMS);
+    CHECK(birchagain_top(&index, TYPED("a"), best, 2, &filled) == BIRCHAGAIN_DONE && best[0].score == 500 && best[1].score == 333);
+    for (int id = 3; id < 257; id++) norms[id] = 9;
+    CHECK(birchagain_set_norms(&index, norms, 255) == BIRCHAGAIN_UNEVEN_ROWS
+          && birchagain_set_norms(&index, norms, 257) == BIRCHAGAIN_UNEVEN_ROWS);
+    CHECK(birchagain_set_norms(&index, norms, 256) == BIRCHAGAIN_DONE);
+    CHECK(birchagain_top(&index, TYPED("a"), best, 2, &filled) == BIRCHAGAIN_DONE && best[0].score == 250 && best[1].score == 100);
     birchagain_free(&index);
 }
 
@@ -265,6 +286,7 @@ int main(void) {
     empty();
     added();
     refused();
+    lengths();
     found();
     found_typed();
     paged();

@@ -9,7 +9,7 @@
 """
 
 from .errors import BirchagainError, ClosedError, FormatError, MergeError, NoDocumentError, QueryError, WordError
-from .index import Index, rarity
+from .index import Index, norms_by_mean, rarity
 from .merging import merged
 from .queries import Hit, Language, query_words
 
@@ -25,6 +25,7 @@ __all__ = [
     "QueryError",
     "WordError",
     "merged",
+    "norms_by_mean",
     "query_words",
     "rarity",
 ]

@@ -5,7 +5,7 @@ from __future__ import annotations
 import ctypes
 import threading
 from itertools import accumulate
-from typing import Iterable, List, Mapping, Tuple, Union
+from typing import Iterable, List, Mapping, Sequence, Tuple, Union
 
 from . import _library
 from .errors import NO_DOCUMENT, NoDocumentError, raise_for
@@ -13,6 +13,8 @@ from .queries import Queries
 from .stored import StoredIndex
 
 _NUMBERS, _SCORES = 1 << 64, 1 << 63
+# lengths of documents that have a norm of their own, and what a norm is below
+_LENGTHS, _NORMS = 256, 1 << 32
 
 
 def _laid_out(words: Iterable[str]) -> Tuple[bytes, ctypes.Array, int]:
@@ -117,6 +119,18 @@ class Index(Queries, StoredIndex):
             data = word.encode()
             self._call(_library.weigh, data, len(data), weight)
 
+    def set_norms(self, norms: Sequence[int]) -> None:
+        """From now on a document of n words counts as one of `norms[n]`, and one of 255 and more as `norms[255]`. At first
+        that is n. `norms_by_mean` makes norms by which lengths count by their mean.
+
+        Raises `WordError` unless there are 256, none less than the one before it, and `OverflowError` for one that is not
+        from 0 to 4294967295.
+        """
+        if not all(0 <= norm < _NORMS for norm in norms):
+            raise OverflowError("a norm is not within 32 bits")
+        given = (ctypes.c_uint32 * max(len(norms), 1))(*norms)
+        self._call(_library.set_norms, given, len(norms))
+
     def frequencies(self, words: Iterable[str]) -> List[int]:
         """How many documents hold each of these words, deleted ones too.
 
@@ -132,6 +146,17 @@ class Index(Queries, StoredIndex):
         words = [*words]
         documents = len(self)
         self.weigh({word: rarity(documents, held) for word, held in zip(words, self.frequencies(words))})
+
+
+def norms_by_mean(mean: float) -> List[int]:
+    """Norms by which a document's length counts by its quotient to the mean, in words, as BM25 with k1 = 2 and b = 0.75 has
+    it: `0.5 + 1.5 n / mean` for n words, rounded to a whole number.
+
+    Raises `ValueError` for a mean that is not above 0.
+    """
+    if not mean > 0:
+        raise ValueError(f"the mean {mean!r} is not above 0")
+    return [int(min(1 + 1.5 * length / mean, _NORMS - 1)) for length in range(_LENGTHS)]
 
 
 def rarity(documents: int, held: int) -> int:

@@ -3,7 +3,7 @@
 import gc
 
 import pytest
-from birchagain import BirchagainError, ClosedError, Index, NoDocumentError, WordError, rarity
+from birchagain import BirchagainError, ClosedError, Index, NoDocumentError, WordError, norms_by_mean, rarity
 
 
 def test_documents_of_several_segments():
@@ -76,6 +76,35 @@ def test_long_words_and_byte_0():
     with Index(["a\0b c", long_word, ["a\0b", long_word]]) as index:
         assert index.frequencies(["a\0b", long_word, "a", "\0"]) == [2, 2, 0, 0]
         index.weigh({long_word: 5, "a\0b": 5})
+
+
+def test_lengths_count_by_norms():
+    with Index(["a", "a b", " ".join(["a"] + ["b"] * 299)]) as index:
+        index.weigh({"a": 1000})
+        assert [it.score for it in index.top("a")] == [500, 333, 3]
+        index.set_norms([3] * 255 + [9])
+        assert [it.score for it in index.top("a")] == [250, 250, 100]
+        for norms in ([], [0] * 255, [0] * 257, [1] * 255 + [0], [0, 1, 0] + [9] * 253):
+            with pytest.raises(WordError) as caught:
+                index.set_norms(norms)
+            assert caught.value.status == (17 if len(norms) == 256 else 70)
+        for norm in (-1, 1 << 32):
+            with pytest.raises(OverflowError):
+                index.set_norms([norm] * 256)
+        assert [it.score for it in index.top("a")] == [250, 250, 100]
+        index.set_norms([(1 << 32) - 1] * 256)
+        assert [it.score for it in index.top("a")] == [0, 0, 0]
+        # a document of the mean length counts as 2
+        index.set_norms(norms_by_mean(2.0))
+        assert [it.score for it in index.top("a")] == [500, 333, 5]
+
+
+def test_norms_by_mean():
+    assert norms_by_mean(1.5)[:4] == [1, 2, 3, 4] and len(norms_by_mean(7)) == 256
+    assert norms_by_mean(1e-300)[1:] == [(1 << 32) - 1] * 255
+    for mean in (0, -1.0, float("nan")):
+        with pytest.raises(ValueError):
+            norms_by_mean(mean)
 
 
 def test_rarity():

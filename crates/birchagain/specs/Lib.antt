@@ -5,5 +5,6 @@ pub mod CutWords
 pub mod Adding
 pub mod Weighing
 pub mod Holding
+pub mod Lengths
 pub mod Refusals
 pub mod Changes

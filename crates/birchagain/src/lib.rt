@@ -9,6 +9,7 @@ mod body;
 mod cut_words;
 mod documents;
 mod holders;
+mod lengths;
 mod refusal;
 mod segments;
 mod start;
@@ -16,6 +17,7 @@ mod weights;
 
 pub use documents::{add_text, add_words, delete};
 pub use holders::frequencies;
+pub use lengths::set_norms;
 pub use refusal::{Refusal, status_text};
 pub use segments::{end_segment, refresh};
 pub use start::new_index;

@@ -86,6 +86,7 @@ pub fn status_text(status: u32) -> &'static str {
         13 => "out of memory",
         14 => "the segment holds 2147483647 documents already",
         15 => "the document has too many words, or the index has not its field",
+        17 => "a norm is less than the one before it",
         18 => "an index takes at most 4294967295 segments",
         64 => "the index is not open",
         65 => "the query is not understood",

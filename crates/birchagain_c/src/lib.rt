@@ -9,6 +9,7 @@
 
 mod bytes;
 mod documents;
+mod lengths;
 mod lifetime;
 mod merging;
 mod pages;
@@ -23,6 +24,7 @@ pub use documents::{
     birchagain_add_text, birchagain_add_words, birchagain_delete, birchagain_documents,
     birchagain_end_segment, birchagain_refresh,
 };
+pub use lengths::birchagain_set_norms;
 pub use lifetime::{birchagain_free, birchagain_open};
 pub use merging::birchagain_merge;
 pub use pages::birchagain_page;

@@ -64,7 +64,7 @@ alive_listed_from-append tree first (s ∷ ss) ts =
 
 -- ---- the best of both
 
-unlisted : ℕ × Option ℤ → ℕ × ℤ
+abbrev unlisted : ℕ × Option ℤ → ℕ × ℤ
 unlisted i = (i.0, unwrap_or i.1 (pos 0))
 
 items-listed : (hits : List Hit) (found : List (ℕ × ℤ)) → map scored_item found ≡ listed hits → items hits ≡ found
