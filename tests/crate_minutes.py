@@ -13,14 +13,17 @@ CRATE = re.compile(rb"\0--crate-name\0(\w+)\0")
 # what `rt ci` says of a crate that it has proved, or that an earlier run on this machine had
 PROVED = re.compile(r"rt: (\w+) (proved|is kept: .*)")
 TICKS = os.sysconf("SC_CLK_TCK")
+# the priority of what others do not wait for: below that of proofs, above that of wrong bodies
+LOW = 10
 
 
 class CrateMinutes(threading.Thread):
     """Looks at what the processes below some take, until it is stopped."""
 
-    def __init__(self, processes=None):
+    def __init__(self, processes=None, waiting=()):
+        """Those of these crates get what others leave of the processors."""
         super().__init__(daemon=True)
-        self.processes, self.over = processes or running, threading.Event()
+        self.processes, self.over, self.waiting = processes or running, threading.Event(), {*waiting}
         self.roots, self.begun, self.took, self.seconds, self.kept = set(), {}, {}, {}, set()
 
     def run(self):
@@ -33,6 +36,8 @@ class CrateMinutes(threading.Thread):
             self.seconds[number, crate, is_edit] = seconds
             if not is_edit:
                 self.begun.setdefault(crate, now)
+            if crate in self.waiting:
+                lower(number)
 
     def hear(self, line, now):
         """The crate that a line of `rt ci` says is proved, if it is such a line."""
@@ -84,6 +89,15 @@ def running(roots):
             seconds = (int(words[11]) + int(words[12])) / TICKS
             found.append((int(number), crate[1].decode(), seconds, b"/rt-edit" in line))
     return [it for it in found if is_below(it[0], roots, parents)]
+
+
+def lower(number):
+    """Has each thread of a process wait for others."""
+    try:
+        for thread in os.listdir(f"/proc/{number}/task"):
+            os.setpriority(os.PRIO_PROCESS, int(thread), LOW)
+    except OSError:
+        pass  # (it has just ended)
 
 
 def is_below(number, roots, parents):

@@ -6,7 +6,8 @@
 `rt ci` proves all crates from nothing, but for those that an earlier run on this machine proved as they are,
 tries the wrong bodies of must-fail/ and runs the programs. Where the toolchain keeps what it proved, the longest
 chain of crates goes before that, and the crates that do not stand on its longest proofs beside these: else all wait for
-the chain at the end, on one processor. As soon as `rt ci` says of a crate that it is proved or kept,
+the chain at the end, on one processor. Crates on which none stands, but for the largest, get what the others leave, so
+that the chain goes at the pace of a processor. As soon as `rt ci` says of a crate that it is proved or kept,
 tests/wrong_bodies.py tries the others of that crate beside it, at the lowest priority, so that proofs wait for nothing:
 those whose refusal does not stand, and some by chance (refused_before.py). tests/refusal_rows.py
 has rows of what counts as refused. Then tests/refused_calls.py looks whether each public call has its rows under
@@ -84,6 +85,8 @@ PLAYED = {
     "installed runs": ["installed_runs.py"],
 }
 PRINTING = threading.Lock()
+# what a proof takes at most, in bytes
+PROOF = 4_000_000_000
 # the longest chain of crates that stand on each other: its first part ends with one crate, the second, which is the
 # longest, begins with another and ends with the third
 CHAIN = ("qm_phrase", "qm_scorer", "qm_query")
@@ -124,17 +127,18 @@ class Proofs:
     """The proofs, and beside them the wrong bodies of each crate once that is proved."""
 
     def __init__(self, pool):
-        self.pool, self.told, self.tried, self.seconds = pool, CrateMinutes(), [], {}
+        known = kit.crates_of(ROOT)
+        self.pool, self.told, self.tried, self.seconds = pool, CrateMinutes(waiting=last_crates(known)), [], {}
         self.stage, self.wrong_bodies = Stage("proofs and wrong bodies of must-fail"), Stage("wrong bodies")
         self.waiting = {*wrong_bodies.crates_with_edits()}
-        chance = ",".join(sorted(wrong_bodies.plan_of(kit.crates_of(ROOT), []).chance))
+        chance = ",".join(sorted(wrong_bodies.plan_of(known, []).chance))
         self.beside = ["nice", "-n", "19", sys.executable, "tests/wrong_bodies.py", "--built", "--chance", chance]
 
     def run(self):
         self.told.start()
         if kit.keeps_proofs():
             self.run_chain()
-        self.stage.run(["rt", "ci"], self.hear, self.begin)
+        self.stage.run([*how_many(), "rt", "ci"], self.hear, self.begin)
         self.told.over.set()
         self.told.join()
 
@@ -168,6 +172,20 @@ class Proofs:
         start = time.monotonic()
         self.wrong_bodies.run([*self.beside, crate])
         self.seconds[crate] = time.monotonic() - start
+
+
+def last_crates(known):
+    """The crates on which none stands, but for the largest of them."""
+    used = {low.name for it in known.values() for low in it.deps}
+    sizes = {it.name: sum(it.read(path).count("\n") for path in it.files()) for it in known.values() if it.name not in used}
+    return {*sizes} - {max(sizes, key=sizes.get)}
+
+
+def how_many():
+    """The words before `rt ci` by which it uses all processors, where there is memory for a proof on each: it reckons with
+    thrice what one takes, and leaves processors idle beside large crates."""
+    count = len(os.sched_getaffinity(0))
+    return ["env", f"RT_JOBS={count}"] if wrong_bodies.free_memory() >= PROOF * count else []
 
 
 def main():
