@@ -1,7 +1,7 @@
 -- What a query finds in the segments of two indexes together, by what it finds in each.
 use Rattle.std.specs.Prelude.{◌≡◌, ℕ, ℤ, ◌+◌, List, [], ◌∷◌, ◌++◌, None, Ok, Option, Some, length, map, pos, unwrap_or}
 use Rattle.std.specs.List.{flat_map}
-use Rattle.std.proofs.Common.{arith, refl, sym, ap, ◌∙◌}
+use Rattle.std.proofs.Common.{arith, refl, sym, ap, subst, ◌∙◌}
 use Rattle.std.proofs.Math.Nat.{add_assoc}
 use Rattle.std.proofs.lemmas.List.{append_assoc, length-append, map-append, map-id}
 use Rattle.std.proofs.lemmas.List.Sums.{sum_by-append}
@@ -29,8 +29,9 @@ use Rattle.qm_weight.specs.Best.{best}
 use Rattle.qm_weight.specs.Counts as one
 use Rattle.qm_weight.specs.Counts.{alive_matching}
 use Rattle.qm_weight.specs.Tree.{Tree, score}
-use Rattle.birchagain_partitions.specs.BestOfParts.{best-of_parts}
+use Rattle.birchagain_partitions.specs.BestOfParts.{best-of_parts, best-ranked}
 use Rattle.birchagain_partitions.specs.Merging.{items, moved, of_both}
+use Rattle.birchagain_partitions.specs.Ranked.{IsRanked}
 
 -- a hit as a listing has it
 abbrev pub listed : List Hit → List (ℕ × Option ℤ)
@@ -73,6 +74,12 @@ items-listed hits found is =
     ∙ ap (map unlisted) (sym is)
     ∙ map-map unlisted scored_item found
     ∙ map-id found
+
+-- what an index gave has its best first
+pub ranked-in : (q : language.Query) (s : Indexed) (words : Searched) (limit : ℕ) (hits : List Hit) → AreBestIn q s words limit (listed hits) → IsRanked (items hits)
+ranked-in q s words limit hits are =
+    let found = best limit (alive_listed_from (tree_of are.enable are.query) 0 (all_segments s)) in
+    subst IsRanked (sym (items-listed hits found (sym are.best))) (best-ranked limit (alive_listed_from (tree_of are.enable are.query) 0 (all_segments s)))
 
 -- Where each index gave its best, the best of these are the best of the segments of both, those of the second
 -- behind those of the first.
