@@ -24,6 +24,7 @@ use std::alloc::Global;
 
 mod joining;
 mod opening;
+mod parts;
 mod saving;
 
 /// How many segments a searcher takes.
@@ -302,7 +303,11 @@ impl Index {
         self.searcher.set_norms(norms)
     }
 
-    /// Ends the open segment, which is built as one, and opens another. Costs what its documents do.
+    /// Ends the open segment, and opens another. Where one part has all of its documents, as behind a
+    /// [`Index::merge`], that part is the segment that is ended: it costs a step for each document, to let go of what was
+    /// given. Else the documents that came since the last [`Index::refresh`] are built, which costs what they do, and the
+    /// parts are joined by the rows that they keep, as [`Index::join_last_segments`] does it, each document no more often
+    /// than the logarithm of their number.
     ///
     /// Refused with [`QueryError::TooManySegments`] exactly where there are 4294967295 with the open
     /// one, else with [`QueryError::Memory`] alone. Then it stays open. Where it is ended all documents can
@@ -320,10 +325,8 @@ impl Index {
         if self.ended + 1 >= MAX_SEGMENTS {
             return Err(QueryError::TooManySegments);
         }
-        self.take_parts_back();
-        let segment = self.build_waiting(alloc)?;
+        self.make_one_part(alloc)?;
         self.ends.reserve(1)?;
-        self.searcher.push_segment(segment)?;
         self.ended += 1;
         self.ended_documents += self.documents.len() as u64;
         self.ends.push(self.ended_documents).unwrap();
@@ -350,8 +353,8 @@ impl Index {
     }
 
     /// The same, so that the open segment is one part at most, for a query that asks which terms the
-    /// whole of it has. Costs all its documents where it has several parts, or some that are not built; else
-    /// constant time.
+    /// whole of it has. Costs what [`Index::end_segment`] does where it has several parts, or documents that are not
+    /// built; else constant time.
     ///
     /// Refused with [`QueryError::Memory`] alone.
     pub fn merge(&mut self, alloc: Global) -> Result<(), QueryError>
@@ -365,8 +368,7 @@ impl Index {
         if self.built == self.documents.len() && self.part_count() <= 1 {
             return Ok(());
         }
-        self.take_parts_back();
-        self.build_part(alloc)
+        self.make_one_part(alloc)
     }
 
     /// What is searched: the segments that were ended, and behind them the parts of the open one. Asks
@@ -455,7 +457,7 @@ impl Index {
         ensures statistics { statistics self.new ≡ statistics self.old }
         ensures saved { self.new.saved ≡ self.old.saved }
         ensures refreshed { OnOk result (IsRefreshed self.new) }
-        ensures pushed { OnOk result (length self.new.searcher.segments ≤ length self.old.searcher.segments + 1) }
+        ensures some { OnOk result (self.new.ended < length self.new.searcher.segments) }
         ensures ended { self.new.ended ≡ self.old.ended }
         ensures refused { IsOkUnless result QueryError.Memory }
     {
