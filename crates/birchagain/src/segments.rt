@@ -9,7 +9,7 @@ use crate::refusal::Refusal;
 use qm_index::Index;
 use std::alloc::Global;
 
-/// Ends the open segment, which is built as one, and opens another. Costs what its documents do.
+/// Ends the open segment, and opens another. Costs what [`Index::end_segment`] does.
 ///
 /// Refused with [`QueryError::TooManySegments`](qm_schema::QueryError::TooManySegments) where there are 4294967295
 /// with the open one, and else for want of memory.

@@ -3,24 +3,29 @@
 ghost use Rattle.std.specs.Prelude.{IsTrue};
 ghost use Rattle.qm_index.specs.Indexed.{IsRefreshed};
 
+use crate::given_documents::{add_part, read_given};
 use crate::saved_rows::SavedRows;
 use crate::searcher_rows::{weigh, write_norm};
+use crate::segment_phrases::write_phrase;
 use crate::segment_rows::{postings_of, write_alive, write_postings};
 use crate::spelled::{
     cut, read_field, read_norms, read_number, read_option, read_term, read_texts,
 };
 use crate::term_rows::read_address;
 use cases::{Asker, Fault, Memory, behind, end_refusals, score, word, words_of, write_space};
-use qm_index::{Index, address_of, number_of};
+use qm_index::{GivenDocument, Index, address_of, number_of};
 use qm_postings::{Searcher, SegmentReader};
 use qm_schema::{Field, IndexRecordOption, Schema, Term};
 use std::alloc::{AllocError, Global};
+use std::mem;
 
 /// Rows on an index.
 #[derive(Drop)]
 pub struct IndexRows<'s> {
     schema: &'s Schema,
     index: Index,
+    // the document that is made part by part
+    document: GivenDocument,
     // where it is saved
     saved: SavedRows,
     // whether it was refreshed after the last call that asks for that
@@ -49,6 +54,7 @@ impl<'s> IndexRows<'s> {
         Ok(IndexRows {
             schema,
             index: made?,
+            document: GivenDocument::new(alloc),
             saved: SavedRows::new(alloc),
             is_refreshed: false,
         })
@@ -60,6 +66,20 @@ impl<'s> IndexRows<'s> {
         self.is_refreshed = false;
         memory.begin(alloc);
         let added = self.index.add_document(alloc, texts);
+        end_refusals(alloc);
+        Ok(added?)
+    }
+
+    // `add_given PARTS`: adds the document of these parts, or without any the one that was made part by part.
+    fn add_given(&mut self, alloc: Global, spelled: &str, memory: Memory) -> Result<(), Fault> {
+        let document = if spelled.is_empty() {
+            mem::replace(&mut self.document, GivenDocument::new(alloc))
+        } else {
+            read_given(alloc, self.schema, spelled)?
+        };
+        self.is_refreshed = false;
+        memory.begin(alloc);
+        let added = self.index.add_given(alloc, document);
         end_refusals(alloc);
         Ok(added?)
     }
@@ -210,12 +230,35 @@ impl<'s> IndexRows<'s> {
             "address" => write_address(searcher, &words, text),
             "number" => write_number(searcher, &words, text),
             "norm" => write_norm(searcher, &words, text),
+            "phrase" => write_all_phrases(alloc, readers, &words, text),
+            "length_id" => self.write_length(searcher, &words, text),
             "weight" => {
                 let weight = weigh(alloc, searcher, behind(&words, 1), memory)?;
                 Ok(write!(text, "{weight}")?)
             }
             _ => Err(Fault::NotUnderstood),
         }
+    }
+
+    // `length_id FIELD N`: that of the document of this number.
+    fn write_length(
+        &self,
+        searcher: &Searcher,
+        words: &[&str],
+        text: &mut String,
+    ) -> Result<(), Fault> {
+        let field = read_field(self.schema, word(words, 1))?;
+        let number = read_number_over_all(word(words, 2))?;
+        let readers = searcher.segment_readers();
+        let address = address_of(readers, number).ok_or(Fault::NotAllowed)?;
+        let segment = readers
+            .get(address.segment_ord as usize)
+            .ok_or(Fault::NotAllowed)?;
+        let ids = segment.fieldnorms(field).ok_or(Fault::NotAllowed)?;
+        if address.doc_id >= ids.num_docs() {
+            return Err(Fault::NotAllowed);
+        }
+        Ok(write!(text, "{}", ids.fieldnorm_id(address.doc_id))?)
     }
 
     // `postings FIELD WORD OPTION`: what they hold over all segments.
@@ -244,6 +287,8 @@ impl<'s> Asker for IndexRows<'s> {
         let (name, rest) = cut(call);
         match name {
             "add" => self.add(alloc, rest, memory),
+            "add_given" => self.add_given(alloc, rest, memory),
+            "term" | "length" => { add_part(alloc, self.schema, &mut self.document, call, memory) }
             "each" => self.add_each(alloc, rest, text),
             "delete" => self.delete(alloc, rest, memory, text),
             "set_weight" => self.set_weight(alloc, rest, memory),
@@ -322,6 +367,23 @@ fn write_all_postings(
         if let Some(postings) = postings_of(reader, term, option) {
             write_postings(alloc, postings, first, text)?;
         }
+        first = first.saturating_add(u64::from(reader.max_doc()));
+    }
+    Ok(())
+}
+
+// `phrase SLOP WORD ..`: the documents of all segments that hold the words of the first field as a phrase, by
+// their numbers over all of them.
+fn write_all_phrases(
+    alloc: Global,
+    readers: &[SegmentReader],
+    words: &[&str],
+    text: &mut String,
+) -> Result<(), Fault> {
+    let slop = read_number(word(words, 1))?;
+    let mut first: u64 = 0;
+    for reader in readers {
+        write_phrase(alloc, reader, behind(words, 2), slop, first, text)?;
         first = first.saturating_add(u64::from(reader.max_doc()));
     }
     Ok(())

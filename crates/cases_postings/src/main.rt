@@ -9,6 +9,7 @@ mod built_rows;
 mod cursor;
 mod explained;
 mod given;
+mod given_documents;
 mod given_terms;
 mod index_rows;
 mod kept;

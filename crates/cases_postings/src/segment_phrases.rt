@@ -1,6 +1,7 @@
 //! Blocks of scorers over the given segment.
 
 ghost use Rattle.std.specs.Prelude.{◌≡◌, ◌<◌, ◌≤◌, All, IfOk, length};
+ghost use Rattle.qm_docset.specs.Lists.{IsPlaced};
 ghost use Rattle.qm_postings.specs.FieldNorms.{norm_ids};
 ghost use Rattle.qm_postings.specs.SegmentPostings.{postings_left};
 
@@ -9,8 +10,8 @@ use crate::making::play_owned;
 use crate::spelled::{
     read_bytes, read_number, read_option, read_term, read_weight, read_weight_or_none,
 };
-use cases::{Block, Fault, Report, behind, end_refusals, word};
-use qm_docset::DocSet;
+use cases::{Block, Fault, Report, behind, end_refusals, word, write_space};
+use qm_docset::{DocSet, TERMINATED};
 use qm_phrase::{PhrasePrefixScorer, PhraseScorer, prefix_end};
 use qm_postings::{FieldNormReader, SegmentPostings, SegmentReader};
 use qm_schema::{Field, IndexRecordOption, Term};
@@ -89,6 +90,45 @@ pub fn play_prefix(
     let made = PhrasePrefixScorer::new(alloc, terms, weight, ids, ends, offset);
     end_refusals(alloc);
     play_owned(alloc, &bench.alive, made?, block.rows, report)
+}
+
+/// Writes the documents of a segment that hold words of the first field as a phrase, by their numbers from `first`
+/// on.
+pub fn write_phrase(
+    alloc: Global,
+    segment: &SegmentReader,
+    words: &[&str],
+    slop: u32,
+    first: u64,
+    text: &mut String,
+) -> Result<(), Fault> {
+    let terms = match full_terms(alloc, segment, words) {
+        Ok(terms) => terms,
+        // a word that no document holds
+        Err(Fault::NotAllowed) => return Ok(()),
+        Err(fault) => return Err(fault),
+    };
+    if terms.len() < 2 {
+        return Err(Fault::NotAllowed);
+    }
+    let ids = length_ids(segment)?;
+    let mut scorer = PhraseScorer::new(alloc, terms, None, ids, slop)?;
+    write_documents(&mut scorer, first, text)
+}
+
+// Writes all documents that are left, by their numbers from `first` on.
+fn write_documents<S: DocSet>(set: &mut S, first: u64, text: &mut String) -> Result<(), Fault>
+    requires { IsPlaced S.DocSet set.old }
+    ensures { IsPlaced S.DocSet set.new }
+{
+    let mut doc = set.doc();
+    // the set stands on this document
+    while doc < TERMINATED {
+        write_space(text)?;
+        write!(text, "{}", first.saturating_add(u64::from(doc)))?;
+        doc = set.advance();
+    }
+    Ok(())
 }
 
 // The length ids of a segment's documents.

@@ -47,8 +47,12 @@ pub fn read_text(alloc: Global, spelled: &str) -> Result<String, AllocError> {
     Ok(text)
 }
 
-/// The term of a field that a word spells.
+/// The term of a field that a word spells: by its bytes, where it has `\x`, else by its text.
 pub fn read_term(alloc: Global, field: Field, spelled: &str) -> Result<Term, Fault> {
+    if spelled.contains("\\x") {
+        let bytes = read_bytes(alloc, spelled)?;
+        return Ok(Term::from_field_bytes(alloc, field, &bytes)?);
+    }
     let text = read_text(alloc, spelled)?;
     Ok(Term::from_field_text(alloc, field, text.as_str())?)
 }

@@ -1,5 +1,6 @@
 mod Marks
 mod Cutting
+mod JoinedParts
 mod Numbering
 mod LastSegments
 mod JoinedNumbers

@@ -53,9 +53,9 @@ drop-mark-before (suc n) (x ∷ xs) d =
     let next : suc n + d ≡ suc (n + d) = omega arith in
     ap (λ k. drop (suc n) (mark (x ∷ xs) k)) next ∙ drop-mark-before n xs d
 
--- a document that is set in its place, with the same texts
+-- a document that is set in its place, as it was given
 pub set-mark : (ds : List OpenDocument) (d : ℕ) (other : OpenDocument) → d < length ds →
-    set ds d (record { texts = (get_or ds d other).texts; is_deleted = true }) ≡ mark ds d
+    set ds d (record { given = (get_or ds d other).given; is_deleted = true }) ≡ mark ds d
 set-mark [] d other below = absurd (omega (arith, below))
 set-mark (x ∷ xs) zero other below = refl
 set-mark (x ∷ xs) (suc d) other below = ap (λ r. x ∷ r) (set-mark xs d other (omega (arith, below)))
@@ -70,7 +70,7 @@ kept-mark schema [] d = refl
 kept-mark schema (x ∷ xs) zero = refl
 kept-mark schema (x ∷ xs) (suc d) = ap (λ r. kept_of schema x ∷ r) (kept-mark schema xs d)
 
-pub All-mark : (P : OpenDocument → Type 0) → ((x : OpenDocument) → P x → P (record { texts = x.texts; is_deleted = true })) →
+pub All-mark : (P : OpenDocument → Type 0) → ((x : OpenDocument) → P x → P (record { given = x.given; is_deleted = true })) →
     (ds : List OpenDocument) (d : ℕ) → All P ds → All P (mark ds d)
 All-mark P same [] d all = all
 All-mark P same (x ∷ xs) zero all = All-cons P _ xs (same x (All-head P x xs all)) (All-tail P x xs all)

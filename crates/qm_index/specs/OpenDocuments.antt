@@ -6,17 +6,16 @@ use Rattle.qm_postings.specs.Segment.{Document, IsGood, Segment, document_of}
 use Rattle.qm_schema.specs.Schema.{FieldFacts}
 use Rattle.qm_schema.specs.declared.error.QueryError.{QueryError}
 use Rattle.qm_schema.specs.declared.error.QueryError.TheVariants.{BadDocument, Memory, TooManyDocuments}
-use Rattle.qm_index.specs.Texts.{texts_draft}
 use Rattle.qm_index.specs.declared.open_document.OpenDocument.{OpenDocument}
 
 -- what a segment with this schema keeps of a document
 abbrev pub kept_of : List FieldFacts → OpenDocument → Document
-kept_of schema d = document_of schema (texts_draft d.texts.items)
+kept_of schema d = document_of schema d.given
 
 -- the documents, where that of this number is marked as deleted too
 abbrev pub mark : List OpenDocument → ℕ → List OpenDocument
 mark [] d = []
-mark (x ∷ xs) zero = record { texts = x.texts; is_deleted = true } ∷ xs
+mark (x ∷ xs) zero = record { given = x.given; is_deleted = true } ∷ xs
 mark (x ∷ xs) (suc d) = x ∷ mark xs d
 
 -- whether the document of this number is marked as deleted

@@ -1,6 +1,7 @@
 -- A segment in parts, each a segment of its own: one after another they have its documents.
-use Rattle.std.specs.Prelude.{◌≡◌, ◌+◌, ℕ, List, [], ◌∷◌, drop, length, map, take}
+use Rattle.std.specs.Prelude.{◌≡◌, ◌+◌, ℕ, List, [], ◌∷◌, ◌++◌, drop, length, map, take}
 use Rattle.qm_docset.specs.Members.{members_between}
+use Rattle.qm_merge.specs.Merging.{joined}
 use Rattle.qm_postings.specs.Reading.{Reader}
 use Rattle.qm_postings.specs.Segment.{Segment, is_deleted}
 use Rattle.qm_schema.specs.Schema.{FieldFacts}
@@ -37,3 +38,11 @@ cut schema block_len [] documents = []
 cut schema block_len (r ∷ rs) documents =
     segment_of schema block_len (take (length r.segment.documents) documents)
     ∷ cut schema block_len rs (drop (length r.segment.documents) documents)
+
+-- A segment is what the last two of some readers read, joined.
+pub record IsLastTwoJoined (readers : List Reader) (segment : Segment) : Type 0 where
+  pub others : List Reader
+  pub first : Reader
+  pub second : Reader
+  pub all : readers ≡ others ++ first ∷ second ∷ []
+  pub is : segment ≡ joined first.segment second.segment

@@ -20,7 +20,8 @@ ghost use Rattle.qm_index.specs.Parts.{cut, segments_of};
 ghost use Rattle.qm_index.specs.Texts.{texts_draft};
 
 use crate::addresses::{address_among, address_by_ends, count_documents, ends_of};
-use crate::open_document::{OpenDocument, add_good_texts, add_texts, delete_marked};
+use crate::given_document::GivenDocument;
+use crate::open_document::{OpenDocument, add_given, add_good, delete_marked};
 use crate::saved_files::SavedFiles;
 use qm_docset::{DocId, Score, TERMINATED};
 use qm_postings::{Searcher, SegmentBuilder, SegmentReader};
@@ -29,6 +30,7 @@ use std::alloc::Global;
 
 mod joining;
 mod opening;
+mod parts;
 mod saving;
 
 /// How many segments a searcher takes.
@@ -73,7 +75,7 @@ pub struct Index {
     ghost parts: { segments_of (drop ended searcher.segments) ≡ cut searcher.schema block_len (drop ended searcher.segments) documents.items },
     ghost building: { ForSome builder (λ b. b ≡ undeleted searcher.schema block_len (drop built documents.items)) },
     // so a segment takes each of them again
-    ghost good: { All (λ d. ¬ IsBadDraft searcher.schema (texts_draft d.texts.items)) documents.items },
+    ghost good: { All (λ d. ¬ IsBadDraft searcher.schema d.given) documents.items },
 }
 
 impl Index {
@@ -178,7 +180,7 @@ impl Index {
         &self.searcher.segment_readers()[..self.ended]
     }
 
-    /// Adds a document to the open segment, whose fields have these texts. Costs what
+    /// Adds a document to the open segment, whose fields have these texts, as [`Index::add_given`] does. Costs what
     /// [`SegmentBuilder::add_document`] does, and keeps the texts.
     ///
     /// Refused with [`QueryError::TooManyDocuments`] exactly where the open segment has 2147483647
@@ -201,16 +203,39 @@ impl Index {
         ensures many { IsErrOf result QueryError.TooManyDocuments ↔ (length (indexed self.old).current.documents ≡ TERMINATED) }
         ensures refused { IfErr result (IsDocumentRefusal (indexed self.old).current (texts_draft texts.items)) }
     {
+        self.add_given(alloc, GivenDocument::of_texts(alloc, texts))
+    }
+
+    /// Adds a document to the open segment: texts of its fields, terms with positions, and length ids, as they were
+    /// given. Costs what [`SegmentBuilder::add_document`] does, and a copy of the terms and positions; what was given is
+    /// kept until the segment has ended.
+    ///
+    /// Refused with [`QueryError::TooManyDocuments`] exactly where the open segment has 2147483647 documents; else with
+    /// [`QueryError::BadDocument`] exactly where the field of a term or of a length id isn't in the schema, or a term
+    /// has no positions, or some that don't ascend strictly or aren't below 4294967295, or was given twice, be it by a
+    /// text, want of memory aside; and else with [`QueryError::Memory`] alone. Then nothing is added, and what could be
+    /// searched still can.
+    pub fn add_given(&mut self, alloc: Global, document: GivenDocument) -> Result<(), QueryError>
+        ensures added { OnOk result (indexed self.new ≡ with_document_of (indexed self.old) document) }
+        ensures good { OnOk result (IsGood (indexed self.old).current.schema document) }
+        ensures unchanged { OnErr result (indexed self.new ≡ indexed self.old) }
+        ensures statistics { statistics self.new ≡ statistics self.old }
+        ensures saved { self.new.saved ≡ self.old.saved }
+        ensures refreshed { OnErr result (IsRefreshed self.old → IsRefreshed self.new) }
+        ensures merged { IsMerged self.old → IsMerged self.new }
+        ensures many { IsErrOf result QueryError.TooManyDocuments ↔ (length (indexed self.old).current.documents ≡ TERMINATED) }
+        ensures refused { IfErr result (IsDocumentRefusal (indexed self.old).current document) }
+    {
         if self.documents.len() >= TERMINATED as usize {
             return Err(QueryError::TooManyDocuments);
         }
         self.documents.reserve(1)?;
         let mut builder = self.take_builder(alloc)?;
-        let added = add_texts(alloc, &mut builder, texts.as_slice());
+        let added = add_given(alloc, &mut builder, &document);
         self.builder = Some(builder);
         added?;
         let document = OpenDocument {
-            texts,
+            given: document,
             is_deleted: false,
         };
         self.documents.push(document).unwrap();
@@ -284,7 +309,11 @@ impl Index {
         self.searcher.set_norms(norms)
     }
 
-    /// Ends the open segment, which is built as one, and opens another. Costs what its documents do.
+    /// Ends the open segment, and opens another. Where one part has all of its documents, as behind a
+    /// [`Index::merge`], that part is the segment that is ended: it costs a step for each document, to let go of what was
+    /// given. Else the documents that came since the last [`Index::refresh`] are built, which costs what they do, and the
+    /// parts are joined by the rows that they keep, as [`Index::join_last_segments`] does it, each document no more often
+    /// than the logarithm of their number.
     ///
     /// Refused with [`QueryError::TooManySegments`] exactly where there are 4294967295 with the open
     /// one, else with [`QueryError::Memory`] alone. Then it stays open. Where it is ended all documents can
@@ -302,10 +331,8 @@ impl Index {
         if self.ended + 1 >= MAX_SEGMENTS {
             return Err(QueryError::TooManySegments);
         }
-        self.take_parts_back();
-        let segment = self.build_waiting(alloc)?;
+        self.make_one_part(alloc)?;
         self.ends.reserve(1)?;
-        self.searcher.push_segment(segment)?;
         self.ended += 1;
         self.ended_documents += self.documents.len() as u64;
         self.ends.push(self.ended_documents).unwrap();
@@ -332,8 +359,8 @@ impl Index {
     }
 
     /// The same, so that the open segment is one part at most, for a query that asks which terms the
-    /// whole of it has. Costs all its documents where it has several parts, or some that are not built; else
-    /// constant time.
+    /// whole of it has. Costs what [`Index::end_segment`] does where it has several parts, or documents that are not
+    /// built; else constant time.
     ///
     /// Refused with [`QueryError::Memory`] alone.
     pub fn merge(&mut self, alloc: Global) -> Result<(), QueryError>
@@ -347,8 +374,7 @@ impl Index {
         if self.built == self.documents.len() && self.part_count() <= 1 {
             return Ok(());
         }
-        self.take_parts_back();
-        self.build_part(alloc)
+        self.make_one_part(alloc)
     }
 
     /// What is searched: the segments that were ended, and behind them the parts of the open one. Asks
@@ -437,7 +463,7 @@ impl Index {
         ensures statistics { statistics self.new ≡ statistics self.old }
         ensures saved { self.new.saved ≡ self.old.saved }
         ensures refreshed { OnOk result (IsRefreshed self.new) }
-        ensures pushed { OnOk result (length self.new.searcher.segments ≤ length self.old.searcher.segments + 1) }
+        ensures some { OnOk result (self.new.ended < length self.new.searcher.segments) }
         ensures ended { self.new.ended ≡ self.old.ended }
         ensures refused { IsOkUnless result QueryError.Memory }
     {
@@ -559,7 +585,7 @@ impl Index {
         let schema = self.searcher.schema();
         let mut builder = SegmentBuilder::new(alloc, schema, self.block_len)?;
         for document in &self.documents[self.built..] {
-            add_good_texts(alloc, &mut builder, document.texts.as_slice())?;
+            add_good(alloc, &mut builder, &document.given)?;
         }
         Ok(builder)
     }

@@ -3,65 +3,52 @@
 //! Whether a document is deleted stands beside its texts, and in its part where there is one. So a deletion outlives
 //! every part.
 
-ghost use Rattle.std.specs.Prelude.{[], ◌≡◌, ◌<◌, ◌⊎◌, IfErr, IfOk, ◌≤◌, IsOkUnless, OnErr, OnOk, length};
+ghost use Rattle.std.specs.Prelude.{[], ◌≡◌, ◌<◌, ◌≤◌, IfErr, IsOkUnless, OnErr, OnOk, length};
 ghost use Rattle.qm_docset.specs.declared.numbers.TheConstants.{TERMINATED};
 ghost use Rattle.qm_postings.specs.Segment.{IsGood, document_of, with_document, without};
 ghost use Rattle.qm_index.specs.OpenDocuments.{IsBadDraft, IsDocumentRefusal, marked};
-ghost use Rattle.qm_index.specs.Texts.{texts_draft};
 
-use qm_postings::{PlainDoc, SegmentBuilder};
-use qm_schema::{Field, QueryError};
+use crate::given_document::GivenDocument;
+use qm_postings::SegmentBuilder;
+use qm_schema::QueryError;
 use std::alloc::Global;
 
-/// A document of an open segment: the texts of its fields, and whether it was deleted.
+/// A document of an open segment: what was given, and whether it was deleted.
 #[derive(Drop)]
 pub(crate) struct OpenDocument {
-    pub(crate) texts: Vec<(Field, String)>,
+    pub(crate) given: GivenDocument,
     pub(crate) is_deleted: bool,
 }
 
-/// Adds a document of these texts to a segment.
-pub(crate) fn add_texts(
+/// Adds a document to a segment.
+pub(crate) fn add_given(
     alloc: Global,
     builder: &mut SegmentBuilder,
-    texts: &[(Field, String)],
+    given: &GivenDocument,
 ) -> Result<(), QueryError>
     requires few { length builder.old.documents < TERMINATED }
-    ensures added { OnOk result (builder.new ≡ with_document builder.old (document_of builder.old.schema (texts_draft texts.now))) }
-    ensures good { OnOk result (IsGood builder.old.schema (texts_draft texts.now)) }
+    ensures added { OnOk result (builder.new ≡ with_document builder.old (document_of builder.old.schema given.now)) }
+    ensures good { OnOk result (IsGood builder.old.schema given.now) }
     ensures unchanged { OnErr result (builder.new ≡ builder.old) }
-    ensures refused { IfErr result (IsDocumentRefusal builder.old (texts_draft texts.now)) }
+    ensures refused { IfErr result (IsDocumentRefusal builder.old given.now) }
 {
-    let document = draft(alloc, texts)?;
+    let document = given.plain_doc(alloc)?;
     builder.add_document(document)?;
     Ok(())
 }
 
-/// The same of texts that a segment of this schema takes, so that want of memory alone refuses it.
-pub(crate) fn add_good_texts(
+/// The same of one that a segment of this schema takes, so that want of memory alone refuses it.
+pub(crate) fn add_good(
     alloc: Global,
     builder: &mut SegmentBuilder,
-    texts: &[(Field, String)],
+    given: &GivenDocument,
 ) -> Result<(), QueryError>
     requires few { length builder.old.documents < TERMINATED }
-    requires good { ¬ IsBadDraft builder.old.schema (texts_draft texts.now) }
-    ensures added { OnOk result (builder.new ≡ with_document builder.old (document_of builder.old.schema (texts_draft texts.now))) }
+    requires good { ¬ IsBadDraft builder.old.schema given.now }
+    ensures added { OnOk result (builder.new ≡ with_document builder.old (document_of builder.old.schema given.now)) }
     ensures refused { IsOkUnless result QueryError.Memory }
 {
-    add_texts(alloc, builder, texts)
-}
-
-// The document that texts make.
-fn draft(alloc: Global, texts: &[(Field, String)]) -> Result<PlainDoc, QueryError>
-    ensures draft { IfOk result (λ document. document ≡ texts_draft texts.now) }
-    ensures refused { IsOkUnless result QueryError.Memory }
-{
-    let mut document = PlainDoc::new(alloc);
-    // it has what the texts so far give it
-    for (field, text) in texts {
-        document.add_text(*field, text.as_str())?;
-    }
-    Ok(document)
+    add_given(alloc, builder, given)
 }
 
 /// Deletes those of a segment's documents that are marked, of which it has none deleted yet.

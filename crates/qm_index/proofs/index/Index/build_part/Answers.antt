@@ -6,7 +6,6 @@ use Rattle.qm_postings.specs.Reading.{Reader}
 use Rattle.qm_index.specs.Numbers.{AreOf, document_count, ends_from}
 use Rattle.qm_index.specs.OpenDocuments.{IsBadDraft, kept_of, segment_of}
 use Rattle.qm_index.specs.Parts.{cut, segments_of}
-use Rattle.qm_index.specs.Texts.{texts_draft}
 use Rattle.qm_index.proofs.Cutting.{cut-more}
 use Rattle.qm_index.proofs.index.Index.build_part.Goals as goal
 
@@ -66,5 +65,5 @@ invariant_of-self-2 c =
           ∙ ap (λ s. cut self.searcher.schema self.block_len parts ds ++ s ∷ []) (sym piece)
           ∙ sym (cut-more self.searcher.schema self.block_len parts part ds)));
       building = λ x h. let none = sym told.taken ∙ h in cc;
-      good = subst (λ s. All (λ d. ¬ IsBadDraft s (texts_draft d.texts.items)) ds) (sym schema) self.good;
+      good = subst (λ s. All (λ d. ¬ IsBadDraft s d.given) ds) (sym schema) self.good;
     }

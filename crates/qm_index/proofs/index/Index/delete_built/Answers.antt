@@ -8,7 +8,6 @@ use Rattle.qm_index.specs.Indexed.{Indexed}
 use Rattle.qm_index.specs.Numbers.{AreOf, IsAddressOf, document_count, ends_from}
 use Rattle.qm_index.specs.OpenDocuments.{IsBadDraft, mark, segment_of, undeleted}
 use Rattle.qm_index.specs.Parts.{cut, segments_of}
-use Rattle.qm_index.specs.Texts.{texts_draft}
 use Rattle.qm_index.specs.declared.open_document.OpenDocument.{OpenDocument}
 use Rattle.qm_index.proofs.Cutting.{cut-mark}
 use Rattle.qm_index.proofs.Marks.{All-mark, segment_of-mark, set-mark, undeleted-mark}
@@ -22,9 +21,9 @@ invariant_of-self-2 c =
     let place = c.args.place in
     let x = c.index_mut.result.now in
     let inside : place < length ds = omega (arith, self.documents.ok.0, self.some_built, c.requires) in
-    let left : List OpenDocument = set ds place (record { texts = x.texts; is_deleted = true }) in
+    let left : List OpenDocument = set ds place (record { given = x.given; is_deleted = true }) in
     let marked : left ≡ mark ds place =
-    ap (λ (y : OpenDocument). set ds place (record { texts = y.texts; is_deleted = true })) c.index_mut.ensures.value ∙ set-mark ds place x inside in
+    ap (λ (y : OpenDocument). set ds place (record { given = y.given; is_deleted = true })) c.index_mut.ensures.value ∙ set-mark ds place x inside in
     let readers = self.searcher.segments in
     let after = c.delete.new.self.segments in
     let address = c.address_among-address.result in
@@ -58,9 +57,9 @@ invariant_of-self-2 c =
       building = subst (λ s. ForSome self.builder (λ b. b ≡ undeleted s self.block_len (drop self.built left))) (sym schema)
           (λ b is. self.building b is ∙ sym (undeleted-mark self.searcher.schema self.block_len self.built ds place)
           ∙ ap (λ l. undeleted self.searcher.schema self.block_len (drop self.built l)) (sym marked));
-      good = subst (λ s. All (λ d. ¬ IsBadDraft s (texts_draft d.texts.items)) left) (sym schema)
-          (subst (All (λ d. ¬ IsBadDraft self.searcher.schema (texts_draft d.texts.items))) (sym marked)
-          (All-mark (λ d. ¬ IsBadDraft self.searcher.schema (texts_draft d.texts.items)) (λ y p. p) ds place self.good));
+      good = subst (λ s. All (λ d. ¬ IsBadDraft s d.given) left) (sym schema)
+          (subst (All (λ d. ¬ IsBadDraft self.searcher.schema d.given)) (sym marked)
+          (All-mark (λ d. ¬ IsBadDraft self.searcher.schema d.given) (λ y p. p) ds place self.good));
     }
 
 pub returns-clause-deleted : goal.returns-clause-deleted
@@ -70,9 +69,9 @@ returns-clause-deleted c =
     let place = c.args.place in
     let x = c.index_mut.result.now in
     let inside : place < length ds = omega (arith, self.documents.ok.0, self.some_built, c.requires) in
-    let left : List OpenDocument = set ds place (record { texts = x.texts; is_deleted = true }) in
+    let left : List OpenDocument = set ds place (record { given = x.given; is_deleted = true }) in
     let marked : left ≡ mark ds place =
-    ap (λ (y : OpenDocument). set ds place (record { texts = y.texts; is_deleted = true })) c.index_mut.ensures.value ∙ set-mark ds place x inside in
+    ap (λ (y : OpenDocument). set ds place (record { given = y.given; is_deleted = true })) c.index_mut.ensures.value ∙ set-mark ds place x inside in
     let readers = self.searcher.segments in
     let after = c.delete.new.self.segments in
     let address = c.address_among-address.result in

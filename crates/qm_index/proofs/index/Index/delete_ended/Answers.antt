@@ -5,7 +5,6 @@ use Rattle.qm_postings.specs.Statistics.{Searched}
 use Rattle.qm_index.specs.Numbers.{AreOf, IsAddressOf, deleted_among, document_count}
 use Rattle.qm_index.specs.OpenDocuments.{IsBadDraft, segment_of, undeleted}
 use Rattle.qm_index.specs.Parts.{cut, segments_of}
-use Rattle.qm_index.specs.Texts.{texts_draft}
 use Rattle.qm_index.specs.SavedIndex.{WereHeld}
 use Rattle.qm_index.proofs.KeptOn.{were-deleted}
 use Rattle.qm_index.proofs.Numbering.{KeepsParts, KeepsParts-ended, KeepsParts-same, deleted_among-reader, either, ended-deleted}
@@ -39,7 +38,7 @@ invariant_of-self c =
       parts = subst (λ s. segments_of (drop self.ended after) ≡ cut s self.block_len (drop self.ended after) self.documents.items) (sym schema)
           (subst (λ rs. segments_of rs ≡ cut self.searcher.schema self.block_len rs self.documents.items) (sym kept.parts) self.parts);
       building = subst (λ s. ForSome self.builder (λ b. b ≡ undeleted s self.block_len (drop self.built self.documents.items))) (sym schema) self.building;
-      good = subst (λ s. All (λ d. ¬ IsBadDraft s (texts_draft d.texts.items)) self.documents.items) (sym schema) self.good;
+      good = subst (λ s. All (λ d. ¬ IsBadDraft s d.given) self.documents.items) (sym schema) self.good;
     }
 
 pub returns-clause-deleted : goal.returns-clause-deleted

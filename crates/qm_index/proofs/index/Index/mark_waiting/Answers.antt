@@ -4,7 +4,6 @@ use Rattle.qm_postings.specs.Segment.{Segment}
 use Rattle.qm_index.specs.Indexed.{Indexed}
 use Rattle.qm_index.specs.OpenDocuments.{IsBadDraft, mark, segment_of, undeleted}
 use Rattle.qm_index.specs.Parts.{cut, segments_of}
-use Rattle.qm_index.specs.Texts.{texts_draft}
 use Rattle.qm_index.specs.declared.open_document.OpenDocument.{OpenDocument}
 use Rattle.qm_index.proofs.Cutting.{cut-mark_past}
 use Rattle.qm_index.proofs.Marks.{All-mark, segment_of-mark, set-mark, undeleted-mark}
@@ -17,8 +16,8 @@ invariant_of-self c =
     let place = c.args.place in
     let x = c.index_mut.result.now in
     let inside : place < length ds = omega (arith, self.documents.ok.0, c.requires.there) in
-    let marked : set ds place (record { texts = x.texts; is_deleted = true }) ≡ mark ds place =
-    ap (λ (y : OpenDocument). set ds place (record { texts = y.texts; is_deleted = true })) c.index_mut.ensures.value ∙ set-mark ds place x inside in
+    let marked : set ds place (record { given = x.given; is_deleted = true }) ≡ mark ds place =
+    ap (λ (y : OpenDocument). set ds place (record { given = y.given; is_deleted = true })) c.index_mut.ensures.value ∙ set-mark ds place x inside in
     let parts = drop self.ended self.searcher.segments in
     record {
       block = self.block;
@@ -37,8 +36,8 @@ invariant_of-self c =
           ∙ ap (cut self.searcher.schema self.block_len parts) (sym marked);
       building = λ b is. self.building b is ∙ sym (undeleted-mark self.searcher.schema self.block_len self.built ds place)
           ∙ ap (λ l. undeleted self.searcher.schema self.block_len (drop self.built l)) (sym marked);
-      good = subst (All (λ d. ¬ IsBadDraft self.searcher.schema (texts_draft d.texts.items))) (sym marked)
-          (All-mark (λ d. ¬ IsBadDraft self.searcher.schema (texts_draft d.texts.items)) (λ y p. p) ds place self.good);
+      good = subst (All (λ d. ¬ IsBadDraft self.searcher.schema d.given)) (sym marked)
+          (All-mark (λ d. ¬ IsBadDraft self.searcher.schema d.given) (λ y p. p) ds place self.good);
     }
 
 pub returns-clause-deleted : goal.returns-clause-deleted
@@ -48,8 +47,8 @@ returns-clause-deleted c =
     let place = c.args.place in
     let x = c.index_mut.result.now in
     let inside : place < length ds = omega (arith, self.documents.ok.0, c.requires.there) in
-    let marked : set ds place (record { texts = x.texts; is_deleted = true }) ≡ mark ds place =
-    ap (λ (y : OpenDocument). set ds place (record { texts = y.texts; is_deleted = true })) c.index_mut.ensures.value ∙ set-mark ds place x inside in
+    let marked : set ds place (record { given = x.given; is_deleted = true }) ≡ mark ds place =
+    ap (λ (y : OpenDocument). set ds place (record { given = y.given; is_deleted = true })) c.index_mut.ensures.value ∙ set-mark ds place x inside in
     let made : Segment → Indexed = λ segment. record { ended = segments_of (take self.ended self.searcher.segments); current = segment } in
     ap (λ l. made (segment_of self.searcher.schema self.block_len l)) marked
     ∙ ap made (sym (segment_of-mark self.searcher.schema self.block_len ds place inside))

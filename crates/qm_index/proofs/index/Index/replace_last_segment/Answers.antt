@@ -13,7 +13,6 @@ use Rattle.qm_index.specs.Numbers.{AreOf, document_count, ends_from}
 use Rattle.qm_index.specs.OpenDocuments.{IsBadDraft, segment_of, undeleted}
 use Rattle.qm_index.specs.Parts.{cut, segments_of}
 use Rattle.qm_index.specs.SavedIndex.{WereHeld}
-use Rattle.qm_index.specs.Texts.{texts_draft}
 use Rattle.qm_index.proofs.KeptOn.{more-were}
 use Rattle.qm_index.proofs.LastSegments.{front-kept, front-segments}
 use Rattle.qm_index.proofs.SegmentEnds.{ends-push, ends-take, length-ends}
@@ -66,7 +65,7 @@ invariant_of-self-2 c =
       parts = subst (λ s. segments_of (drop self.ended after) ≡ cut s self.block_len (drop self.ended after) self.documents.items) (sym schema)
           (subst (λ l. segments_of l ≡ cut self.searcher.schema self.block_len l self.documents.items) (sym behind) self.parts);
       building = subst (λ s. ForSome self.builder (λ b. b ≡ undeleted s self.block_len (drop self.built self.documents.items))) (sym schema) self.building;
-      good = subst (λ s. All (λ d. ¬ IsBadDraft s (texts_draft d.texts.items)) self.documents.items) (sym schema) self.good;
+      good = subst (λ s. All (λ d. ¬ IsBadDraft s d.given) self.documents.items) (sym schema) self.good;
     }
 
 pub returns-clause-replaced : goal.returns-clause-replaced

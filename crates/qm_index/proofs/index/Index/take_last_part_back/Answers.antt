@@ -6,7 +6,6 @@ use Rattle.qm_postings.specs.Reading.{Reader}
 use Rattle.qm_index.specs.Numbers.{AreOf, document_count, ends_from}
 use Rattle.qm_index.specs.OpenDocuments.{IsBadDraft}
 use Rattle.qm_index.specs.Parts.{cut, segments_of}
-use Rattle.qm_index.specs.Texts.{texts_draft}
 use Rattle.qm_index.proofs.Cutting.{cut-less}
 use Rattle.qm_index.proofs.index.Index.take_last_part_back.Goals as goal
 
@@ -48,5 +47,5 @@ invariant_of-self c =
           (cut-less self.searcher.schema self.block_len (drop self.ended left) part self.documents.items
           (subst (λ rs. segments_of rs ≡ cut self.searcher.schema self.block_len rs self.documents.items) behind self.parts));
       building = λ x h. cc;
-      good = subst (λ s. All (λ d. ¬ IsBadDraft s (texts_draft d.texts.items)) self.documents.items) (sym schema) self.good;
+      good = subst (λ s. All (λ d. ¬ IsBadDraft s d.given) self.documents.items) (sym schema) self.good;
     }

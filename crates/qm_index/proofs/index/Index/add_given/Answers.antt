@@ -7,18 +7,17 @@ use Rattle.qm_postings.specs.Segment.{IsGood, Segment, document_of, with_documen
 use Rattle.qm_index.specs.Indexed.{Indexed}
 use Rattle.qm_index.specs.OpenDocuments.{IsBadDraft, IsDocumentRefusal, kept_of, segment_of, undeleted}
 use Rattle.qm_index.specs.Parts.{cut, segments_of}
-use Rattle.qm_index.specs.Texts.{texts_draft}
 use Rattle.qm_index.specs.declared.open_document.OpenDocument.{OpenDocument}
 use Rattle.qm_index.proofs.Cutting.{cut-push}
 use Rattle.qm_index.proofs.Marks.{same_refusal, segment_of-push, undeleted-push}
-use Rattle.qm_index.proofs.index.Index.add_document.Goals as goal
+use Rattle.qm_index.proofs.index.Index.add_given.Goals as goal
 
 pub returns-in_err-added-clause-refused : goal.returns-in_err-added-clause-refused
 returns-in_err-added-clause-refused c =
     let taken = c.take_builder.new.self in
     let self = c.args.self.now in
     let ds = taken.documents.items in
-    let d : OpenDocument = record { texts = c.args.texts; is_deleted = false } in
+    let d : OpenDocument = record { given = c.args.document; is_deleted = false } in
     let schema = taken.searcher.schema in
     let builder : c.in_ok-builder.builder ≡ undeleted schema taken.block_len (drop taken.built ds) =
     c.in_ok-builder.ensures.builder
@@ -38,16 +37,16 @@ returns-in_err-added-clause-refused c =
       c.len.ensures,
       c.if-len.false,
     ) in
-    let why = subst (λ l. IsDocumentRefusal c.in_ok-builder.builder (texts_draft l) e) c.as_slice.ensures.value c.in_err-added.ensures.refused in
     let p = err_from_is_err_and c.from_residual-in_err-added.result c.from_residual-in_err-added.ensures.1 in
-    rw (p.1, p.2) (same_refusal e c.in_ok-builder.builder current (texts_draft c.args.texts.items) few (ap (λ s. s.schema) c.in_ok-builder.ensures.builder) why)
+    rw (p.1, p.2) (same_refusal e c.in_ok-builder.builder current c.args.document few (ap (λ s. s.schema) c.in_ok-builder.ensures.builder)
+    c.in_err-added.ensures.refused)
 
 pub invariant_of-self-2 : goal.invariant_of-self-2
 invariant_of-self-2 c =
     let taken = c.take_builder.new.self in
     let self = c.args.self.now in
     let ds = taken.documents.items in
-    let d : OpenDocument = record { texts = c.args.texts; is_deleted = false } in
+    let d : OpenDocument = record { given = c.args.document; is_deleted = false } in
     let schema = taken.searcher.schema in
     let builder : c.in_ok-builder.builder ≡ undeleted schema taken.block_len (drop taken.built ds) =
     c.in_ok-builder.ensures.builder
@@ -61,14 +60,12 @@ invariant_of-self-2 c =
     let built : taken.built ≤ length ds = omega (arith, taken.some_built, taken.documents.ok.0) in
     let same : vec_len taken.documents ≡ vec_len c.reserve.new.self = ap (λ v. vec_len v) c.take_builder.ensures.documents in
     let parts = drop taken.ended taken.searcher.segments in
-    let grown : c.add_texts-added.new.builder ≡ undeleted schema taken.block_len (drop taken.built c.push.new.self.items) =
+    let grown : c.add_given-added.new.builder ≡ undeleted schema taken.block_len (drop taken.built c.push.new.self.items) =
     c.in_ok-added.ensures.added
-    ∙ ap (λ b. with_document b (document_of b.schema (texts_draft c.as_slice.result.now))) builder
-    ∙ ap (λ l. with_document (undeleted schema taken.block_len (drop taken.built ds)) (document_of schema (texts_draft l))) c.as_slice.ensures.value
+    ∙ ap (λ b. with_document b (document_of b.schema c.args.document)) builder
     ∙ sym (undeleted-push schema taken.block_len (drop taken.built ds) d)
     ∙ ap (undeleted schema taken.block_len) (sym (ap (drop taken.built) pushed ∙ drop-append-le taken.built ds (d ∷ []) built)) in
-    let good : IsGood schema (texts_draft c.args.texts.items) = subst (λ l. IsGood schema (texts_draft l)) c.as_slice.ensures.value
-    (subst (λ s. IsGood s.schema (texts_draft c.as_slice.result.now)) builder c.in_ok-added.ensures.good) in
+    let good : IsGood schema c.args.document = subst (λ s. IsGood s.schema c.args.document) builder c.in_ok-added.ensures.good in
     record {
       block = taken.block;
       within = taken.within;
@@ -83,9 +80,9 @@ invariant_of-self-2 c =
       built_parts = taken.built_parts;
       parts = taken.parts ∙ sym (cut-push schema taken.block_len parts ds (d ∷ []) (omega (arith, taken.built_parts, built)))
           ∙ ap (cut schema taken.block_len parts) (sym pushed);
-      building = λ x h. let one : c.add_texts-added.new.builder ≡ x = cc in sym one ∙ grown;
-      good = subst (λ l. All (λ y. ¬ IsBadDraft schema (texts_draft y.texts.items)) l) (sym pushed)
-          (All-push (λ y. ¬ IsBadDraft schema (texts_draft y.texts.items)) ds d taken.good (λ bad. bad good));
+      building = λ x h. let one : c.add_given-added.new.builder ≡ x = cc in sym one ∙ grown;
+      good = subst (λ l. All (λ y. ¬ IsBadDraft schema y.given) l) (sym pushed)
+          (All-push (λ y. ¬ IsBadDraft schema y.given) ds d taken.good (λ bad. bad good));
     }
 
 pub returns-clause-added : goal.returns-clause-added
@@ -93,7 +90,7 @@ returns-clause-added c =
     let taken = c.take_builder.new.self in
     let self = c.args.self.now in
     let ds = taken.documents.items in
-    let d : OpenDocument = record { texts = c.args.texts; is_deleted = false } in
+    let d : OpenDocument = record { given = c.args.document; is_deleted = false } in
     let schema = taken.searcher.schema in
     let builder : c.in_ok-builder.builder ≡ undeleted schema taken.block_len (drop taken.built ds) =
     c.in_ok-builder.ensures.builder

@@ -4,7 +4,7 @@ use Rattle.std.proofs.lemmas.Grind.{flat_map-append}
 use Rattle.std.proofs.lemmas.List.{map-append, take_more}
 use Rattle.qm_postings.specs.Document.{Draft, Given, words_of, text_terms}
 use Rattle.qm_index.specs.Texts.{FieldText, length_given, terms_given, texts_draft}
-use Rattle.qm_index.proofs.open_document.draft.Goals as goal
+use Rattle.qm_index.proofs.given_document.draft.Goals as goal
 
 drafted : List Given → List (ℕ × ℕ) → Draft
 drafted terms lengths = record { terms = terms; lengths = lengths }
