@@ -6,5 +6,6 @@ mod DeletedCount
 mod OpenCounts
 mod Listed
 mod Known
+mod ManifestTold
 mod IndexBytes
 mod SegmentFiles

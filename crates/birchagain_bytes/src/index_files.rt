@@ -121,7 +121,9 @@ fn push_deletions(
         (AreDeletionsAdded known.now numbers.now.key numbers.now.deletions segment.now.segment out.old.items out.new.items) }
     ensures refused { IfErr result IsPackRefusal }
 {
-    if numbers.deletions == 0 {
+    // a segment of which nothing is deleted has no such file
+    let deleted = deleted_count(segment);
+    if numbers.deletions == 0 || deleted == 0 {
         return Err(BytesRefusal::NoNumber);
     }
     let name = deletions_name(alloc, numbers.deletions)?;
