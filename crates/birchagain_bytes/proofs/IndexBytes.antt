@@ -1,5 +1,6 @@
 -- An index whose open segment has no document, before and after it was bytes.
-use Rattle.std.proofs.Common.{◌≡◌, ℕ, List, [], ◌∷◌, Some, length, map, refl, sym, ap, subst, ◌∙◌, arith}
+use Rattle.std.proofs.Common.{◌≡◌, ◌⊎◌, ℕ, List, [], ◌∷◌, Some, length, map, refl, sym, ap, subst, ◌∙◌, inl, inr, arith}
+use Rattle.std.specs.Prelude.{Err, IsErrOf, Ok, Result}
 use Rattle.qm_docset.specs.Members.{members_between}
 use Rattle.qm_folder.specs.Disk.{Contents}
 use Rattle.qm_index.specs.Indexed.{Indexed, indexed, statistics}
@@ -18,7 +19,8 @@ use Rattle.qm_store.specs.declared.store_error.StoreError.{StoreError}
 use Rattle.qm_store.specs.declared.store_error.StoreError.TheVariants.{Damaged, Failed, Memory as StoreMemory, OtherFile, OtherVersion}
 use Rattle.birchagain_bytes.specs.Bytes.{AreBytesOf, AreKnownHeld, IsIndexPacked}
 use Rattle.birchagain_bytes.specs.Refusals.{of_reading}
-use Rattle.birchagain_bytes.specs.declared.refusal.BytesRefusal.TheVariants.{Memory}
+use Rattle.birchagain_bytes.specs.declared.refusal.BytesRefusal.{BytesRefusal}
+use Rattle.birchagain_bytes.specs.declared.refusal.BytesRefusal.TheVariants.{Memory, OtherBlocks}
 use Rattle.birchagain_bytes.specs.Packed.{AreThere}
 use Rattle.birchagain_bytes.proofs.Packs.{nothing-known}
 
@@ -81,3 +83,16 @@ folder-refusal Failed is = refl
 folder-refusal OtherFile is = absurd is
 folder-refusal OtherVersion is = absurd is
 folder-refusal Damaged is = absurd is
+
+-- ---- an index of other blocks
+
+-- what is refused is not done
+pub not-done : {X : Type 0} (x : X) → IsErrOf (Ok x) OtherBlocks ⊎ IsErrOf (Ok x) Memory → ⊥
+not-done x (inl is) = absurd (cc is)
+not-done x (inr is) = absurd (cc is)
+
+-- a refusal that is passed on is the same
+pub passed-on : {X Y : Type 0} (r : Result Y BytesRefusal) (e : BytesRefusal) → r ≡ Err e → IsErrOf {T = X} (Err e) OtherBlocks ⊎ IsErrOf {T = X} (Err e) Memory →
+    IsErrOf r OtherBlocks ⊎ IsErrOf r Memory
+passed-on r e is (inl why) = let same : e ≡ OtherBlocks = cc in inl (is ∙ ap Err same)
+passed-on r e is (inr why) = let same : e ≡ Memory = cc in inr (is ∙ ap Err same)

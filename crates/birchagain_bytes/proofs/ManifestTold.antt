@@ -1,5 +1,5 @@
 -- What a manifest says that was written, and why it is not read again.
-use Rattle.std.proofs.Common.{◌≡◌, ℕ, List, Option, Some, ap, absurd, refl, sym, ◌∙◌}
+use Rattle.std.proofs.Common.{◌≡◌, ℕ, List, Option, Some, ap, refl, sym, ◌∙◌}
 use Rattle.std.specs.Prelude.{Result, Ok, Err}
 use Rattle.std.proofs.lemmas.Option.{same_Some}
 use Rattle.qm_store.proofs.ManifestRead.{manifest-read}
