@@ -2,6 +2,7 @@ mod MoreNames
 mod Packs
 mod FilesRead
 mod Taken
+mod OnlyFiles
 mod DeletedCount
 mod OpenCounts
 mod Listed
