@@ -25,13 +25,13 @@ parted-read bs rest =
     (le-leb (length bs) (length (bs ++ rest)) (omega (arith, length-append bs rest)))
     ∙ (λ i. Some (take-append_seam bs rest i, drop-append_seam bs rest i))
 
-then_bytes : ℕ → List ℕ → List ℕ → Option ((Name × List ℕ) × List ℕ)
+unfoldable pub then_bytes : ℕ → List ℕ → List ℕ → Option ((Name × List ℕ) × List ℕ)
 then_bytes size name rest = followed_by (parted_at size rest) (λ bytes rest. Some ((name, bytes), rest))
 
-then_name : ℕ → ℕ → List ℕ → Option ((Name × List ℕ) × List ℕ)
+unfoldable pub then_name : ℕ → ℕ → List ℕ → Option ((Name × List ℕ) × List ℕ)
 then_name name_length size rest = followed_by (parted_at name_length rest) (then_bytes size)
 
-then_size : ℕ → List ℕ → Option ((Name × List ℕ) × List ℕ)
+unfoldable pub then_size : ℕ → List ℕ → Option ((Name × List ℕ) × List ℕ)
 then_size name_length rest = followed_by (word_at rest) (then_name name_length)
 
 -- a file that was written is read again

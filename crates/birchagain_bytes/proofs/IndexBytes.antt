@@ -1,23 +1,26 @@
 -- An index whose open segment has no document, before and after it was bytes.
-use Rattle.std.proofs.Common.{◌≡◌, ℕ, List, [], ◌∷◌, length, map, refl, sym, ap, ◌∙◌, arith}
+use Rattle.std.proofs.Common.{◌≡◌, ◌⊎◌, ℕ, List, [], ◌∷◌, Some, length, map, refl, sym, ap, subst, ◌∙◌, inl, inr, arith}
+use Rattle.std.specs.Prelude.{Err, IsErrOf, Ok, Result}
 use Rattle.qm_docset.specs.Members.{members_between}
 use Rattle.qm_folder.specs.Disk.{Contents}
-use Rattle.qm_index.specs.Indexed.{indexed}
+use Rattle.qm_index.specs.Indexed.{Indexed, indexed, statistics}
 use Rattle.qm_index.specs.OpenDocuments.{kept_of, segment_of}
 use Rattle.qm_index.specs.Opening.{IsFolderRefusal, IsOpened}
-use Rattle.qm_index.specs.Saving.{HoldsIndex}
+use Rattle.qm_index.specs.SavedIndex.{AreHeld}
+use Rattle.qm_index.specs.Saving.{HoldsIndex, manifest_with}
 use Rattle.qm_index.specs.declared.index.Index.{Index}
 use Rattle.qm_index.specs.declared.open_document.OpenDocument.{OpenDocument}
 use Rattle.qm_postings.specs.Segment.{Segment, empty_segment}
 use Rattle.qm_postings.specs.Statistics.{Searched, with_segments}
 use Rattle.qm_schema.specs.Schema.{FieldFacts}
-use Rattle.qm_store.specs.Manifest.{facts_of}
+use Rattle.qm_store.specs.Manifest.{IsManifest, ManifestFacts, facts_of, manifest_spelled}
 use Rattle.qm_store.specs.declared.kept_segment.KeptSegment.{KeptSegment}
 use Rattle.qm_store.specs.declared.store_error.StoreError.{StoreError}
 use Rattle.qm_store.specs.declared.store_error.StoreError.TheVariants.{Damaged, Failed, Memory as StoreMemory, OtherFile, OtherVersion}
-use Rattle.birchagain_bytes.specs.Bytes.{AreBytesOf}
+use Rattle.birchagain_bytes.specs.Bytes.{AreBytesOf, AreKnownHeld, IsIndexPacked}
 use Rattle.birchagain_bytes.specs.Refusals.{of_reading}
-use Rattle.birchagain_bytes.specs.declared.refusal.BytesRefusal.TheVariants.{Memory}
+use Rattle.birchagain_bytes.specs.declared.refusal.BytesRefusal.{BytesRefusal}
+use Rattle.birchagain_bytes.specs.declared.refusal.BytesRefusal.TheVariants.{Memory, OtherBlocks}
 use Rattle.birchagain_bytes.specs.Packed.{AreThere}
 use Rattle.birchagain_bytes.proofs.Packs.{nothing-known}
 
@@ -44,6 +47,31 @@ opened-same saved opened is none =
 pub same-facts : (s t : Searched) (n : ℕ) (kept : List KeptSegment) → with_segments s [] ≡ with_segments t [] → facts_of s n kept [] ≡ facts_of t n kept []
 same-facts s t n kept is = ap (λ (u : Searched). facts_of u n kept []) is
 
+-- what an index is told by hangs on what it holds and says alone
+manifest-same : (i j : Index) (kept : List KeptSegment) → indexed i ≡ indexed j → statistics i ≡ statistics j → manifest_with i kept ≡ manifest_with j kept
+manifest-same i j kept holds says =
+    same-facts i.searcher j.searcher i.block_len kept says ∙ ap (λ (x : Indexed). facts_of j.searcher x.current.block_len kept []) holds
+
+-- so bytes of one index are those of another that holds and says the same
+pub packed-same : (known : List ℕ) (i j : Index) (bytes : List ℕ) → indexed i ≡ indexed j → statistics i ≡ statistics j → IsIndexPacked known i bytes → IsIndexPacked known j bytes
+packed-same known i j bytes holds says is = record {
+  files = is.files;
+  spelled = is.spelled;
+  fit = is.fit;
+  kept = is.kept;
+  manifest = λ c there. is.manifest c there ∙ ap (λ (m : ManifestFacts). Some (manifest_spelled m)) (manifest-same i j is.kept holds says);
+  fits = subst IsManifest (manifest-same i j is.kept holds says) is.fits;
+  holds = λ c there held.
+      let h = is.holds c there (subst (λ (x : Indexed). AreKnownHeld known c is.kept x.ended) (sym holds) held) in
+      record {
+        kept = h.kept;
+        fits = subst IsManifest (manifest-same i j h.kept holds says) h.fits;
+        manifest = h.manifest ∙ ap (λ (m : ManifestFacts). Some (manifest_spelled m)) (manifest-same i j h.kept holds says);
+        segments = subst (λ (x : Indexed). AreHeld c h.kept x.ended) holds h.segments;
+        numbered = h.numbered;
+      };
+}
+
 -- a folder of all the files holds the index
 pub all-hold : (saved : Index) (bytes : List ℕ) (c : Contents) (are : AreBytesOf [] saved bytes) → AreThere c are.packed.files → HoldsIndex saved c
 all-hold saved bytes c are there = are.packed.holds c there (nothing-known c are.packed.kept (indexed saved).ended)
@@ -55,3 +83,16 @@ folder-refusal Failed is = refl
 folder-refusal OtherFile is = absurd is
 folder-refusal OtherVersion is = absurd is
 folder-refusal Damaged is = absurd is
+
+-- ---- an index of other blocks
+
+-- what is refused is not done
+pub not-done : {X : Type 0} (x : X) → IsErrOf (Ok x) OtherBlocks ⊎ IsErrOf (Ok x) Memory → ⊥
+not-done x (inl is) = absurd (cc is)
+not-done x (inr is) = absurd (cc is)
+
+-- a refusal that is passed on is the same
+pub passed-on : {X Y : Type 0} (r : Result Y BytesRefusal) (e : BytesRefusal) → r ≡ Err e → IsErrOf {T = X} (Err e) OtherBlocks ⊎ IsErrOf {T = X} (Err e) Memory →
+    IsErrOf r OtherBlocks ⊎ IsErrOf r Memory
+passed-on r e is (inl why) = let same : e ≡ OtherBlocks = cc in inl (is ∙ ap Err same)
+passed-on r e is (inr why) = let same : e ≡ Memory = cc in inr (is ∙ ap Err same)

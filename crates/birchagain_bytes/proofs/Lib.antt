@@ -2,9 +2,11 @@ mod MoreNames
 mod Packs
 mod FilesRead
 mod Taken
+mod OnlyFiles
 mod DeletedCount
 mod OpenCounts
 mod Listed
 mod Known
+mod ManifestTold
 mod IndexBytes
 mod SegmentFiles

@@ -9,7 +9,7 @@ use Rattle.qm_index.specs.SavedFiles.{IsNumberedBelow}
 use Rattle.qm_index.specs.SavedIndex.{AreHeld, IsHeld}
 use Rattle.qm_postings.specs.Segment.{Segment}
 use Rattle.qm_store.specs.declared.kept_segment.KeptSegment.{KeptSegment}
-use Rattle.birchagain_bytes.specs.Bytes.{AreKnownHeld, ArePacked, IsKnownHeld, IsPacked}
+use Rattle.birchagain_bytes.specs.Bytes.{AreKnownHeld, ArePacked, IsKnownHeld, IsPacked, IsUnlessKnown}
 use Rattle.birchagain_bytes.specs.Packed.{AreThere, File, IsFile, IsThere, file_bytes, files_bytes}
 
 -- ---- the parts of a list
@@ -61,6 +61,7 @@ none-packed known before = record {
   numbered = All-nil (IsNumberedBelow 18446744073709551615);
   as_many = refl;
   holds = λ c there held. tt;
+  unless_known = λ rising. All-nil (IsUnlessKnown known);
 }
 
 pub packed-more : (known : List ℕ) (ks : List KeptSegment) (ss : List Segment) (k : KeptSegment) (s : Segment) (before mid after : List ℕ) →
@@ -76,4 +77,5 @@ packed-more known ks ss k s before mid after are is = record {
       let parts = known-parts known c ks ss k s are.as_many held in
       held-more c ks ss k s (are.holds c (All-left (IsThere c) are.files is.files there) parts.0)
       (is.holds c (All-right (IsThere c) are.files is.files there) parts.1);
+  unless_known = λ rising. All-append (IsUnlessKnown known) are.files is.files (are.unless_known rising) (is.unless_known rising);
 }

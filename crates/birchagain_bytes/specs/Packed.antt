@@ -1,10 +1,10 @@
 -- Files as bytes, one behind the other.
-use Rattle.std.specs.Prelude.{◌≡◌, ◌<◌, ◌^◌, ◌==◌, ℕ, if◌then◌else◌, not, nat_eq, nat_lt, List, [], ◌∷◌, ◌++◌, All, IfSome, IsUtf8, Option, None, Some, Result, Ok, Err, drop, length, take, unwrap_or}
+use Rattle.std.specs.Prelude.{◌≡◌, ◌<◌, ◌^◌, ◌==◌, ℕ, if◌then◌else◌, not, nat_eq, nat_lt, List, [], ◌∷◌, ◌++◌, All, IfSome, IsUtf8, Option, None, Some, Result, Ok, Err, drop, length, map, take, unwrap_or}
 use Rattle.std.specs.Cmp.Lexicographic.{pointwise}
 use Rattle.std.specs.Int.{w64, from_le_bytes, to_le_bytes}
 use Rattle.std.specs.List.{flat_map}
 use Rattle.qm_folder.specs.Disk.{Contents}
-use Rattle.qm_folder.specs.Names.{Name}
+use Rattle.qm_folder.specs.Names.{AreDistinct, Name}
 use Rattle.qm_store.specs.Heads.{head_bytes}
 use Rattle.qm_store.specs.Items.{parted_at}
 use Rattle.qm_store.specs.RowBytes.{followed_by}
@@ -47,6 +47,13 @@ files_bytes fs = flat_map file_bytes fs
 -- the same behind the first bytes
 abbrev pub packed : List File → List ℕ
 packed fs = head_bytes packed_kind ++ files_bytes fs
+
+-- Some bytes are files, one behind the other, no two of which have one name.
+pub record AreFiles (bytes : List ℕ) : Type 0 where
+  pub files : List File
+  pub spelled : bytes ≡ packed files
+  pub fit : All IsFile files
+  pub distinct : AreDistinct (map (λ f. f.name) files)
 
 -- ---- read
 

@@ -1,11 +1,12 @@
 //! The files of an index, one behind the other.
 
 ghost use Rattle.std.specs.Prelude.{◌≡◌, IfErr, IfOk, IsTrue, OnOk, true};
+ghost use Rattle.std.specs.List.Sorted.{IsNonDecreasing};
 ghost use Rattle.std.specs.String.{string_bytes};
 ghost use Rattle.qm_index.specs.FileNames.{deletions_name, segment_name};
 ghost use Rattle.qm_index.specs.Indexed.{IsRefreshed, indexed};
 ghost use Rattle.qm_index.specs.Parts.{segments_of};
-ghost use Rattle.birchagain_bytes.specs.Bytes.{AreDeletionsAdded, ArePacked, IsIndexPacked, IsManifestAdded, IsPacked, IsSegmentAdded, is_known};
+ghost use Rattle.birchagain_bytes.specs.Bytes.{AreDeletionsAdded, AreLeftOut, ArePacked, IsIndexPacked, IsManifestAdded, IsPacked, IsSegmentAdded, is_known};
 ghost use Rattle.birchagain_bytes.specs.Refusals.{IsPackRefusal};
 
 use crate::deleted_count::deleted_count;
@@ -29,6 +30,8 @@ pub(crate) fn pack_index(
 ) -> Result<Vec<u8>, BytesRefusal>
     requires refreshed { IsRefreshed index.now }
     ensures packed { (indexed index.now).current.block_len ≡ 128 → IfOk result (λ out. IsIndexPacked known.now index.now out.items) }
+    ensures left_out { (indexed index.now).current.block_len ≡ 128 → IsNonDecreasing known.now
+        → IfOk result (λ out. AreLeftOut known.now out.items) }
     ensures refused { IfErr result IsPackRefusal }
 {
     let mut out = begin(alloc)?;
@@ -121,7 +124,9 @@ fn push_deletions(
         (AreDeletionsAdded known.now numbers.now.key numbers.now.deletions segment.now.segment out.old.items out.new.items) }
     ensures refused { IfErr result IsPackRefusal }
 {
-    if numbers.deletions == 0 {
+    // a segment of which nothing is deleted has no such file
+    let deleted = deleted_count(segment);
+    if numbers.deletions == 0 || deleted == 0 {
         return Err(BytesRefusal::NoNumber);
     }
     let name = deletions_name(alloc, numbers.deletions)?;
@@ -154,7 +159,8 @@ fn push_manifest(
 
 // Whether a number is one of these, which ascend.
 fn is_known(known: &[u64], number: u64) -> bool
-    ensures { IsTrue result → is_known known.now number ≡ true }
+    ensures found { IsTrue result → is_known known.now number ≡ true }
+    ensures all { IsNonDecreasing known.now → result ≡ is_known known.now number }
 {
     known.binary_search(&number).is_ok()
 }

@@ -1,7 +1,8 @@
 //! The numbers of the files of an index.
 
-ghost use Rattle.std.specs.Prelude.{◌≡◌, IfErr};
+ghost use Rattle.std.specs.Prelude.{◌≡◌, IfErr, OnOk};
 ghost use Rattle.qm_index.specs.Indexed.{IsRefreshed, indexed, statistics};
+ghost use Rattle.qm_index.specs.Saving.{IsSaved};
 ghost use Rattle.birchagain_bytes.specs.Refusals.{IsPackRefusal};
 
 use crate::manifest_keeper::ManifestKeeper;
@@ -19,6 +20,7 @@ pub(crate) fn number_files(
 ) -> Result<Vec<KeptSegment>, BytesRefusal>
     ensures documents { indexed index.new ≡ indexed index.old }
     ensures statistics { statistics index.new ≡ statistics index.old }
+    ensures saved { OnOk result (IsSaved index.new) }
     ensures refreshed { IsRefreshed index.old → IsRefreshed index.new }
     ensures refused { IfErr result IsPackRefusal }
 {

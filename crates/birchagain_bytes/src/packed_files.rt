@@ -2,7 +2,7 @@
 
 ghost use Rattle.std.specs.Prelude.{◌≡◌, ◌↔◌, List, All, Err, IfErr, IfOk, IsErrOf, IsOkUnless, OnOk, map, option_map};
 ghost use Rattle.qm_folder.specs.Names.{AreDistinct};
-ghost use Rattle.birchagain_bytes.specs.Packed.{AreThere, File, IsFile, head_at, packed};
+ghost use Rattle.birchagain_bytes.specs.Packed.{AreFiles, AreThere, File, IsFile, head_at, packed};
 ghost use Rattle.birchagain_bytes.specs.PackedFolder.{contents_in};
 ghost use Rattle.birchagain_bytes.specs.Refusals.{IsFilesRefusal};
 
@@ -29,6 +29,7 @@ impl<'a> PackedFiles<'a> {
         ensures distinct { (fs : List File) → All IsFile fs → bytes.now ≡ packed fs → OnOk result (AreDistinct (map (λ f. f.name) fs)) }
         ensures whole { (fs : List File) → All IsFile fs → bytes.now ≡ packed fs → AreDistinct (map (λ f. f.name) fs)
             → IsOkUnless result BytesRefusal.Memory }
+        ensures only { OnOk result (AreFiles bytes.now) }
         ensures other_file { IsErrOf result BytesRefusal.OtherFile ↔ (head_at bytes.now ≡ Err BytesRefusal.OtherFile) }
         ensures other_version { IsErrOf result BytesRefusal.OtherVersion ↔ (head_at bytes.now ≡ Err BytesRefusal.OtherVersion) }
         ensures refused { IfErr result IsFilesRefusal }

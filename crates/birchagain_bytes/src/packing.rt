@@ -67,6 +67,7 @@ pub(crate) fn read_head(bytes: &[u8]) -> Result<&[u8], BytesRefusal>
 pub(crate) fn read_file(bytes: &[u8]) -> Option<(&[u8], &[u8], &[u8])>
     ensures read { option_map (λ r. ((r.0.now, r.1.now), r.2.now)) result ≡ file_at bytes.now }
     ensures shorter { IfSome result (λ r. length r.2.now < length bytes.now) }
+    ensures fit { IfSome result (λ r. (length r.0.now < 2 ^ 64) × (length r.1.now < 2 ^ 64)) }
 {
     let (name_length, rest) = read_word(bytes)?;
     let (length, rest) = read_word(rest)?;
@@ -79,6 +80,7 @@ pub(crate) fn read_file(bytes: &[u8]) -> Option<(&[u8], &[u8], &[u8])>
 fn split_within(bytes: &[u8], count: u64) -> Option<(&[u8], &[u8])>
     ensures read { option_map (λ r. (r.0.now, r.1.now)) result ≡ parted_at count bytes.now }
     ensures shorter { IfSome result (λ r. length r.1.now ≤ length bytes.now) }
+    ensures fit { IfSome result (λ r. length r.0.now < 2 ^ 64) }
 {
     if count > bytes.len() as u64 {
         return None;

@@ -1,12 +1,12 @@
 //! Bytes of which an index is made.
 
-ghost use Rattle.std.specs.Prelude.{◌≡◌, ◌↔◌, [], Err, IfErr, IfOk, IsErrOf, IsOkUnless, Some};
+ghost use Rattle.std.specs.Prelude.{◌≡◌, ◌≢◌, ◌↔◌, ◌⊎◌, [], Err, IfErr, IfOk, IsErrOf, IsOkUnless, OnOk, Some};
 ghost use Rattle.std.specs.List.Sorted.{IsNonDecreasing};
 ghost use Rattle.qm_index.specs.Indexed.{indexed, statistics};
 ghost use Rattle.qm_index.specs.declared.index.Index.{Index};
 ghost use Rattle.qm_store.specs.Manifest.{IsManifest, ManifestFacts, manifest_spelled};
-ghost use Rattle.birchagain_bytes.specs.Bytes.{AreBytesOf};
-ghost use Rattle.birchagain_bytes.specs.Packed.{head_at};
+ghost use Rattle.birchagain_bytes.specs.Bytes.{AreBytesOf, AreOfOtherBlocks};
+ghost use Rattle.birchagain_bytes.specs.Packed.{AreFiles, head_at};
 ghost use Rattle.birchagain_bytes.specs.PackedFolder.{contents_in};
 ghost use Rattle.birchagain_bytes.specs.Refusals.{IsBlocksRefusal, IsFromBytesRefusal};
 
@@ -32,6 +32,10 @@ pub fn from_bytes(alloc: Global, bytes: &[u8]) -> Result<Index, BytesRefusal>
     // What is the bytes of an index is refused for want of memory alone; its norms do not fall, as no searcher's do.
     ensures whole { (saved : Index) → AreBytesOf [] saved bytes.now → IsNonDecreasing (statistics saved).norms
         → IsOkUnless result BytesRefusal.Memory }
+    ensures other_blocks { (saved : Index) → AreOfOtherBlocks saved bytes.now
+        → IsErrOf result BytesRefusal.OtherBlocks ⊎ IsErrOf result BytesRefusal.Memory }
+    // Nothing else is read than files, each once.
+    ensures only { OnOk result (AreFiles bytes.now) }
     ensures other_file { IsErrOf result BytesRefusal.OtherFile ↔ (head_at bytes.now ≡ Err BytesRefusal.OtherFile) }
     ensures other_version { head_at bytes.now ≡ Err BytesRefusal.OtherVersion → IsErrOf result BytesRefusal.OtherVersion }
     ensures refused { IfErr result IsFromBytesRefusal }
@@ -49,6 +53,8 @@ pub fn from_bytes(alloc: Global, bytes: &[u8]) -> Result<Index, BytesRefusal>
 fn check_blocks(alloc: Global, files: &PackedFiles<'_>) -> Result<(), BytesRefusal>
     ensures whole { (m : ManifestFacts) → IsManifest m → m.block_len ≡ 128 → contents_in files.now.files MANIFEST.now ≡ Some (manifest_spelled m)
         → IsOkUnless result BytesRefusal.Memory }
+    ensures others { (m : ManifestFacts) → IsManifest m → m.block_len ≢ 128 → contents_in files.now.files MANIFEST.now ≡ Some (manifest_spelled m)
+        → IsErrOf result BytesRefusal.OtherBlocks ⊎ IsErrOf result BytesRefusal.Memory }
     ensures refused { IfErr result IsBlocksRefusal }
 {
     let Some(bytes) = files.file(MANIFEST) else {

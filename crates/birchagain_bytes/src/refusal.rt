@@ -1,6 +1,6 @@
 //! Why an index was not made bytes, or bytes no index, and the statuses by which C learns of it.
 
-ghost use Rattle.std.specs.Prelude.{◌≡◌};
+ghost use Rattle.std.specs.Prelude.{◌≡◌, ◌≤◌, ◌↔◌, IsSome};
 ghost use Rattle.birchagain_bytes.specs.Refusals.{of_reading, of_writing};
 
 use qm_schema::QueryError;
@@ -90,7 +90,9 @@ pub(crate) fn of_reading(error: StoreError) -> BytesRefusal
 }
 
 /// What a status of these calls says, in English; none of another status.
-pub fn status_text(status: u32) -> Option<&'static str> {
+pub fn status_text(status: u32) -> Option<&'static str>
+    ensures { IsSome result ↔ ((80 ≤ status) × (status ≤ 86)) }
+{
     match status {
         80 => Some("the bytes are no index"),
         81 => Some("the bytes are an index of another version"),

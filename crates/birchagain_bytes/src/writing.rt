@@ -1,9 +1,11 @@
 //! An index that is made bytes.
 
 ghost use Rattle.std.specs.Prelude.{◌≡◌, ◌≢◌, ◌↔◌, ◌++◌, [], List, ℕ, All, IfErr, IfOk, IsErrOf, OnErr, OnOk, drop, length, map};
+ghost use Rattle.std.specs.List.Sorted.{IsNonDecreasing};
 ghost use Rattle.qm_folder.specs.Names.{AreDistinct};
 ghost use Rattle.qm_index.specs.Indexed.{indexed, statistics};
-ghost use Rattle.birchagain_bytes.specs.Bytes.{AreBytesOf};
+ghost use Rattle.qm_index.specs.Saving.{IsSaved};
+ghost use Rattle.birchagain_bytes.specs.Bytes.{AreBytesOf, AreLeftOut};
 ghost use Rattle.birchagain_bytes.specs.Packed.{File, IsFile, packed};
 ghost use Rattle.birchagain_bytes.specs.Refusals.{IsPackRefusal, IsToBytesRefusal, IsWriteRefusal};
 
@@ -34,6 +36,10 @@ pub fn to_bytes(
     known: &[u64],
 ) -> Result<Vec<u8>, BytesRefusal>
     ensures bytes { (indexed index.old).current.block_len ≡ 128 → IfOk result (λ bytes. AreBytesOf known.now index.old bytes.items) }
+    ensures left_out { (indexed index.old).current.block_len ≡ 128 → IsNonDecreasing known.now
+        → IfOk result (λ bytes. AreLeftOut known.now bytes.items) }
+    // each ended segment has the numbers of its files
+    ensures saved { OnOk result (IsSaved index.new) }
     ensures open { IsErrOf result BytesRefusal.OpenSegment ↔ ((indexed index.old).current.documents ≢ []) }
     ensures documents { indexed index.new ≡ indexed index.old }
     ensures statistics { statistics index.new ≡ statistics index.old }
@@ -77,6 +83,9 @@ pub fn write_bytes(
 ) -> Result<(), BytesRefusal>
     ensures bytes { (indexed index.old).current.block_len ≡ 128 → OnOk result ((bytes : List ℕ) × AreBytesOf known.now index.old bytes
         × (size.new ≡ length bytes) × (out.new ≡ bytes ++ drop size.new out.old)) }
+    ensures left_out { (indexed index.old).current.block_len ≡ 128 → IsNonDecreasing known.now
+        → OnOk result ((bytes : List ℕ) × AreLeftOut known.now bytes × (size.new ≡ length bytes) × (out.new ≡ bytes ++ drop size.new out.old)) }
+    ensures saved { OnOk result (IsSaved index.new) }
     ensures untouched { OnErr result (out.new ≡ out.old) }
     ensures size { ¬ IsErrOf result BytesRefusal.NoRoom → OnErr result (size.new ≡ size.old) }
     ensures open { IsErrOf result BytesRefusal.OpenSegment ↔ ((indexed index.old).current.documents ≢ []) }
