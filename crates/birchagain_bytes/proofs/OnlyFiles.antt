@@ -1,5 +1,5 @@
 -- What is read as files, one behind the other, is files that were written so.
-use Rattle.std.proofs.Common.{◌≡◌, ℕ, ◌+◌, ◌<◌, ◌≤◌, ◌^◌, Bool, true, false, not, cond, nat_eq, nat_lt, nat_le, List, [], ◌∷◌, ◌++◌, All, Option, None, Some, drop, get_or, length, map, take, append-nil, append_assoc, refl, ap, sym, subst, ◌∙◌, arith, inl, inr}
+use Rattle.std.proofs.Common.{◌≡◌, ℕ, ◌+◌, ◌<◌, ◌^◌, Bool, true, false, not, cond, nat_eq, nat_lt, nat_le, List, [], ◌∷◌, ◌++◌, All, Option, None, Some, drop, get_or, length, take, append-nil, append_assoc, refl, ap, sym, subst, ◌∙◌, arith, inl, inr}
 use Rattle.std.specs.Prelude.{◌==◌, IsUtf8, Result, Ok, Err}
 use Rattle.std.specs.Cmp.Lexicographic.{pointwise, same_text}
 use Rattle.std.specs.Int.{w64, from_le_bytes, to_le_bytes}
@@ -10,7 +10,6 @@ use Rattle.std.proofs.lemmas.List.Concat.{flat_map-cons}
 use Rattle.std.proofs.lemmas.List.Elements.{All-append, All-cons, All-nil}
 use Rattle.std.proofs.lemmas.Nat.{le_bytes_8}
 use Rattle.std.proofs.lemmas.Option.{same_Some}
-use Rattle.qm_folder.specs.Names.{Name}
 use Rattle.qm_store.specs.Heads.{head_bytes}
 use Rattle.qm_store.specs.Items.{parted_at}
 use Rattle.qm_store.specs.RowBytes.{followed_by}
