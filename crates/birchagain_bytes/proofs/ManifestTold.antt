@@ -1,6 +1,6 @@
 -- What a manifest says that was written, and why it is not read again.
 use Rattle.std.proofs.Common.{◌≡◌, ℕ, List, Option, Some, ap, refl, sym, ◌∙◌}
-use Rattle.std.specs.Prelude.{Result, Ok, Err}
+use Rattle.std.specs.Prelude.{Result, Ok}
 use Rattle.std.proofs.lemmas.Option.{same_Some}
 use Rattle.qm_store.proofs.ManifestRead.{manifest-read}
 use Rattle.qm_store.proofs.SameOk.{same-ok}

@@ -1,9 +1,9 @@
 -- Names with one behind them.
-use Rattle.std.proofs.Common.{◌≡◌, ◌||◌, Bool, true, false, List, [], ◌∷◌, ◌++◌, refl, sym, ap, ◌∙◌}
+use Rattle.std.proofs.Common.{◌≡◌, ◌||◌, Bool, true, false, List, [], ◌∷◌, ◌++◌, refl, ap, ◌∙◌}
 use Rattle.std.specs.Str.{bytes_eq}
 use Rattle.qm_folder.specs.Names.{AreDistinct, Name, is_among}
 use Rattle.std.proofs.lemmas.Bool.{both_ways}
-use Rattle.qm_folder.proofs.NameLists.{neither, none_of_both, other_name, same_itself, same_name}
+use Rattle.qm_folder.proofs.NameLists.{neither, none_of_both, other_name, same_itself}
 
 or_false : (a : Bool) → (a || false) ≡ a
 or_false true = refl

@@ -1,5 +1,5 @@
 -- What is read as files, one behind the other, is files that were written so.
-use Rattle.std.proofs.Common.{◌≡◌, ℕ, ◌+◌, ◌<◌, ◌≤◌, ◌^◌, Bool, true, false, not, cond, nat_eq, nat_lt, nat_le, List, [], ◌∷◌, ◌++◌, All, Option, None, Some, drop, get_or, length, map, take, append-nil, append_assoc, refl, ap, sym, subst, ◌∙◌, arith, inl, inr}
+use Rattle.std.proofs.Common.{◌≡◌, ℕ, ◌+◌, ◌<◌, ◌^◌, Bool, true, false, not, cond, nat_eq, nat_lt, nat_le, List, [], ◌∷◌, ◌++◌, All, Option, None, Some, drop, get_or, length, take, append-nil, append_assoc, refl, ap, sym, subst, ◌∙◌, arith, inl, inr}
 use Rattle.std.specs.Prelude.{◌==◌, IsUtf8, Result, Ok, Err}
 use Rattle.std.specs.Cmp.Lexicographic.{pointwise, same_text}
 use Rattle.std.specs.Int.{w64, from_le_bytes, to_le_bytes}
@@ -10,13 +10,12 @@ use Rattle.std.proofs.lemmas.List.Concat.{flat_map-cons}
 use Rattle.std.proofs.lemmas.List.Elements.{All-append, All-cons, All-nil}
 use Rattle.std.proofs.lemmas.Nat.{le_bytes_8}
 use Rattle.std.proofs.lemmas.Option.{same_Some}
-use Rattle.qm_folder.specs.Names.{Name}
 use Rattle.qm_store.specs.Heads.{head_bytes}
 use Rattle.qm_store.specs.Items.{parted_at}
 use Rattle.qm_store.specs.RowBytes.{followed_by}
 use Rattle.qm_store.specs.Words.{word_at}
 use Rattle.birchagain_bytes.proofs.FilesRead.{then_bytes, then_name, then_size}
-use Rattle.birchagain_bytes.proofs.Taken.{AreTaken, all-distinct}
+use Rattle.birchagain_bytes.proofs.Taken.{AreTaken, all-distinct, same-bytes, same-name, same-rest}
 use Rattle.birchagain_bytes.specs.PackedFolder.{Files}
 use Rattle.birchagain_bytes.specs.Packed.{AreFiles, File, IsFile, file_at, file_bytes, files_bytes, head_at, named_bytes, packed, packed_kind}
 use Rattle.birchagain_bytes.specs.declared.refusal.BytesRefusal.{BytesRefusal}
@@ -85,9 +84,18 @@ joined bs a b c d r1 r2 r3 rest one two three four =
     one ∙ ap (λ (l : List ℕ). a ++ l) (two ∙ ap (λ (l : List ℕ). b ++ l) (three ∙ ap (λ (l : List ℕ). c ++ l) four ∙ sym (append_assoc c d rest)) ∙ sym (append_assoc b (c ++ d) rest))
     ∙ sym (append_assoc a (b ++ (c ++ d)) rest)
 
+-- lengths in front of a name and of bytes are those of a file
+spelled-so : (bs front back behind name bytes rest : List ℕ) (n m : ℕ) → bs ≡ (to_le_bytes w64 n ++ (to_le_bytes w64 m ++ (front ++ back))) ++ behind →
+    length front ≡ n → length back ≡ m → front ≡ name → back ≡ bytes → behind ≡ rest → bs ≡ named_bytes name bytes ++ rest
+unfolding named_bytes
+spelled-so bs front back behind name bytes rest n m is few few_more same_name same_bytes same_rest =
+    let P : ℕ → ℕ → Type 0 = λ k l. bs ≡ (to_le_bytes w64 k ++ (to_le_bytes w64 l ++ (front ++ back))) ++ behind in
+    let counted : P (length front) (length back) = subst (P (length front)) (sym few_more) (subst (λ k. P k m) (sym few) is) in
+    counted ∙ (λ i. named_bytes (same_name i) (same_bytes i) ++ same_rest i)
+
 -- a file that was read was written
 pub file-back : (bs name bytes rest : List ℕ) → AreSmall bs → file_at bs ≡ Some ((name, bytes), rest) → bs ≡ named_bytes name bytes ++ rest
-unfolding file_at named_bytes then_bytes then_name then_size
+unfolding file_at then_bytes then_name then_size
 file-back bs name bytes rest small is =
     let one = stepped (word_at bs) then_size ((name, bytes), rest) is in
     let two = stepped (word_at one.rest) (then_name one.first) ((name, bytes), rest) one.later in
@@ -97,11 +105,9 @@ file-back bs name bytes rest small is =
     let behind = word-back one.rest two.first two.rest (small-right (to_le_bytes w64 one.first) one.rest (subst AreSmall whole small)) two.is in
     let named = parted-back one.first two.rest three.first three.rest three.is in
     let filed = parted-back two.first three.rest four.first four.rest four.is in
-    let same : ◌≡◌ {A = (Name × List ℕ) × List ℕ} ((three.first, four.first), four.rest) ((name, bytes), rest) = same_Some _ _ four.later in
     let own = joined bs (to_le_bytes w64 one.first) (to_le_bytes w64 two.first) three.first four.first one.rest two.rest three.rest four.rest whole behind named.whole filed.whole in
-    own
-    ∙ (λ i. (to_le_bytes w64 (sym named.counted i) ++ (to_le_bytes w64 (sym filed.counted i) ++ (three.first ++ four.first))) ++ four.rest)
-    ∙ ap (λ (p : (Name × List ℕ) × List ℕ). named_bytes p.0.0 p.0.1 ++ p.1) same
+    spelled-so bs three.first four.first four.rest name bytes rest one.first two.first own named.counted filed.counted
+    (same-name _ _ _ _ _ _ four.later) (same-bytes _ _ _ _ _ _ four.later) (same-rest _ _ _ _ _ _ four.later)
 
 ok-of : List ℕ → Result (List ℕ) BytesRefusal → List ℕ
 ok-of d (Ok x) = x

@@ -1,5 +1,5 @@
 -- Files of segments that are added one behind the other.
-use Rattle.std.proofs.Common.{◌≡◌, ℕ, ◌+◌, ◌==◌, ◌||◌, Bool, true, false, suc, List, [], ◌∷◌, ◌++◌, All, Some, length, map, take, append-nil, append_assoc, refl, sym, ap, subst, ◌∙◌, arith}
+use Rattle.std.proofs.Common.{◌≡◌, ℕ, List, [], ◌∷◌, ◌++◌, All, length, take, append-nil, append_assoc, refl, sym, ap, subst, ◌∙◌, arith}
 use Rattle.std.proofs.lemmas.Bool.{false≢true}
 use Rattle.std.proofs.lemmas.Grind.{flat_map-append}
 use Rattle.std.proofs.lemmas.List.{length-append, take-append-le, take_all}
@@ -10,7 +10,7 @@ use Rattle.qm_index.specs.SavedIndex.{AreHeld, IsHeld}
 use Rattle.qm_postings.specs.Segment.{Segment}
 use Rattle.qm_store.specs.declared.kept_segment.KeptSegment.{KeptSegment}
 use Rattle.birchagain_bytes.specs.Bytes.{AreKnownHeld, ArePacked, IsKnownHeld, IsPacked, IsUnlessKnown}
-use Rattle.birchagain_bytes.specs.Packed.{AreThere, File, IsFile, IsThere, file_bytes, files_bytes}
+use Rattle.birchagain_bytes.specs.Packed.{File, IsFile, IsThere, file_bytes, files_bytes}
 
 -- ---- the parts of a list
 

@@ -1,7 +1,6 @@
 -- The files of a segment, of several, and of an index, as they are added.
-use Rattle.std.proofs.Common.{◌≡◌, ℕ, ◌<◌, ◌≤◌, ◌^◌, false, true, List, [], ◌∷◌, ◌++◌, All, None, Some, length, append-nil, append_assoc, refl, sym, ap, subst, ◌∙◌, inl, inr, arith}
+use Rattle.std.proofs.Common.{◌≡◌, ℕ, ◌<◌, ◌≤◌, ◌^◌, false, true, List, [], ◌∷◌, ◌++◌, All, None, Some, length, append-nil, append_assoc, refl, sym, ap, subst, ◌∙◌, inl, inr}
 use Rattle.std.specs.Prelude.{IsUtf8}
-use Rattle.std.specs.List.{flat_map}
 use Rattle.std.specs.List.Sorted.{IsNonDecreasing}
 use Rattle.std.proofs.lemmas.Bool.{false≢true}
 use Rattle.std.proofs.lemmas.Grind.{flat_map-append}
@@ -14,7 +13,7 @@ use Rattle.qm_index.specs.FileNames.{deletions_name, segment_name}
 use Rattle.qm_index.specs.Indexed.{indexed}
 use Rattle.qm_index.specs.SavedFiles.{IsNumberedBelow}
 use Rattle.qm_index.specs.SavedIndex.{AreHeld}
-use Rattle.qm_index.specs.Saving.{HoldsIndex, manifest_with}
+use Rattle.qm_index.specs.Saving.{manifest_with}
 use Rattle.qm_index.specs.declared.index.Index.{Index}
 use Rattle.qm_postings.specs.Reading.{Reader}
 use Rattle.qm_postings.specs.Segment.{Segment, deleted_documents}

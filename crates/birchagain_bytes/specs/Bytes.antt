@@ -56,7 +56,8 @@ pub record IsSegmentAdded (known : List ℕ) (key : ℕ) (s : Segment) (before a
   pub file : File
   pub added : after ≡ before ++ file_bytes file
   pub fit : IsFile file
-  pub holds : (c : Contents) → IsThere c file → (is_known known key ≡ true → IsFileOf key s (c (segment_name key))) → IsFileOf key s (c (segment_name key))
+  pub holds : (c : Contents) → IsThere c file → (is_known known key ≡ true → IsFileOf key s (c (segment_name key)))
+      → IsFileOf key s (c (segment_name key))
   pub unless_known : IsNonDecreasing known → IsUnlessKnown known file
 
 -- The same of the file of a number that tells what is deleted of it.

@@ -1,5 +1,5 @@
 -- Files as bytes, one behind the other.
-use Rattle.std.specs.Prelude.{◌≡◌, ◌<◌, ◌^◌, ◌==◌, ℕ, if◌then◌else◌, not, nat_eq, nat_lt, List, [], ◌∷◌, ◌++◌, All, IfSome, IsUtf8, Option, None, Some, Result, Ok, Err, drop, length, map, take, unwrap_or}
+use Rattle.std.specs.Prelude.{◌≡◌, ◌<◌, ◌^◌, ◌==◌, ℕ, if◌then◌else◌, not, nat_eq, nat_lt, List, [], ◌∷◌, ◌++◌, All, IfSome, IsUtf8, Option, Some, Result, Ok, Err, drop, length, map, take, unwrap_or}
 use Rattle.std.specs.Cmp.Lexicographic.{pointwise}
 use Rattle.std.specs.Int.{w64, from_le_bytes, to_le_bytes}
 use Rattle.std.specs.List.{flat_map}

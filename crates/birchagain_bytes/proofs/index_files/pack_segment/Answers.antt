@@ -1,4 +1,4 @@
-use Rattle.std.proofs.Common.{◌≡◌, arith, refl, rules, subst, sym}
+use Rattle.std.proofs.Common.{arith, refl, rules, subst, sym}
 use Rattle.std.proofs.lemmas.List.{nil_from_length}
 use Rattle.qm_index.specs.SavedFiles.{IsNumberedBelow}
 use Rattle.qm_store.specs.declared.kept_segment.KeptSegment.{KeptSegment}

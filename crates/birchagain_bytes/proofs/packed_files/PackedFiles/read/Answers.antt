@@ -49,16 +49,16 @@ loop-rest-init c = record {
 pub loop-rest-preserved : goal.loop-rest-preserved
 loop-rest-preserved c = record {
   taken = λ fs fit is.
-          let m = c.loop-rest.files in
-          let rest = c.loop-rest.rest.now in
-          let are = c.loop-rest.invariant.taken fs fit is in
-          let next = next-file m rest fs are fit (sym c.is_empty.ensures ∙ c.loop-rest-test.true) in
-          let key = c.in_ok-name.name in
-          let same = c.in-Some.ensures.read ∙ next.read in
-          let name : string_bytes key ≡ next.file.name = c.in_ok-name.ensures.ok ∙ c.in-Ok.ensures.cases.0 ∙ same-name _ _ _ _ _ _ same in
-          let fresh = none-seen m (string_bytes key) (ap is_some (sym c.in_ok-insert.ensures.old) ∙ sym c.is_some.ensures ∙ c.if-is_some.false) in
-          taken-more key c.in-Some.file m c.insert.new.self c.in_ok-insert.ensures.updates rest c.in-Some.behind.now fs next.file next.others are next.left
-          (same-rest _ _ _ _ _ _ same) name (same-bytes _ _ _ _ _ _ same) fresh;
+      let m = c.loop-rest.files in
+      let rest = c.loop-rest.rest.now in
+      let are = c.loop-rest.invariant.taken fs fit is in
+      let next = next-file m rest fs are fit (sym c.is_empty.ensures ∙ c.loop-rest-test.true) in
+      let key = c.in_ok-name.name in
+      let same = c.in-Some.ensures.read ∙ next.read in
+      let name : string_bytes key ≡ next.file.name = c.in_ok-name.ensures.ok ∙ c.in-Ok.ensures.cases.0 ∙ same-name _ _ _ _ _ _ same in
+      let fresh = none-seen m (string_bytes key) (ap is_some (sym c.in_ok-insert.ensures.old) ∙ sym c.is_some.ensures ∙ c.if-is_some.false) in
+      taken-more key c.in-Some.file m c.insert.new.self c.in_ok-insert.ensures.updates rest c.in-Some.behind.now fs next.file next.others are next.left
+      (same-rest _ _ _ _ _ _ same) name (same-bytes _ _ _ _ _ _ same) fresh;
   read = more-read c.args.bytes.now c.loop-rest.rest.now c.in-Some.name.now c.in-Some.file.now c.in-Some.behind.now c.loop-rest.invariant.read
       c.in-Ok.ensures.cases.1 c.in-Some.ensures.fit.0 c.in-Some.ensures.fit.1 (sym c.in-Some.ensures.read);
 }

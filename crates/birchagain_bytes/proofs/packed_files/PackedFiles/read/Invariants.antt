@@ -1,5 +1,5 @@
 -- The files before what is left are there, each once.
-use Rattle.std.proofs.Common.{◌≡◌, ℕ, List, All, length}
+use Rattle.std.proofs.Common.{◌≡◌, List, All, length}
 use Rattle.birchagain_bytes.specs.Packed.{File, IsFile, packed}
 use Rattle.birchagain_bytes.proofs.OnlyFiles.{AreRead}
 use Rattle.birchagain_bytes.proofs.Taken.{AreTaken}
