@@ -31,13 +31,16 @@ AreTold laid bytes words = (bytes ≡ length laid.bytes.items) × (words ≡ len
 
 -- the fronts of two arrays have these words, and the rest is what it was
 pub record HaveWords (laid : LaidWords) (bytes bytes_after ends ends_after : List ℕ) : Type 0 where
-  pub bytes : bytes_after ≡ laid.bytes.items ++ drop (length laid.bytes.items) bytes
-  pub ends : ends_after ≡ laid.ends.items ++ drop (length laid.ends.items) ends
+  pub letters : bytes_after ≡ laid.bytes.items ++ drop (length laid.bytes.items) bytes
+  pub places : ends_after ≡ laid.ends.items ++ drop (length laid.ends.items) ends
+
+-- arrays of these lengths have less room than words take
+abbrev pub HaveLess : ℕ → ℕ → LaidWords → Type 0
+HaveLess bytes words laid = (bytes < length laid.bytes.items) ⊎ (words < length laid.ends.items)
 
 -- there is less room than the words of a query take
 abbrev pub IsTooLittle : ℕ → List ℕ → ℕ → ℕ → Type 0
-IsTooLittle number text bytes words =
-    (laid : LaidWords) × AreWordsOf number text laid × ((bytes < length laid.bytes.items) ⊎ (words < length laid.ends.items))
+IsTooLittle number text bytes words = (laid : LaidWords) × AreWordsOf number text laid × HaveLess bytes words laid
 
 -- why its words may not be told
 abbrev pub IsWordsRefusal : ℕ → List ℕ → ℕ → ℕ → QueryRefusal → Type 0

@@ -3,7 +3,7 @@
 //! Where a query isn't understood is told by a call of its own, so that all others have a parameter fewer.
 
 ghost use Rattle.std.specs.Prelude.{◌≡◌, ◌≢◌, ◌<◌, ◌≤◌, IfErr, IfOk, IsErrOf, OnErr, OnOk, length};
-ghost use Rattle.birchagain_c.specs.QueryTexts.{AreTold, AreWordsOf, HaveWords, IsUnderstood, IsUntypedAt, IsWordsRefusal};
+ghost use Rattle.birchagain_c.specs.QueryTexts.{AreTold, AreWordsOf, HaveLess, HaveWords, IsUnderstood, IsUntypedAt, IsWordsRefusal};
 ghost use Rattle.birchagain_c.specs.Statuses.{IsTextStatus};
 ghost use Rattle.birchagain_queries.specs.Found.{IsQueryRefusal};
 ghost use Rattle.birchagain_queries.specs.declared.laid_words.LaidWords.{LaidWords};
@@ -56,13 +56,30 @@ fn write_words(
     ensures refused { IfErr result (IsWordsRefusal language text.now (length bytes.old) (length ends.old)) }
 {
     let laid = laid_words(alloc, language, text)?;
-    *bytes_filled = laid.bytes.len();
-    *words = laid.ends.len();
-    if bytes.len() < laid.bytes.len() || ends.len() < laid.ends.len() {
+    write_laid(&laid, bytes, ends, bytes_filled, words)
+}
+
+// Writes words that stand in bytes, and in any case how many bytes and words they are.
+fn write_laid(
+    laid: &LaidWords,
+    bytes: &mut [u8],
+    ends: &mut [usize],
+    bytes_filled: &mut usize,
+    words: &mut usize,
+) -> Result<(), QueryRefusal>
+    ensures told { AreTold laid.now bytes_filled.new words.new }
+    ensures written { OnOk result (HaveWords laid.now bytes.old bytes.new ends.old ends.new) }
+    ensures untouched { OnErr result ((bytes.new ≡ bytes.old) × (ends.new ≡ ends.old)) }
+    ensures refused { IfErr result (λ why. (why ≡ QueryRefusal.NoRoom) × HaveLess (length bytes.old) (length ends.old) laid.now) }
+{
+    let (letters, places) = (laid.bytes.as_slice(), laid.ends.as_slice());
+    *bytes_filled = letters.len();
+    *words = places.len();
+    if bytes.len() < letters.len() || ends.len() < places.len() {
         return Err(QueryRefusal::NoRoom);
     }
-    bytes[..laid.bytes.len()].copy_from_slice(&laid.bytes);
-    ends[..laid.ends.len()].copy_from_slice(&laid.ends);
+    bytes[..letters.len()].copy_from_slice(letters);
+    ends[..places.len()].copy_from_slice(places);
     Ok(())
 }
 
