@@ -1,4 +1,4 @@
-use Rattle.std.proofs.Common.{◌≡◌, ap, length, subst, sym, ◌∙◌, refl}
+use Rattle.std.proofs.Common.{Err, ap, length, subst, sym, ◌∙◌}
 use Rattle.qm_index.specs.Numbers.{count_of}
 use Rattle.std.proofs.lemmas.List.Concat.{length-flat_map}
 use Rattle.qm_index.specs.Indexed.{all_segments, indexed, statistics}
@@ -40,6 +40,6 @@ unreachable-requires c =
     let limit = length c.args.out.now in
     let first = subst (λ l. AreBestIn q (indexed c.args.first.now) (statistics c.args.first.now) limit (listed l)) (sym c.deref.ensures.value) c.in_ok-best.ensures.best in
     let second = subst (λ l. AreBestIn q (indexed c.args.second.now) (statistics c.args.second.now) limit (listed l)) (sym c.deref-2.ensures.value) c.in_ok-others.ensures.best in
-    (c.in-Err-NotRanked.ensures.not_ranked.0 ?)
+    c.in-Err-NotRanked.ensures.not_ranked.0 (ap Err c.in-Err-NotRanked.field-0-is)
     (record { first = ranked-in q (indexed c.args.first.now) (statistics c.args.first.now) limit c.deref.result.now first;
       second = ranked-in q (indexed c.args.second.now) (statistics c.args.second.now) limit c.deref-2.result.now second; })

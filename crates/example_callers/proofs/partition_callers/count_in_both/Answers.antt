@@ -1,4 +1,4 @@
-use Rattle.std.proofs.Common.{◌≡◌, ◌+◌, Option, None, Some, IfSome, ℕ, subst, sym}
+use Rattle.std.proofs.Common.{◌+◌, Option, None, Some, IfSome, ℕ, subst, sym}
 use Rattle.std.specs.Option.{SomeIff}
 use Rattle.qm_index.specs.Indexed.{Indexed, indexed}
 use Rattle.qm_script.specs.Script as language
