@@ -1,5 +1,5 @@
 -- Parts of an open segment that are joined, and the one part that is left at last.
-use Rattle.std.proofs.Common.{◌≡◌, ℕ, suc, ◌+◌, ◌-◌, ◌<◌, ◌≤◌, Bool, false, List, [], ◌∷◌, ◌++◌, All, length, map, take, drop, set, get_or, vec_len}
+use Rattle.std.proofs.Common.{◌≡◌, ℕ, suc, ◌+◌, ◌-◌, ◌<◌, ◌≤◌, false, List, [], ◌∷◌, ◌++◌, All, length, map, take, drop, set, get_or, vec_len}
 use Rattle.std.proofs.Common.{append_assoc, append-nil, ap, sym, ◌∙◌, arith, refl, subst}
 use Rattle.std.specs.List.{remove}
 use Rattle.std.proofs.lemmas.List.{drop-append-le, drop-take, drop_all, get_or_append_left, get_or-append-add, length-append, length-drop, length-map, map-append, take-append-drop, take-take, take_all}
@@ -37,9 +37,6 @@ marked-append xs ys =
     ∙ members_between-shift (is_marked (xs ++ ys)) (length xs) 0 (length ys)
     ∙ ap (map (λ d. length xs + d)) (members_between-same (λ d. is_marked (xs ++ ys) (length xs + d)) (is_marked ys) 0 (length ys) (λ d _ _. behind d)))
   where
-    flags : List OpenDocument → List Bool
-    flags ds = map (λ x. x.is_deleted) ds
-
     front : (d : ℕ) → d < length xs → is_marked (xs ++ ys) d ≡ is_marked xs d
     front d below =
         ap (λ bs. get_or bs d false) (map-append (λ (x : OpenDocument). x.is_deleted) xs ys)

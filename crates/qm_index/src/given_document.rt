@@ -1,4 +1,6 @@
 //! A document as it is handed to an index.
+//!
+//! Texts come first and terms behind them, since a term says its places itself.
 
 ghost use Rattle.std.specs.Prelude.{◌≡◌, ◌∷◌, ◌++◌, [], IfOk, IsOkUnless, OnErr, OnOk};
 ghost use Rattle.qm_index.specs.Texts.{texts_draft};

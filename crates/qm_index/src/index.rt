@@ -1,7 +1,8 @@
 //! Segments that are searched, of which the last takes documents.
 //!
 //! Why it is so:
-//! - The texts of the open segment are kept, since a built segment takes no documents; those of ended ones are dropped.
+//! - What documents of the open segment were given is kept, since a built segment takes no documents; that of ended ones
+//!   is dropped.
 //! - The open segment is searched in parts, each at least twice as long as the next, so that a refresh builds few
 //!   documents again.
 //! - `searcher` asks for a refresh in place of making one: what it hands out is borrowed, and takes no memory.

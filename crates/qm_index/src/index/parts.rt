@@ -1,4 +1,5 @@
-//! Parts of the open segment, joined by the rows that they keep.
+//! Parts of the open segment, joined by the rows that they keep: as a segment ends, so that a refresh before that builds
+//! nothing twice.
 
 ghost use Rattle.std.specs.Prelude.{◌≡◌, ◌≤◌, ◌<◌, ◌+◌, IfOk, IsOkUnless, OnErr, OnOk, length};
 ghost use Rattle.qm_index.specs.Indexed.{IsMerged, IsRefreshed, indexed, statistics};

@@ -5,7 +5,7 @@ use Rattle.std.proofs.lemmas.List.Elements.{All-push}
 use Rattle.qm_docset.specs.declared.numbers.TheConstants.{TERMINATED}
 use Rattle.qm_postings.specs.Segment.{IsGood, Segment, document_of, with_document}
 use Rattle.qm_index.specs.Indexed.{Indexed}
-use Rattle.qm_index.specs.OpenDocuments.{IsBadDraft, IsDocumentRefusal, kept_of, segment_of, undeleted}
+use Rattle.qm_index.specs.OpenDocuments.{IsBadDraft, kept_of, segment_of, undeleted}
 use Rattle.qm_index.specs.Parts.{cut, segments_of}
 use Rattle.qm_index.specs.declared.open_document.OpenDocument.{OpenDocument}
 use Rattle.qm_index.proofs.Cutting.{cut-push}
