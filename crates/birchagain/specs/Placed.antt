@@ -1,6 +1,6 @@
 -- Words with places of the caller's own: both stand one behind the other, and each word ends where one row says, its
 -- places where another does.
-use Rattle.std.specs.Prelude.{◌≡◌, ◌≢◌, ◌≤◌, ℕ, List, [], ◌∷◌, length}
+use Rattle.std.specs.Prelude.{◌≢◌, ◌≤◌, ℕ, List, [], ◌∷◌, length}
 use Rattle.std.specs.List.{slice_range}
 use Rattle.qm_postings.specs.Document.{Draft, Given}
 use Rattle.qm_postings.specs.Segment.{Segment}

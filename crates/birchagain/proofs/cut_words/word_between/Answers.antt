@@ -1,4 +1,4 @@
-use Rattle.std.proofs.Common.{rules, ◌≡◌, ◌==◌, false, IsUtf8, ◌∙◌, lit<, sym, subst, arith}
+use Rattle.std.proofs.Common.{◌≡◌, ◌==◌, false, ◌∙◌, lit<, sym, subst}
 use Rattle.std.proofs.lemmas.Bool.{false≢true}
 use Rattle.std.proofs.lemmas.Str.Pattern.{contains_char}
 use Rattle.std.specs.List.{AllByRecursion}
