@@ -50,7 +50,7 @@ enum {
     BIRCHAGAIN_SCORE_BOUND = 9,   /* a score might pass 9223372036854775807 */
     BIRCHAGAIN_NO_MEMORY = 13,
     BIRCHAGAIN_TOO_MANY_DOCUMENTS = 14, /* the open segment has 2147483647 */
-    BIRCHAGAIN_BAD_DOCUMENT = 15,       /* it has more than 4294967295 words, or one without a place or twice, or bad places */
+    BIRCHAGAIN_BAD_DOCUMENT = 15,       /* it has more than 4294967295 words, or one twice, or bad places */
     BIRCHAGAIN_BAD_NORMS = 17,          /* a norm is less than the one before it */
     BIRCHAGAIN_TOO_MANY_SEGMENTS = 18,  /* there are 4294967295 */
     BIRCHAGAIN_EMPTY = 64,              /* the index was never opened, or was freed */

@@ -13,16 +13,17 @@ use qm_index::{GivenDocument, Index};
 use qm_schema::Term;
 use std::alloc::Global;
 
-/// Adds a document with these words, each at places of its own, to the open segment. The words stand in the bytes one
-/// behind the other, as [`crate::add_words`] takes them, but may have spaces. Their places stand one behind the other
-/// too, counted in words: those of a word end where its number of `place_ends` says. `length` is the document's length id,
-/// from 0 to 255, whatever the number of its words. Costs what [`Index::add_given`] does.
+/// Adds a document with these words, each at these places, to the open segment. The words stand in the bytes one behind
+/// the other, as [`crate::add_words`] takes them, but may have spaces, and each stands there once. Their places,
+/// counted in words from 0 up, stand one behind the other too; those of a word end where its number of `place_ends`
+/// says. So there may be gaps, and words that share a place. `length` is the document's length id, whatever the number
+/// of its words. Costs a copy of the words and places, and what [`Index::add_given`] does.
 ///
-/// Refused with [`Refusal::UnevenRows`] exactly where there are not as many ends of places as of words; else with
-/// [`Refusal::NotWords`] or [`Refusal::NotText`] only where these are no words with places: numbers that do not ascend
-/// within the bytes, or fall or go beyond the places, or a word that is not UTF-8; else as [`Index::add_given`] is:
-/// with [`QueryError::BadDocument`](qm_schema::QueryError::BadDocument) where a word is given twice or has no place, or
-/// its places do not ascend or reach 4294967295.
+/// Refused with [`Refusal::UnevenRows`] exactly where there are not as many ends of places as of words. Else with
+/// [`Refusal::NotWords`] or [`Refusal::NotText`] only where these are no words with places: ends that do not ascend
+/// within the bytes, or ends of places that fall or lie beyond them, or a word that is not UTF-8. Else as
+/// [`Index::add_given`] is: with [`QueryError::BadDocument`](qm_schema::QueryError::BadDocument) where a word is given
+/// twice or has no place, or its places do not ascend or reach 4294967295.
 pub fn add_placed(
     alloc: Global,
     index: &mut Index,
@@ -46,7 +47,7 @@ pub fn add_placed(
     Ok(())
 }
 
-// The document that they make.
+// The document of these words with their places, and of this length id.
 fn placed_document(
     alloc: Global,
     bytes: &[u8],

@@ -19,14 +19,14 @@ loop-end-preserved c =
     let k = length c.loop-end.yielded in
     let n = length (c.loop-end.yielded ++ (c.in-Some.end, c.in-Some.last) ∷ []) in
     let more : n ≡ k + 1 = length_push c.loop-end.yielded (c.in-Some.end, c.in-Some.last) in
-    let turn = zip_turn c.args.ends.now c.args.place_ends.now c.loop-end.yielded c.into_iter-end-iterator.result c.loop-end.end-iterator c.next.new.self c.next.result (cc) (cc)
-        c.loop-end.yielded_by (c.in-Some.end, c.in-Some.last) c.in-Some.is c.next.ensures.steps in
+    let turn = zip_turn c.args.ends.now c.args.place_ends.now c.loop-end.yielded c.into_iter-end-iterator.result c.loop-end.end-iterator
+    c.next.new.self c.next.result (cc) (cc) c.loop-end.yielded_by (c.in-Some.end, c.in-Some.last) c.in-Some.is c.next.ensures.steps in
     let ends : drop k c.args.ends.now ≡ end ∷ drop n c.args.ends.now = left-next c.args.ends.now k n end turn.0 (turn.2 0) more in
     let lasts : drop k c.args.place_ends.now ≡ last ∷ drop n c.args.place_ends.now =
-        left-next c.args.place_ends.now k n last turn.1 (turn.3 0) more in
+    left-next c.args.place_ends.now k n last turn.1 (turn.3 0) more in
     let word = c.in_ok-term.ensures in
     let given : record { term = c.in_ok-term.term; positions = c.in_ok-term.positions.items } ≡ placed_word start end first last bytes places =
-        λ i. record { term = word.term i; positions = word.places i } in
+    λ i. record { term = word.term i; positions = word.places i } in
     let rest = placed_from end last (drop n c.args.ends.now) (drop n c.args.place_ends.now) bytes places in record {
       words = ap (λ l. l ++ rest) (c.in_ok-add_term.ensures.added ∙ (λ i. c.loop-end.document.terms ++ (given i) ∷ []))
           ∙ placed-more bytes places start first end last _ _ _ _ c.loop-end.document.terms _ ends lasts c.loop-end.invariant.words;
@@ -38,8 +38,8 @@ loop-end-preserved c =
 pub returns-in_err-term-clause-refused : goal.returns-in_err-term-clause-refused
 returns-in_err-term-clause-refused c =
     let p = err_from_is_err_and c.from_residual.result c.from_residual.ensures.1 in
-    let turn = zip_turn c.args.ends.now c.args.place_ends.now c.loop-end.yielded c.into_iter-end-iterator.result c.loop-end.end-iterator c.next.new.self c.next.result (cc) (cc)
-        c.loop-end.yielded_by (c.in-Some.end, c.in-Some.last) c.in-Some.is c.next.ensures.steps in
+    let turn = zip_turn c.args.ends.now c.args.place_ends.now c.loop-end.yielded c.into_iter-end-iterator.result c.loop-end.end-iterator
+    c.next.new.self c.next.result (cc) (cc) c.loop-end.yielded_by (c.in-Some.end, c.in-Some.last) c.in-Some.is c.next.ensures.steps in
     let k = length c.loop-end.yielded in
     let ends = left-next c.args.ends.now k (k + 1) c.in-Some.end.now turn.0 (turn.2 0) refl in
     let lasts = left-next c.args.place_ends.now k (k + 1) c.in-Some.last.now turn.1 (turn.3 0) refl in
@@ -57,19 +57,19 @@ returns-in_err-term-clause-uneven c =
 pub returns-clause-draft : goal.returns-clause-draft
 unfolding placed_draft
 returns-clause-draft c =
-    let turns = zip_end c.args.ends.now c.args.place_ends.now c.loop-end.yielded c.into_iter-end-iterator.result c.loop-end.end-iterator c.next.new.self c.next.result (cc) (cc)
-        c.loop-end.yielded_by c.in-None.is c.next.ensures.steps in
+    let turns = zip_end c.args.ends.now c.args.place_ends.now c.loop-end.yielded c.into_iter-end-iterator.result c.loop-end.end-iterator
+    c.next.new.self c.next.result (cc) (cc) c.loop-end.yielded_by c.in-None.is c.next.ensures.steps in
     let all : length c.args.ends.now ≤ length c.loop-end.yielded = omega (arith, turns, c.if-place_ends-ends.false) in
     let terms = c.in_ok-set_length.ensures.terms
-        ∙ sym (none-left c.args.bytes.now c.args.places.now c.loop-end.start c.loop-end.first (length c.loop-end.yielded) c.args.ends.now
-        c.args.place_ends.now c.loop-end.document.terms all) ∙ c.loop-end.invariant.words in
+    ∙ sym (none-left c.args.bytes.now c.args.places.now c.loop-end.start c.loop-end.first (length c.loop-end.yielded) c.args.ends.now
+    c.args.place_ends.now c.loop-end.document.terms all) ∙ c.loop-end.invariant.words in
     let lengths = c.in_ok-set_length.ensures.set
-        ∙ (λ i. c.loop-end.invariant.lengths i ++ (c.body.ensures i, c.args.length) ∷ []) in
+    ∙ (λ i. c.loop-end.invariant.lengths i ++ (c.body.ensures i, c.args.length) ∷ []) in
     λ i. record { terms = terms i; lengths = lengths i }
 
 pub returns-clause-good : goal.returns-clause-good
 returns-clause-good c =
-    let turns = zip_end c.args.ends.now c.args.place_ends.now c.loop-end.yielded c.into_iter-end-iterator.result c.loop-end.end-iterator c.next.new.self c.next.result (cc) (cc)
-        c.loop-end.yielded_by c.in-None.is c.next.ensures.steps in
+    let turns = zip_end c.args.ends.now c.args.place_ends.now c.loop-end.yielded c.into_iter-end-iterator.result c.loop-end.end-iterator
+    c.next.new.self c.next.result (cc) (cc) c.loop-end.yielded_by c.in-None.is c.next.ensures.steps in
     c.loop-end.invariant.good (none-bad c.args.bytes.now c.args.places.now c.loop-end.start c.loop-end.first (length c.loop-end.yielded)
     c.args.ends.now c.args.place_ends.now (omega (arith, turns, c.if-place_ends-ends.false)) (omega (arith, turns, c.if-place_ends-ends.false)))
