@@ -9,6 +9,7 @@ from exports import exports_of
 # what C passes for a parameter, or is answered, of a type
 IN_C = {
     "Global": [],
+    "u8": ["uint8_t"],
     "u32": ["uint32_t"],
     "u64": ["uint64_t"],
     "i64": ["int64_t"],
@@ -29,6 +30,7 @@ IN_C = {
 }
 # by a type of ctypes what it passes of these; an address stands for an array of any
 BY_CTYPES = {
+    ctypes.c_uint8: {"uint8_t"},
     ctypes.c_uint32: {"uint32_t"},
     ctypes.c_uint64: {"uint64_t"},
     ctypes.c_int64: {"int64_t"},

@@ -50,14 +50,14 @@ enum {
     BIRCHAGAIN_SCORE_BOUND = 9,   /* a score might pass 9223372036854775807 */
     BIRCHAGAIN_NO_MEMORY = 13,
     BIRCHAGAIN_TOO_MANY_DOCUMENTS = 14, /* the open segment has 2147483647 */
-    BIRCHAGAIN_BAD_DOCUMENT = 15,       /* it has more than 4294967295 words */
+    BIRCHAGAIN_BAD_DOCUMENT = 15,       /* it has more than 4294967295 words, or one twice, or bad places */
     BIRCHAGAIN_BAD_NORMS = 17,          /* a norm is less than the one before it */
     BIRCHAGAIN_TOO_MANY_SEGMENTS = 18,  /* there are 4294967295 */
     BIRCHAGAIN_EMPTY = 64,              /* the index was never opened, or was freed */
     BIRCHAGAIN_NOT_UNDERSTOOD = 65,     /* a query does not fit its language, or is not UTF-8 */
     BIRCHAGAIN_NOT_TEXT = 66,           /* a text or a word is not UTF-8 */
     BIRCHAGAIN_NO_DOCUMENT = 67,        /* there is no document of that number */
-    BIRCHAGAIN_NOT_WORDS = 68,          /* ends that do not ascend within the bytes, or a word that has a space */
+    BIRCHAGAIN_NOT_WORDS = 68,          /* ends that do not ascend within their array, or a word that has a space */
     BIRCHAGAIN_NEGATIVE_WEIGHT = 69,
     BIRCHAGAIN_UNEVEN_ROWS = 70,        /* two arrays that are to have one length have not */
     BIRCHAGAIN_NAMES_FIELD = 71,        /* a typed query names a field, and documents have none */
@@ -111,6 +111,16 @@ uint32_t birchagain_add_text(birchagain_index *index, const uint8_t *text, size_
  * BIRCHAGAIN_NOT_WORDS, BIRCHAGAIN_NOT_TEXT, BIRCHAGAIN_TOO_MANY_DOCUMENTS, BIRCHAGAIN_BAD_DOCUMENT. */
 uint32_t birchagain_add_words(birchagain_index *index, const uint8_t *bytes, size_t bytes_length, const size_t *ends,
                               size_t words);
+
+/* The same by its words with their places, of which 0 is that of the first word, and phrases find words by them. A word
+ * stands once, and may have spaces. The places of each stand in `places` behind those of the word before it, and end where
+ * `place_ends` says: one place at least, ascending, below 4294967295. There may be gaps, and words of one place. The
+ * document is as long as `length` says, as `birchagain_set_norms` counts it. All four arrays are only read.
+ * BIRCHAGAIN_UNEVEN_ROWS where there are not as many ends of places as of words, BIRCHAGAIN_NOT_WORDS, BIRCHAGAIN_NOT_TEXT,
+ * BIRCHAGAIN_TOO_MANY_DOCUMENTS, BIRCHAGAIN_BAD_DOCUMENT. */
+uint32_t birchagain_add_placed(birchagain_index *index, const uint8_t *bytes, size_t bytes_length, const size_t *ends,
+                               size_t words, const uint32_t *places, size_t places_length, const size_t *place_ends,
+                               size_t place_ends_length, uint8_t length);
 
 /* Deletes a document. It keeps its number, as all others do; to delete it again is done, too.
  * BIRCHAGAIN_NO_DOCUMENT. */

@@ -10,6 +10,7 @@ static int checks = 0, failed = 0;
 #define SCRIPT(s) BIRCHAGAIN_SCRIPT, BYTES(s)
 
 static const size_t one[] = {1}, two[] = {1, 2};
+static const uint32_t zero = 0;
 static uint32_t norms[257];
 
 /* How many documents hold this word; 99 where that is refused. */
@@ -34,6 +35,7 @@ static void empty(void) {
     size_t filled = 9;
     CHECK(birchagain_add_text(&index, BYTES("a b")) == BIRCHAGAIN_EMPTY);
     CHECK(birchagain_add_words(&index, BYTES("a"), one, 1) == BIRCHAGAIN_EMPTY);
+    CHECK(birchagain_add_placed(&index, BYTES("a"), one, 1, &zero, 1, one, 1, 1) == BIRCHAGAIN_EMPTY);
     CHECK(birchagain_delete(&index, 0) == BIRCHAGAIN_EMPTY);
     CHECK(birchagain_end_segment(&index) == BIRCHAGAIN_EMPTY);
     CHECK(birchagain_refresh(&index) == BIRCHAGAIN_EMPTY);
@@ -114,6 +116,67 @@ static void lengths(void) {
     birchagain_free(&index);
 }
 
+/* How many documents match a typed query; from 1000 on its status where it is refused. */
+static uint64_t typed(birchagain_index *index, const char *query) {
+    uint64_t out = 7;
+    uint32_t status = birchagain_count(index, TYPED(query), &out);
+    return status == BIRCHAGAIN_DONE ? out : 1000 + status;
+}
+
+/* The score of the best document for a typed query; -1 where there is none. */
+static int64_t best_score(birchagain_index *index, const char *query) {
+    birchagain_hit best = {0, -1};
+    size_t filled;
+    birchagain_top(index, TYPED(query), &best, 1, &filled);
+    return best.score;
+}
+
+/* Words with places, and a length of the document's own. */
+static void placed(void) {
+    /* `a` at 0 and 4, `new york` at 1, `b` at 1 and 6 */
+    static const size_t ends[] = {1, 9, 10}, place_ends[] = {2, 3, 5};
+    static const uint32_t places[] = {0, 4, 1, 1, 6};
+    birchagain_index index = {0};
+    CHECK(birchagain_open(&index) == BIRCHAGAIN_DONE);
+    CHECK(birchagain_add_placed(&index, BYTES("anew yorkb"), ends, 3, places, 5, place_ends, 3, 8) == BIRCHAGAIN_DONE);
+    CHECK(birchagain_add_placed(&index, BYTES(""), one, 0, places, 0, one, 0, 0) == BIRCHAGAIN_DONE && documents(&index) == 2);
+    CHECK(held(&index, "a") == 1 && held(&index, "b") == 1 && held(&index, "new") == 0 && held(&index, "york") == 0);
+    CHECK(typed(&index, "new*") == 1 && typed(&index, "york*") == 0 && typed(&index, "\"a new\"*") == 1
+          && typed(&index, "\"b new\"*") == 0);
+    CHECK(typed(&index, "\"a b\"") == 1 && typed(&index, "\"b a\"") == 0 && typed(&index, "\"b a\"~2") == 1);
+    /* two places of the length 8 score 2 / (2 + 8), of the length 0 all, and one of the length 255 scores 1 / (1 + 255) */
+    CHECK(best_score(&index, "a") == 200);
+    CHECK(birchagain_delete(&index, 0) == BIRCHAGAIN_DONE
+          && birchagain_add_placed(&index, BYTES("anew yorkb"), ends, 3, places, 5, place_ends, 3, 0) == BIRCHAGAIN_DONE
+          && best_score(&index, "a") == 1000);
+    CHECK(birchagain_add_placed(&index, BYTES("c"), one, 1, places, 1, one, 1, 255) == BIRCHAGAIN_DONE
+          && best_score(&index, "c") == 3);
+    birchagain_free(&index);
+}
+
+/* What is no document of words with places. */
+static void refused_placed(void) {
+    static const size_t falling[] = {2, 1}, past[] = {1, 3}, again[] = {1, 1}, none[] = {0, 2};
+    static const uint32_t places[] = {1, 0}, high[] = {4294967294u, 4294967295u};
+    birchagain_index index = {0};
+    CHECK(birchagain_open(&index) == BIRCHAGAIN_DONE);
+    CHECK(birchagain_add_placed(&index, BYTES("ab"), two, 2, places, 2, two, 1, 2) == BIRCHAGAIN_UNEVEN_ROWS
+          && birchagain_add_placed(&index, BYTES("ab"), two, 1, places, 2, two, 2, 2) == BIRCHAGAIN_UNEVEN_ROWS);
+    CHECK(birchagain_add_placed(&index, BYTES("ab"), falling, 2, places, 2, two, 2, 2) == BIRCHAGAIN_NOT_WORDS
+          && birchagain_add_placed(&index, BYTES("ab"), past, 2, places, 2, two, 2, 2) == BIRCHAGAIN_NOT_WORDS
+          && birchagain_add_placed(&index, BYTES("ab"), again, 2, places, 2, two, 2, 2) == BIRCHAGAIN_NOT_WORDS);
+    CHECK(birchagain_add_placed(&index, BYTES("ab"), two, 2, places, 2, falling, 2, 2) == BIRCHAGAIN_NOT_WORDS
+          && birchagain_add_placed(&index, BYTES("ab"), two, 2, places, 2, past, 2, 2) == BIRCHAGAIN_NOT_WORDS);
+    CHECK(birchagain_add_placed(&index, BYTES("\xc3\xa9"), two, 2, places, 2, two, 2, 2) == BIRCHAGAIN_NOT_TEXT);
+    CHECK(birchagain_add_placed(&index, BYTES("ab"), two, 2, places, 2, none, 2, 2) == BIRCHAGAIN_BAD_DOCUMENT
+          && birchagain_add_placed(&index, BYTES("aa"), two, 2, places, 2, two, 2, 2) == BIRCHAGAIN_BAD_DOCUMENT);
+    CHECK(birchagain_add_placed(&index, BYTES("a"), one, 1, places, 2, two + 1, 1, 2) == BIRCHAGAIN_BAD_DOCUMENT
+          && birchagain_add_placed(&index, BYTES("ab"), two, 2, high, 2, two, 2, 2) == BIRCHAGAIN_BAD_DOCUMENT);
+    CHECK(documents(&index) == 0 && birchagain_add_placed(&index, BYTES("a"), one, 1, high, 1, one, 1, 2) == BIRCHAGAIN_DONE);
+    CHECK(documents(&index) == 1 && held(&index, "a") == 1);
+    birchagain_free(&index);
+}
+
 /* Queries, over examples/weights.txt of the project. */
 static void found(void) {
     birchagain_index index = {0};
@@ -142,13 +205,6 @@ static void found(void) {
     CHECK(birchagain_top(&index, SCRIPT("phrase 0 2 a b"), best, 3, &filled) == BIRCHAGAIN_SCORE_BOUND
           && filled == 0 && best[2].document == 7);
     birchagain_free(&index);
-}
-
-/* How many documents match a typed query; from 1000 on its status where it is refused. */
-static uint64_t typed(birchagain_index *index, const char *query) {
-    uint64_t out = 7;
-    uint32_t status = birchagain_count(index, TYPED(query), &out);
-    return status == BIRCHAGAIN_DONE ? out : 1000 + status;
 }
 
 /* The language that people type. */
@@ -287,6 +343,8 @@ int main(void) {
     added();
     refused();
     lengths();
+    placed();
+    refused_placed();
     found();
     found_typed();
     paged();

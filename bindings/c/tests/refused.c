@@ -46,7 +46,8 @@ static void says(void) {
 }
 
 int main(void) {
-    static const size_t ends[] = {1, 2, 4};
+    static const size_t ends[] = {1, 2, 4}, placed_ends[] = {1, 30}, place_ends[] = {2, 3};
+    static const uint32_t places[] = {0, 5, 2};
     birchagain_index index = {0};
     uint64_t texts = 0, words = 0, alive;
     if (!done(birchagain_open(&index))) {
@@ -56,6 +57,9 @@ int main(void) {
     for (int d = 0; d < 12; d++) {
         texts += done(birchagain_add_text(&index, BYTES("a b a c a-long-word-that-takes-memory")));
         words += done(birchagain_add_words(&index, BYTES("dbdd"), ends, 3));
+        if (d % 4 == 1)
+            words += done(birchagain_add_placed(&index, BYTES("da word that takes memory, too"), placed_ends, 2, places, 3,
+                                                place_ends, 2, 7));
         if (d % 4 == 3) done(birchagain_end_segment(&index));
         if (d % 3 == 1) holds(&index, texts + words, texts, words, texts + words);
     }

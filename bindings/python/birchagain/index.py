@@ -4,8 +4,8 @@ from __future__ import annotations
 
 import ctypes
 import threading
-from itertools import accumulate
-from typing import Iterable, List, Mapping, Sequence, Tuple, Union
+from itertools import accumulate, chain
+from typing import Iterable, List, Mapping, Optional, Sequence, Sized, Tuple, Union
 
 from . import _library
 from .errors import NO_DOCUMENT, NoDocumentError, raise_for
@@ -13,16 +13,24 @@ from .queries import Queries
 from .stored import StoredIndex
 
 _NUMBERS, _SCORES = 1 << 64, 1 << 63
-# lengths of documents that have a norm of their own, and what a norm is below
-_LENGTHS, _NORMS = 256, 1 << 32
+# lengths of documents that have a norm of their own, and what a norm and a place are below
+_LENGTHS, _NORMS, _PLACES = 256, 1 << 32, 1 << 32
+
+
+def _array(kind: type, numbers: Sequence[int]) -> ctypes.Array:
+    """Numbers as an array of C, which has one place at least, so that there is a pointer to it."""
+    return (kind * max(len(numbers), 1))(*numbers)
+
+
+def _ends(parts: Iterable[Sized]) -> ctypes.Array:
+    """Where each of these parts ends, one behind the other."""
+    return _array(ctypes.c_size_t, [*accumulate(map(len, parts))])
 
 
 def _laid_out(words: Iterable[str]) -> Tuple[bytes, ctypes.Array, int]:
     """Words one behind the other, where each ends, and how many there are."""
     encoded = [word.encode() for word in words]
-    # an array of C has one place at least, so that there is a pointer to it
-    ends = (ctypes.c_size_t * max(len(encoded), 1))(*accumulate(map(len, encoded)))
-    return b"".join(encoded), ends, len(encoded)
+    return b"".join(encoded), _ends(encoded), len(encoded)
 
 
 class Index(Queries, StoredIndex):
@@ -90,6 +98,25 @@ class Index(Queries, StoredIndex):
             data, ends, count = _laid_out(document)
             self._call(_library.add_words, data, len(data), ends, count)
 
+    def add_placed(self, words: Mapping[str, Sequence[int]], length: Optional[int] = None) -> None:
+        """Adds a document with these words, each at its places among all words: a word has one letter at least, and may have
+        spaces; its places ascend from 0 up, with any gaps, and words may share a place. `length` is the document's length,
+        and by default the number of places, held at 255.
+
+        Raises `WordError` for a word that is empty, or has no place, or places that do not ascend or reach 4294967295, and
+        `OverflowError` for a place that is not within 32 bits, or a length that is not from 0 to 255.
+        """
+        data, ends, count = _laid_out(words)
+        rows = [*words.values()]
+        every = [*chain.from_iterable(rows)]
+        if not all(0 <= place < _PLACES for place in every):
+            raise OverflowError("a place is not within 32 bits")
+        length = min(len(every), _LENGTHS - 1) if length is None else length
+        if not 0 <= length < _LENGTHS:
+            raise OverflowError(f"the length {length} is not from 0 to 255")
+        places = _array(ctypes.c_uint32, every)
+        self._call(_library.add_placed, data, len(data), ends, count, places, len(every), _ends(rows), count, length)
+
     def delete(self, document: int) -> None:
         """Deletes a document, which keeps its number, as all others do. To delete it again changes nothing.
 
@@ -128,8 +155,7 @@ class Index(Queries, StoredIndex):
         """
         if not all(0 <= norm < _NORMS for norm in norms):
             raise OverflowError("a norm is not within 32 bits")
-        given = (ctypes.c_uint32 * max(len(norms), 1))(*norms)
-        self._call(_library.set_norms, given, len(norms))
+        self._call(_library.set_norms, _array(ctypes.c_uint32, norms), len(norms))
 
     def frequencies(self, words: Iterable[str]) -> List[int]:
         """How many documents hold each of these words, deleted ones too.

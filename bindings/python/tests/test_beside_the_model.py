@@ -22,6 +22,14 @@ def words_of(text):
     return [it for it in text.split(" ") if it]
 
 
+def places_of(words):
+    """By word where it stands."""
+    found = {}
+    for place, word in enumerate(words):
+        found.setdefault(word, []).append(place)
+    return found
+
+
 class Beside:
     """An index, and a script of the plain model that has the same documents and weights."""
 
@@ -35,8 +43,11 @@ class Beside:
 
     def add(self):
         words = self.chance.choices(self.words, k=self.chance.choice([0, 1, 3, 20, 300]))
-        if self.chance.random() < 0.5:
+        form = self.chance.choice(["words", "placed", "text"])
+        if form == "words":
             self.index.add(words)
+        elif form == "placed":
+            self.index.add_placed(places_of(words))
         else:
             between = " " * self.chance.choice([1, 1, 3])
             text = between * self.chance.choice([0, 1]) + between.join(words)
@@ -48,6 +59,9 @@ class Beside:
         for bad in (["a b"], [*self.words, ""]):
             with pytest.raises(WordError):
                 self.index.add(bad)
+        for bad in ({"a": [0], "": [1]}, {**places_of(self.words), "a": [7, 7]}):
+            with pytest.raises(WordError):
+                self.index.add_placed(bad)
         with pytest.raises(NoDocumentError):
             self.index.delete(len(self.documents()))
 

@@ -57,6 +57,7 @@ def test_closed():
     index.close()
     index.close()
     calls = [len, lambda it: it.add("a"), lambda it: it.add(["a"]), lambda it: it.delete(0), lambda it: it.end_segment()]
+    calls += [lambda it: it.add_placed({"a": [0]}), lambda it: it.add_placed({})]
     calls += [lambda it: it.refresh(), lambda it: it.weigh({"a": 1}), lambda it: it.frequencies(["a"])]
     for call in calls:
         with pytest.raises(ClosedError) as caught:
@@ -97,6 +98,51 @@ def test_lengths_count_by_norms():
         # a document of the mean length counts as 2
         index.set_norms(norms_by_mean(2.0))
         assert [it.score for it in index.top("a")] == [500, 333, 5]
+
+
+def test_words_with_places():
+    with Index() as index:
+        index.add_placed({"a": [0, 4], "new york": [1], "b": range(1, 7, 5)})
+        index.add_placed({})
+        assert len(index) == 2 and index.frequencies(["a", "b", "new", "york"]) == [1, 1, 0, 0]
+        assert index.count("new*") == 1 and index.count("york*") == 0
+        assert index.count('"a new"*') == 1 and index.count('"b new"*') == 0
+        assert [index.count(it) for it in ('"a b"', '"b a"', '"b a"~1', '"b a"~2')] == [1, 0, 0, 1]
+        # as long as it has places
+        assert [it.score for it in index.top("a")] == [2000 // (2 + 5)]
+
+
+def test_lengths_of_words_with_places():
+    with Index() as index:
+        for length in (8, 0, 255, None):
+            index.add_placed({"a": [3]}, length)
+        index.add_placed({"a": [0], "b": range(1, 301)})
+        assert {it.document: it.score for it in index.top("a")} == {0: 111, 1: 1000, 2: 3, 3: 500, 4: 3}
+        index.set_norms([0] * 8 + [1] * 248)
+        assert [it.score for it in index.top("a")] == [1000, 1000, 500, 500, 500]
+
+
+def test_what_is_refused_of_words_with_places():
+    index = Index(["a"])
+    bad = [({"": [0]}, 68), ({"a": []}, 15), ({"a": [1, 0]}, 15), ({"a": [0, 0]}, 15), ({"b": [0], "a": [(1 << 32) - 1]}, 15)]
+    for words, status in bad:
+        with pytest.raises(WordError) as caught:
+            index.add_placed(words)
+        assert caught.value.status == status and len(str(caught.value)) < 200
+    for place in (-1, 1 << 32, 1 << 64):
+        with pytest.raises(OverflowError):
+            index.add_placed({"a": [place]})
+    for length in (-1, 256, 1 << 64):
+        with pytest.raises(OverflowError):
+            index.add_placed({"a": [0]}, length)
+    for words in (["a"], None, {"a": 0}, {"a": ["0"]}, {"a": "0"}):
+        with pytest.raises((AttributeError, TypeError)):
+            index.add_placed(words)
+    with pytest.raises(UnicodeEncodeError):
+        index.add_placed({"\ud800": [0]})
+    assert len(index) == 1 and index.frequencies(["a"]) == [1]
+    index.add_placed({"a": [(1 << 32) - 2]}, length=255)
+    assert len(index) == 2 and index.frequencies(["a"]) == [2]
 
 
 def test_norms_by_mean():

@@ -1,6 +1,7 @@
 mod HolderCounts
 mod LeftWords
 mod Logarithms
+mod PlacedRows
 mod Spaces
 mod TextDrafts
 mod WordRefusals

@@ -38,7 +38,7 @@ one_word w rest some lacks =
 
 word-some : (start end : ℕ) (bytes : List ℕ) → IsWord start end bytes → 0 < length (bytes_between start end bytes)
 word-some start end bytes h =
-    let some = h.some in let within = h.within in
+    let some = h.text.some in let within = h.text.within in
     omega (arith, some, within, length-drop start bytes, length-take-le (end - start) (drop start bytes) (omega (arith, some, within, length-drop start bytes)))
 
 -- the words that stand in some bytes are those of their text

@@ -1,10 +1,11 @@
 -- Refusals of words that are cut, and of documents that are made of them.
-use Rattle.std.proofs.Common.{◌≡◌, subst}
+use Rattle.std.proofs.Common.{◌≡◌, ℕ, List, subst}
 use Rattle.qm_index.specs.OpenDocuments.{IsDocumentRefusal}
 use Rattle.qm_postings.specs.Document.{Draft}
 use Rattle.qm_postings.specs.Segment.{Segment}
 use Rattle.birchagain.specs.Adding.{IsAddRefusal}
 use Rattle.birchagain.specs.CutWords.{IsCutRefusal}
+use Rattle.birchagain.specs.Placed.{ArePlaced, IsRowsRefusal}
 use Rattle.birchagain.specs.declared.refusal.Refusal.{Refusal}
 use Rattle.birchagain.specs.declared.refusal.Refusal.TheVariants.{NegativeWeight, NoDocument, NotText, NotUnderstood, NotWords, Query, UnevenRows}
 
@@ -27,3 +28,18 @@ add-refused NotUnderstood is s d f same why = absurd why
 add-refused NoDocument is s d f same why = absurd why
 add-refused NegativeWeight is s d f same why = absurd why
 add-refused UnevenRows is s d f same why = absurd why
+
+-- words are not refused for uneven rows
+pub cut-even : (e : Refusal) (these : Type 0) → IsCutRefusal these e → e ≡ UnevenRows → ⊥
+cut-even e these why is = subst (IsCutRefusal these) is why
+
+-- rows that are refused for one word
+pub rows-refused : (e : Refusal) (ends place_ends bytes places : List ℕ) (these : Type 0) → (ArePlaced 0 0 ends place_ends bytes places → these) →
+    IsCutRefusal these e → IsRowsRefusal ends place_ends bytes places e
+rows-refused (Query error) ends place_ends bytes places these sub why = why
+rows-refused NotText ends place_ends bytes places these sub why = λ all. why (sub all)
+rows-refused NotWords ends place_ends bytes places these sub why = λ all. why (sub all)
+rows-refused NotUnderstood ends place_ends bytes places these sub why = absurd why
+rows-refused NoDocument ends place_ends bytes places these sub why = absurd why
+rows-refused NegativeWeight ends place_ends bytes places these sub why = absurd why
+rows-refused UnevenRows ends place_ends bytes places these sub why = absurd why

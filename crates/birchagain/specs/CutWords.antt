@@ -14,11 +14,15 @@ abbrev pub words_from : ℕ → List ℕ → List ℕ → List (List ℕ)
 words_from start [] bytes = []
 words_from start (end ∷ ends) bytes = bytes_between start end bytes ∷ words_from end ends bytes
 
--- The bytes from one place to another are a word: one at least, of UTF-8, and no space.
-pub record IsWord (start end : ℕ) (bytes : List ℕ) : Type 0 where
+-- The bytes from one place to another are a text: one at least, of UTF-8.
+pub record IsTextBetween (start end : ℕ) (bytes : List ℕ) : Type 0 where
   pub some : start < end
   pub within : end ≤ length bytes
-  pub text : IsUtf8 (bytes_between start end bytes)
+  pub utf8 : IsUtf8 (bytes_between start end bytes)
+
+-- They are a word: a text that has no space.
+pub record IsWord (start end : ℕ) (bytes : List ℕ) : Type 0 where
+  pub text : IsTextBetween start end bytes
   pub no_space : AllByRecursion (λ b. (b == 32) ≡ false) (bytes_between start end bytes)
 
 -- each of those from a place on is a word

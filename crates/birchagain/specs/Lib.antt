@@ -3,6 +3,7 @@ pub mod Statuses
 pub mod Start
 pub mod CutWords
 pub mod Adding
+pub mod Placed
 pub mod Weighing
 pub mod Holding
 pub mod Lengths

@@ -1,7 +1,7 @@
 //! Words that stand in some bytes, one behind the other.
 
 ghost use Rattle.std.specs.Prelude.{◌≡◌, IfErr, IfOk, OnOk, map};
-ghost use Rattle.birchagain.specs.CutWords.{AreWords, IsWord, IsCutRefusal, bytes_between, words_from};
+ghost use Rattle.birchagain.specs.CutWords.{AreWords, IsCutRefusal, IsTextBetween, IsWord, bytes_between, words_from};
 
 use crate::body::text_of;
 use crate::refusal::Refusal;
@@ -30,16 +30,27 @@ pub(crate) fn cut_words<'a>(
     Ok(words)
 }
 
-// The word that the bytes from one place to another are.
+/// The text that the bytes from one place to another are, which has one byte at least.
+///
+/// Refused with [`Refusal::NotWords`] or [`Refusal::NotText`] only where they are none.
+pub(crate) fn text_between(bytes: &[u8], start: usize, end: usize) -> Result<&str, Refusal>
+    ensures text { IfOk result (λ text. text.now ≡ bytes_between start end bytes.now) }
+    ensures good { OnOk result (IsTextBetween start end bytes.now) }
+    ensures refused { IfErr result (IsCutRefusal (IsTextBetween start end bytes.now)) }
+{
+    if start >= end || end > bytes.len() {
+        return Err(Refusal::NotWords);
+    }
+    text_of(&bytes[start..end])
+}
+
+// The word that they are.
 fn word_between(bytes: &[u8], start: usize, end: usize) -> Result<&str, Refusal>
     ensures word { IfOk result (λ word. word.now ≡ bytes_between start end bytes.now) }
     ensures good { OnOk result (IsWord start end bytes.now) }
     ensures refused { IfErr result (IsCutRefusal (IsWord start end bytes.now)) }
 {
-    if start >= end || end > bytes.len() {
-        return Err(Refusal::NotWords);
-    }
-    let word = text_of(&bytes[start..end])?;
+    let word = text_between(bytes, start, end)?;
     if word.contains(' ') {
         return Err(Refusal::NotWords);
     }

@@ -1,5 +1,5 @@
-//! What programs in other languages do to an index: documents of one field, whose words spaces part, what words weigh,
-//! and how many documents hold one.
+//! What programs in other languages do to an index: documents of one field, whose words spaces part or are
+//! handed in with their places, what words weigh, and how many documents hold one.
 //!
 //! Nothing here knows of C: [`birchagain_c`] hands these calls an index that a handle holds, and bytes that lie in the
 //! caller's memory.
@@ -10,6 +10,7 @@ mod cut_words;
 mod documents;
 mod holders;
 mod lengths;
+mod placed;
 mod refusal;
 mod segments;
 mod start;
@@ -18,6 +19,7 @@ mod weights;
 pub use documents::{add_text, add_words, delete};
 pub use holders::frequencies;
 pub use lengths::set_norms;
+pub use placed::add_placed;
 pub use refusal::{Refusal, status_text};
 pub use segments::{end_segment, refresh};
 pub use start::new_index;

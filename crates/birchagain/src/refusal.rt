@@ -16,7 +16,7 @@ pub enum Refusal {
     NotText,
     /// There is no document of that number.
     NoDocument,
-    /// Words do not end in ascending order within their bytes, or one has a space.
+    /// Ends of words do not ascend within their bytes, or those of places within these, or a word has a space.
     NotWords,
     /// A weight is below 0.
     NegativeWeight,
@@ -85,14 +85,14 @@ pub fn status_text(status: u32) -> &'static str {
         9 => "a bound on the score, or a product of boosts, is above 9223372036854775807",
         13 => "out of memory",
         14 => "the segment holds 2147483647 documents already",
-        15 => "the document has too many words, or the index has not its field",
+        15 => "the document has too many words, one twice, bad places, or an unknown field",
         17 => "a norm is less than the one before it",
         18 => "an index takes at most 4294967295 segments",
         64 => "the index is not open",
         65 => "the query is not understood",
         66 => "the bytes are not UTF-8",
         67 => "there is no document of that number",
-        68 => "words do not end in ascending order within their bytes, or one has a space",
+        68 => "ends of words or places do not ascend within their rows, or a word has a space",
         69 => "the weight is below 0",
         70 => "two rows are not of one length",
         _ => "no status of this library",
