@@ -7,6 +7,7 @@ mod bytes_callers;
 mod callers;
 mod cursor_callers;
 mod file_callers;
+mod given_callers;
 mod index_callers;
 mod joining_callers;
 mod laws;
@@ -26,6 +27,7 @@ pub use bytes_callers::row_through_bytes;
 pub use callers::{Joined, collect_calls, collect_matches, count_calls, join_slices};
 pub use cursor_callers::{documents_in_enough, documents_with_term};
 pub use file_callers::{row_through_file, wanted_through_file, whole_through_file};
+pub use given_callers::add_placed_term;
 pub use index_callers::{replace_document, searched_segments, unsearched_documents};
 pub use joining_callers::join_all_segments;
 pub use laws::{
