@@ -112,10 +112,11 @@ uint32_t birchagain_add_text(birchagain_index *index, const uint8_t *text, size_
 uint32_t birchagain_add_words(birchagain_index *index, const uint8_t *bytes, size_t bytes_length, const size_t *ends,
                               size_t words);
 
-/* The same by its words with their places, of which 0 is that of the first word, and phrases find words by them. A word
- * stands once, and may have spaces. The places of each stand in `places` behind those of the word before it, and end where
- * `place_ends` says: one place at least, ascending, below 4294967295. There may be gaps, and words of one place. The
- * document is as long as `length` says, as `birchagain_set_norms` counts it. All four arrays are only read.
+/* The same by its words with their places, counted from 0 up, by which phrases find words. A word stands once, and may have
+ * spaces: then the beginning of a word finds it, as `new*`, but `birchagain_frequencies` and words of queries have none. The
+ * places of each word stand in `places` behind those of the word before it, and end where `place_ends` says: one at least,
+ * ascending, below 4294967295. There may be gaps, and words that share a place. `length` is the document's length, as
+ * `birchagain_set_norms` counts it, whatever the number of its words. All four arrays are only read.
  * BIRCHAGAIN_UNEVEN_ROWS where there are not as many ends of places as of words, BIRCHAGAIN_NOT_WORDS, BIRCHAGAIN_NOT_TEXT,
  * BIRCHAGAIN_TOO_MANY_DOCUMENTS, BIRCHAGAIN_BAD_DOCUMENT. */
 uint32_t birchagain_add_placed(birchagain_index *index, const uint8_t *bytes, size_t bytes_length, const size_t *ends,

@@ -99,9 +99,9 @@ class Index(Queries, StoredIndex):
             self._call(_library.add_words, data, len(data), ends, count)
 
     def add_placed(self, words: Mapping[str, Sequence[int]], length: Optional[int] = None) -> None:
-        """Adds a document with these words, each at its places among all words: a word has one letter at least, and may have
-        spaces; its places ascend from 0 up, with any gaps, and words may share a place. `length` is the document's length,
-        and by default the number of places, held at 255.
+        """Adds a document with these words, each at its places among all words, which ascend from 0 up; there may be gaps,
+        and words that share a place. A word has one letter at least, and may have spaces: then `new*` finds it, the
+        beginning of a word. `length` is the document's length, and by default the number of places, held at 255.
 
         Raises `WordError` for a word that is empty, or has no place, or places that do not ascend or reach 4294967295, and
         `OverflowError` for a place that is not within 32 bits, or a length that is not from 0 to 255.
