@@ -156,7 +156,7 @@ best_in-both q s t both words limit xs ys hits all first second is =
       scores = first.scores;
       weighed = first.weighed;
       best = sym (ap (found_best limit first.enable query) all.segments
-        ∙ merged-best limit first.enable query (all_segments s) (all_segments t) xs ys hits (sym first.best) found is);
+          ∙ merged-best limit first.enable query (all_segments s) (all_segments t) xs ys hits (sym first.best) found is);
     }
 
 -- As many match in both as in each together.
@@ -175,5 +175,5 @@ count_in-both q s t both n m all first second =
       fields = first.fields ∙ sym all.fields;
       scores = first.scores;
       count = (λ i. first.count i + other i) ∙ sym (found_alive-append first.enable query (all_segments s) (all_segments t))
-        ∙ ap (found_alive first.enable query) (sym all.segments);
+          ∙ ap (found_alive first.enable query) (sym all.segments);
     }

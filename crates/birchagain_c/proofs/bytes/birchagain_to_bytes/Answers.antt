@@ -27,4 +27,4 @@ returns-in-Some-clause-written c =
     let is_written : Index → Type 0 = IsWritten c.args.known.now c.args.out.now c.write_bytes-done.new.out c.write_bytes-done.new.size in
     let held : c.args.index.now.held ≡ Some c.in-Some.held.value = search rules in
     λ zero. subst (Holds is_written) (sym held) (subst is_written c.deref_mut.ensures.value
-        (λ blocks. done_said _ c.write_bytes-done.result (sym c.status_after.ensures ∙ zero) (c.write_bytes-done.ensures.bytes blocks)))
+    (λ blocks. done_said _ c.write_bytes-done.result (sym c.status_after.ensures ∙ zero) (c.write_bytes-done.ensures.bytes blocks)))

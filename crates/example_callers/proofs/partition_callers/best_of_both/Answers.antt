@@ -41,5 +41,7 @@ unreachable-requires c =
     let first = subst (λ l. AreBestIn q (indexed c.args.first.now) (statistics c.args.first.now) limit (listed l)) (sym c.deref.ensures.value) c.in_ok-best.ensures.best in
     let second = subst (λ l. AreBestIn q (indexed c.args.second.now) (statistics c.args.second.now) limit (listed l)) (sym c.deref-2.ensures.value) c.in_ok-others.ensures.best in
     c.in-Err-NotRanked.ensures.not_ranked.0 (ap Err c.in-Err-NotRanked.field-0-is)
-    (record { first = ranked-in q (indexed c.args.first.now) (statistics c.args.first.now) limit c.deref.result.now first;
-      second = ranked-in q (indexed c.args.second.now) (statistics c.args.second.now) limit c.deref-2.result.now second; })
+    (record {
+      first = ranked-in q (indexed c.args.first.now) (statistics c.args.first.now) limit c.deref.result.now first;
+      second = ranked-in q (indexed c.args.second.now) (statistics c.args.second.now) limit c.deref-2.result.now second;
+    })
