@@ -30,7 +30,7 @@ static void must(uint32_t status) {
 static void best_of(const char *query) {
     birchagain_hit best[BEST];
     size_t filled;
-    must(birchagain_top(&held, (const uint8_t *)query, strlen(query), best, BEST, &filled));
+    must(birchagain_top(&held, BIRCHAGAIN_SCRIPT, (const uint8_t *)query, strlen(query), best, BEST, &filled));
 }
 
 static double least_call(void) {

@@ -52,10 +52,10 @@ class Library:
         return " ".join(parts.words)
 
     def count(self, query):
-        return self.index.count(query)
+        return self.index.count(query, language="script")
 
     def top(self, query, most):
-        return self.index.top(query, most)
+        return self.index.top(query, most, language="script")
 
     def weigh(self, words):
         self.index.weigh_by_rarity(words)
