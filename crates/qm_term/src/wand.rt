@@ -3,11 +3,14 @@
 //! They make the calls of the plain loop, with the same thresholds, and score only documents whose
 //! blocks' bounds are above the threshold together.
 
+pub(crate) mod cells;
+mod drain;
 mod front;
 pub(crate) mod heads;
 mod rows;
 mod run;
 mod single;
+mod stretches;
 mod ticks;
 
 pub use front::{TermScorerWithMaxScore, score_front};

@@ -21,10 +21,12 @@ ghost use Rattle.qm_term.specs.WandRun.{IsNewRun, IsRun, PrunesTerms, RunFinishe
 ghost use Rattle.qm_term.specs.WandRun.{run_combiner, run_lists, run_threshold, run_ticks, run_turns, run_union};
 
 use crate::term_scorer::TermScorer;
+use crate::wand::cells::Cells;
 use crate::wand::front::{TermScorerWithMaxScore, score_level};
 use crate::wand::heads::{Head, align, bounds_at, find_pivot, front_len, pass, settle, skip_one};
 use crate::wand::rows::{heads_of, row_of, tops_fit};
 use crate::wand::single::{call_at, is_above};
+use crate::wand::stretches::run_stretches;
 use crate::wand::ticks::{Ticks, WandCount};
 use qm_combine::BoundedBySum;
 use qm_docset::{DocId, Score, TERMINATED};
@@ -109,23 +111,19 @@ impl<'a, C: BoundedBySum> WandRun<'a, C> {
             ticks: self.ticks.get(),
         }
     }
-
-    // Turns until there is no pivot.
-    fn finish<F: FnMut(DocId, Score) -> Score>(&mut self, callback: &mut F)
-        requires valid { IsRun self.old }
-        requires callable { MayPrune (InRange F.step) F.pre (run_threshold self.old) callback.old (run_union C.combined self.old) }
-        ensures valid { IsRun self.new }
-        ensures turns { run_turns self.new ≤ run_turns self.old + postings (run_lists self.old) }
-        ensures run { RunFinishes (InRange F.step) C.combined callback.old self.old callback.new self.new }
-    {
-        while self.turn(callback) {}
-    }
 }
 
 /// Runs over what the scorers have left: calls `callback` for each document that scores above the
 /// threshold, ascending, with what the combiner makes of its scores; its answer is the threshold from
 /// then on. It makes the calls of the plain loop, with the same thresholds, and scores only documents
-/// whose blocks' bounds add up to more than the threshold. It takes memory only before the first call.
+/// whose blocks' bounds add up to more than the threshold. It takes memory only before the first call: for a
+/// scorer a kilobyte and a record, and for the documents of a stretch, of which there are at most 4096, a word
+/// and a combiner each.
+///
+/// It goes by stretches: while the blocks that the scorers are at are bounded together by the threshold, it passes
+/// to where the first of them ends. Else it takes all documents from there to that end, or some 64 for each
+/// scorer, each with its scores and the bounds of its blocks. So a stretch costs a look at each scorer, and a
+/// division and an addition for each posting in it; a block that is passed costs one division.
 ///
 /// Asks that the callback may be called so, whatever the calls before answered and left of it. Refused
 /// where the scorers' greatest scores add up past the greatest score, and else for want of memory alone.
@@ -146,9 +144,26 @@ pub fn block_wand<C: BoundedBySum, F: FnMut(DocId, Score) -> Score>(
     ensures only { IfErr result IsBoundOrMemory }
     ensures untouched { OnErr result (callback.new ≡ callback.old) }
 {
-    let mut run = WandRun::new(alloc, scorers, combiner, threshold)?;
-    run.finish(callback);
-    Ok(run.count())
+    if !tops_fit(&scorers) {
+        return Err(QueryError::ScoreBound);
+    }
+    let mut row = row_of(alloc, scorers)?;
+    let mut heads = heads_of(alloc, &row)?;
+    let mut cells = Cells::new(alloc, combiner)?;
+    let mut ticks = Ticks::new();
+    run_stretches(
+        &mut heads,
+        &mut row,
+        &mut cells,
+        threshold,
+        &mut ticks,
+        callback,
+    );
+    let ticks = ticks.get();
+    Ok(WandCount {
+        turns: ticks,
+        ticks,
+    })
 }
 
 // What a turn did.

@@ -1,59 +1,87 @@
-use Rattle.std.proofs.Common.{◌≡◌, ◌∙◌, ℕ, ℤ, arith, map, subst, sym, w64}
+use Rattle.std.proofs.Common.{◌≡◌, ◌∙◌, ◌+◌, ◌++◌, ◌≤◌, ℕ, ℤ, List, ap, arith, drop, length, map, refl, subst, sym, take, w64}
 use Rattle.std.proofs.lemmas.Int.{to_z-of_z}
+use Rattle.qm_docset.specs.Entry.{greatest_score}
+use Rattle.qm_term.specs.Cells.{cells_clear}
+use Rattle.qm_term.specs.HeadRow.{AreHeads, row_lists}
 use Rattle.qm_term.specs.HitRuns.{MayPrune}
-use Rattle.qm_term.specs.Members.{united}
-use Rattle.qm_combine.specs.CombineFacts.{combined-permutation}
-use Rattle.qm_term.specs.Pivot.{Pruned}
+use Rattle.qm_term.specs.Members.{Member, united}
+use Rattle.qm_term.specs.Pivot.{Pruned, bound_of, total_top}
 use Rattle.qm_term.specs.Runs.{InRange}
+use Rattle.qm_term.specs.RunScorers.{wand_member}
 use Rattle.qm_term.specs.TermBlocks.{member_of}
-use Rattle.qm_term.specs.WandRun.{run_lists}
+use Rattle.qm_term.specs.declared.term_scorer.TermScorer.{TermScorer}
+use Rattle.qm_term.specs.declared.wand.front.TermScorerWithMaxScore.{TermScorerWithMaxScore}
+use Rattle.qm_term.specs.declared.wand.heads.Head.{Head}
 use Rattle.qm_term.proofs.HitRunFacts.{MayPrune-terms, PrunesTerms-pruned}
-use Rattle.qm_term.proofs.WandOrder.{may_permuted, postings_permuted, pruned_permuted}
+use Rattle.qm_term.proofs.StretchCounts.{count_le, length-united}
 use Rattle.qm_term.specs.contracts.wand.run.block_wand.F-FnMut as fnmut
 use Rattle.qm_term.proofs.wand.run.block_wand.Goals as goal
+use Rattle.qm_term.proofs.wand.run.block_wand.Goals.{After-run_stretches, Ends-run_stretches}
+use Rattle.qm_term.proofs.wand.run.block_wand.Given.{Over}
+use Rattle.qm_term.specs.declared.wand.cells.Cell.{Cell}
 
-pub finish-requires-clause-callable : goal.finish-requires-clause-callable
-finish-requires-clause-callable g c =
+-- what the clear cell combines is what the combiner does
+keeps : {C : Type 0} (cleared : C → C) (combined : C → List ℕ → ℕ) → ((c : C) → combined (cleared c) ≡ combined c) → (own now : C) → now ≡ cleared own → combined now ≡ combined own
+keeps cleared combined law own now is = ap combined is ∙ law own
+
+pub run_stretches-requires-clause-heads : goal.run_stretches-requires-clause-heads
+run_stretches-requires-clause-heads g c =
+    subst (λ (xs : List TermScorerWithMaxScore). AreHeads xs c.deref_mut.result.now) (sym c.deref_mut-2.ensures.value)
+    (subst (λ (ys : List Head). AreHeads c.in_ok-row.row.items ys) (sym c.deref_mut.ensures.value)
+    (subst (λ (xs : List TermScorerWithMaxScore). AreHeads xs c.in_ok-heads.heads.items) c.deref-2.ensures.value c.in_ok-heads.ensures.heads))
+
+-- the lists of the row are those of the scorers
+listed_row : (g : Over) (c : After-run_stretches g) → row_lists c.deref_mut-2.result.now c.deref_mut.result.now ≡ map member_of c.args.scorers.items
+listed_row g c =
+    let ss = c.in_ok-row.row.items in
+    let hs = c.in_ok-heads.heads.items in
+    let lists : row_lists ss hs ≡ map member_of c.args.scorers.items =
+    subst (λ (xs : List TermScorerWithMaxScore). row_lists xs hs ≡ map wand_member xs) c.deref-2.ensures.value c.in_ok-heads.ensures.lists
+    ∙ c.in_ok-row.ensures.members in
+    rw (c.deref_mut.ensures.value, c.deref_mut-2.ensures.value) lists
+
+pub run_stretches-requires-clause-fits : goal.run_stretches-requires-clause-fits
+run_stretches-requires-clause-fits g c =
+    let fits : total_top (map member_of c.args.scorers.items) ≤ greatest_score =
+    subst (λ (xs : List TermScorer). total_top (map member_of xs) ≤ greatest_score) c.deref.ensures.value (c.tops_fit.ensures.fits c.if-not-tops_fit.false) in
+    omega (arith, ap total_top (listed_row g (goal.at.run_stretches-requires-clause-fits g c).After-run_stretches), fits)
+
+pub run_stretches-requires-clause-begins : goal.run_stretches-requires-clause-begins
+run_stretches-requires-clause-begins g c =
+    rw c.in_ok-cells.ensures.state (record { bound = refl; state = record { start = c.args.combiner; is = refl } })
+
+pub run_stretches-requires-clause-callable : goal.run_stretches-requires-clause-callable
+run_stretches-requires-clause-callable g c =
     let w = fnmut.words g.row.C g.row.F g.F.FnMut in
-    let r = c.in_ok-run.run' in
-    let made = c.in_ok-run.ensures.made in
-    let combined = g.C.ScoreCombiner.combined c.args.combiner in
-    let order = combined-permutation g.C.ScoreCombiner g.met.C.ScoreCombiner.combines g.met.C.ScoreCombiner.commutes c.args.combiner in
-    rw made.combines (subst (λ (t : ℤ). MayPrune (InRange w.step) w.pre t c.args.callback.now (united combined (run_lists r)))
-    (sym (made.same ∙ to_z-of_z w64 c.args.threshold c.ranges.threshold))
-    (may_permuted (InRange w.step) combined order w.pre c.args.threshold c.args.callback.now (map member_of c.args.scorers.items)
-    (run_lists r) made.lists (MayPrune-terms (InRange w.step) combined (g.met.C.BoundedBySum.within_sum c.args.combiner)
-    c.args.scorers.items c.requires.valid w.pre c.args.threshold c.args.callback.now c.requires.callable)))
+    let combiner = c.args.combiner in
+    let combined = g.C.ScoreCombiner.combined combiner in
+    let own = keeps g.C.ScoreCombiner.cleared g.C.ScoreCombiner.combined g.met.C.ScoreCombiner.clear_keeps combiner
+    (cells_clear c.in_ok-cells.cells).state (ap (λ (x : Cell _). x.state) c.in_ok-cells.ensures.state) in
+    let may = MayPrune-terms (InRange w.step) combined (g.met.C.BoundedBySum.within_sum combiner) c.args.scorers.items c.requires.valid w.pre
+    c.args.threshold c.args.callback.now c.requires.callable in
+    rw (to_z-of_z w64 c.args.threshold c.ranges.threshold, own, listed_row g (goal.at.run_stretches-requires-clause-callable g c).After-run_stretches) may
 
-pub returns-clause-turns : goal.returns-clause-turns
-returns-clause-turns g c =
-    let made = c.in_ok-run.ensures.made in
-    omega (
-      arith,
-      c.count.ensures.turns,
-      c.finish.ensures.turns,
-      made.no_turns,
-      postings_permuted (map member_of c.args.scorers.items) (run_lists c.in_ok-run.run') made.lists,
-    )
+-- the run over the scorers' lists
+over : (g : Over) (c : Ends-run_stretches g) → (last : ℤ) × Pruned (InRange (fnmut.words g.row.C g.row.F g.F.FnMut).step)
+    (g.C.ScoreCombiner.combined c.args.combiner) c.args.threshold c.args.callback.now (map member_of c.args.scorers.items) c.get-ticks.result last c.run_stretches.new.callback
+over g c =
+    let combiner = c.args.combiner in
+    let own = keeps g.C.ScoreCombiner.cleared g.C.ScoreCombiner.combined g.met.C.ScoreCombiner.clear_keeps combiner
+    (cells_clear c.in_ok-cells.cells).state (ap (λ (x : Cell _). x.state) c.in_ok-cells.ensures.state) in
+    let run = rw (to_z-of_z w64 c.args.threshold c.ranges.threshold, own, listed_row g c.After-run_stretches, sym c.get-ticks.ensures) at c.run_stretches.ensures.run in
+    (run.last, run.run)
 
 pub returns-clause-run : goal.returns-clause-run
 returns-clause-run g c =
     let call = InRange (fnmut.words g.row.C g.row.F g.F.FnMut).step in
-    let ls = map member_of c.args.scorers.items in
-    let r = c.in_ok-run.run' in
-    let f = c.args.callback.now in
-    let z = c.finish.new.callback in
-    let made = c.in_ok-run.ensures.made in
     let combined = g.C.ScoreCombiner.combined c.args.combiner in
-    let order = combined-permutation g.C.ScoreCombiner g.met.C.ScoreCombiner.combines g.met.C.ScoreCombiner.commutes c.args.combiner in
-    let run = rw made.combines at c.finish.ensures.run in
-    let ticks : run.ticks ≡ c.count.result.ticks = omega (arith, c.count.ensures.ticks, run.counted, made.no_ticks) in
-    let is = made.same ∙ to_z-of_z w64 c.args.threshold c.ranges.threshold in
-    PrunesTerms-pruned call combined (g.met.C.BoundedBySum.within_sum c.args.combiner)
-    c.args.scorers.items c.requires.valid c.args.threshold run.last f z c.count.result.ticks
-    (subst (λ (k : ℕ). Pruned call combined c.args.threshold f ls k run.last z) ticks
-    (pruned_permuted call combined order c.args.threshold f ls (run_lists r) run.ticks run.last z made.lists
-    (subst (λ (t : ℤ). Pruned call combined t f (run_lists r) run.ticks run.last z) is run.run)))
+    let p = over g (goal.at.returns-clause-run g c).Ends-run_stretches in
+    PrunesTerms-pruned call combined (g.met.C.BoundedBySum.within_sum c.args.combiner) c.args.scorers.items c.requires.valid c.args.threshold p.0
+    c.args.callback.now c.run_stretches.new.callback c.get-ticks.result p.1
 
-pub returns-clause-scored : goal.returns-clause-scored
-returns-clause-scored g c = omega (arith, c.finish.ensures.valid.ticks, c.count.ensures.ticks, c.count.ensures.turns)
+pub returns-clause-turns : goal.returns-clause-turns
+returns-clause-turns g c =
+    let combined = g.C.ScoreCombiner.combined c.args.combiner in
+    let ms = map member_of c.args.scorers.items in
+    let p = (over g (goal.at.returns-clause-turns g c).Ends-run_stretches).1 in
+    omega (arith, p.3, count_le (bound_of ms) p.0 (united combined ms), length-united combined ms)

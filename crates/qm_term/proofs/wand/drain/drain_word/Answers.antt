@@ -1,0 +1,142 @@
+-- One by one the documents of the word are taken out and gone over.
+use Rattle.std.proofs.Common.{◌≡◌, ◌∙◌, ℕ, ℤ, zero, suc, ◌+◌, ◌*◌, ◌<◌, ◌≤◌, ◌&&◌, ◌==◌, List, ◌∷◌, ap, arith, cond, inl, inr, length, not, pos, refl, subst, sym, w64}
+use Rattle.std.specs.Prelude.{All}
+use Rattle.std.proofs.lemmas.Bool.{cases_lt}
+use Rattle.std.proofs.lemmas.Int.{to_z-of_z}
+use Rattle.std.proofs.lemmas.List.Elements.{All-head, All-tail}
+use Rattle.qm_docset.specs.Entry.{greatest_score}
+use Rattle.qm_term.specs.Cells.{LackAll, RunsOver, Shown, all_shown, cell_of, cells_end, cells_has, cells_start, hits_shown}
+use Rattle.qm_term.specs.HitRuns.{MayPrune, one_if_above}
+use Rattle.qm_term.specs.Runs.{InRange, MayTurn, Turn}
+use Rattle.qm_term.specs.RunScorers.{ticks_of}
+use Rattle.qm_term.specs.Stretches.{AreWithin, GoesOn}
+use Rattle.qm_term.specs.declared.wand.cells.Cell.{Cell}
+use Rattle.qm_term.proofs.StretchShown.{all_taken, has_from, lacks_all, shown_at, tidy_taken, was_there}
+use Rattle.qm_term.proofs.WandPlain.{at_most_one}
+use Rattle.qm_term.specs.contracts.wand.drain.drain_word.F-FnMut as fnmut
+use Rattle.qm_term.proofs.wand.drain.drain_word.Goals as goal
+use Rattle.qm_term.proofs.wand.drain.drain_word.Goals.{After-take-cell}
+use Rattle.qm_term.proofs.wand.drain.drain_word.Given.{Over}
+
+pub loop-doc-init : goal.loop-doc-init
+loop-doc-init g c =
+    let is = to_z-of_z w64 c.args.threshold c.ranges.threshold in
+    record {
+      taken = record { had = λ d here. here; tidy = c.requires.tidy; alike = record { start = refl; end = refl; clear = refl } };
+      within = c.requires.within;
+      before = c.requires.before;
+      room = omega arith;
+      may = rw is c.requires.callable;
+      goes = record { count = 0; counted = omega arith; back = λ k last h p. rw is at p };
+    }
+
+pub take-cell-requires-clause-there : goal.take-cell-requires-clause-there
+take-cell-requires-clause-there g c = c.in-Some.ensures.has
+
+pub take-cell-requires-clause-within : goal.take-cell-requires-clause-within
+take-cell-requires-clause-within g c =
+    let inv = c.loop-doc.invariant in
+    omega (arith, c.requires.inside c.in-Some.doc (inv.taken.had c.in-Some.doc c.in-Some.ensures.has), inv.taken.alike.end)
+
+-- what is shown begins with the document
+shown : (g : Over) (c : After-take-cell g)
+    → all_shown g.C.ScoreCombiner.value c.loop-doc.cells ≡ shown_at g.C.ScoreCombiner.value c.loop-doc.cells c.in-Some.doc
+    ∷ all_shown g.C.ScoreCombiner.value c.take-cell.new.self
+shown g c =
+    let inv = c.loop-doc.invariant in
+    let w = c.loop-doc.cells in
+    let doc : ℕ = c.in-Some.doc in
+    let start : cells_start w ≡ cells_start c.args.cells.now = inv.taken.alike.start in
+    let before : LackAll w (cells_start w) doc =
+    λ d from to. lacks_all w 0 (cells_start c.args.cells.now + 64 * c.args.word) doc inv.before
+    (rw start at c.in-Some.ensures.first) d (omega arith) to in
+    all_taken g.C.ScoreCombiner.value w c.take-cell.new.self doc c.in-Some.ensures.has c.take-cell.ensures.has c.take-cell.ensures.others
+    c.take-cell.ensures.alike (has_from w doc c.in-Some.ensures.has)
+    (omega (arith, c.requires.inside doc (inv.taken.had doc c.in-Some.ensures.has), inv.taken.alike.end)) before
+
+within_first : (g : Over) (c : After-take-cell g) →
+    (g.C.ScoreCombiner.value (cell_of c.loop-doc.cells c.in-Some.doc).state ≤ (cell_of c.loop-doc.cells c.in-Some.doc).bound)
+    × ((cell_of c.loop-doc.cells c.in-Some.doc).bound ≤ greatest_score)
+within_first g c =
+    All-head (λ (e : Shown). (e.score ≤ e.bound) × (e.bound ≤ greatest_score)) _ _ (subst AreWithin (shown g c) c.loop-doc.invariant.within)
+
+pub score_cell-threshold-requires-clause-within : goal.score_cell-threshold-requires-clause-within
+score_cell-threshold-requires-clause-within g c =
+    subst (λ (x : Cell _). g.C.ScoreCombiner.value x.state ≤ x.bound) (sym c.take-cell.ensures.cell)
+    (within_first g (goal.at.score_cell-threshold-requires-clause-within g c).After-take-cell).0
+
+pub score_cell-threshold-requires-clause-bound : goal.score_cell-threshold-requires-clause-bound
+score_cell-threshold-requires-clause-bound g c =
+    subst (λ (x : Cell _). x.bound ≤ greatest_score) (sym c.take-cell.ensures.cell)
+    (within_first g (goal.at.score_cell-threshold-requires-clause-bound g c).After-take-cell).1
+
+pub score_cell-threshold-requires-clause-room : goal.score_cell-threshold-requires-clause-room
+score_cell-threshold-requires-clause-room g c =
+    omega (
+      arith,
+      ap length (shown g (goal.at.score_cell-threshold-requires-clause-room g c).After-take-cell),
+      c.loop-doc.invariant.room,
+      c.requires.room,
+    )
+
+pub score_cell-threshold-requires-clause-callable : goal.score_cell-threshold-requires-clause-callable
+score_cell-threshold-requires-clause-callable g c =
+    let w = fnmut.words g.row.C g.row.F g.F.FnMut in
+    let may = subst (λ (xs : List Shown). MayPrune (InRange w.step) w.pre c.loop-doc.threshold c.loop-doc.callback (hits_shown xs))
+    (shown g (goal.at.score_cell-threshold-requires-clause-callable g c).After-take-cell) c.loop-doc.invariant.may in
+    subst (λ (x : Cell _). MayTurn w.pre c.loop-doc.threshold c.loop-doc.callback c.in-Some.doc (g.C.ScoreCombiner.value x.state))
+    (sym c.take-cell.ensures.cell) may.0
+
+pub loop-doc-preserved : goal.loop-doc-preserved
+loop-doc-preserved g c =
+    let w = fnmut.words g.row.C g.row.F g.F.FnMut in
+    let call = InRange w.step in
+    let value = g.C.ScoreCombiner.value in
+    let inv = c.loop-doc.invariant in
+    let old = c.loop-doc.cells in
+    let new = c.take-cell.new.self in
+    let doc : ℕ = c.in-Some.doc in
+    let e = c.take-cell.ensures in
+    let is = shown g (goal.at.loop-doc-preserved g c).After-take-cell in
+    let scored = c.score_cell-threshold in
+    let one = one_if_above c.loop-doc.threshold (cell_of old doc).bound in
+    let ticks : ticks_of scored.new.ticks ≡ ticks_of c.loop-doc.ticks + one = scored.ensures.ticks
+    ∙ ap (λ (x : Cell _). ticks_of c.loop-doc.ticks + one_if_above c.loop-doc.threshold x.bound) e.cell in
+    let turn : Turn call c.loop-doc.threshold c.loop-doc.callback doc (pos (value (cell_of old doc).state)) scored.result scored.new.callback =
+    subst (λ (x : Cell _). Turn call c.loop-doc.threshold c.loop-doc.callback doc (pos (value x.state)) scored.result scored.new.callback) e.cell scored.ensures.turn in
+    let may = subst (λ (xs : List Shown). MayPrune call w.pre c.loop-doc.threshold c.loop-doc.callback (hits_shown xs)) is inv.may in
+    record {
+      taken = record {
+        had = λ d here. inv.taken.had d (was_there value old new doc c.in-Some.ensures.has e.has e.others d here);
+        tidy = λ d none. tidy_taken value old new doc c.in-Some.ensures.has e.has e.others inv.taken.tidy e.cleared d none ∙ sym e.alike.clear;
+        alike = record {
+          start = e.alike.start ∙ inv.taken.alike.start;
+          end = e.alike.end ∙ inv.taken.alike.end;
+          clear = e.alike.clear ∙ inv.taken.alike.clear;
+        };
+      };
+      within = All-tail (λ (x : Shown). (x.score ≤ x.bound) × (x.bound ≤ greatest_score)) _ _ (subst AreWithin is inv.within);
+      before = λ d from to. e.has d ∙ ap (λ b. b && not (d == doc)) (inv.before d from to);
+      room = omega (arith, ap length is, inv.room, ticks, at_most_one c.loop-doc.threshold (cell_of old doc).bound);
+      may = may.1 scored.result scored.new.callback turn;
+      goes = record {
+        count = inv.goes.count + one;
+        counted = omega (arith, inv.goes.counted, ticks);
+        back = λ k last h p.
+            let step = subst (λ (xs : List Shown). RunsOver call c.loop-doc.threshold c.loop-doc.callback xs (one + k) last h) (sym is)
+            (scored.result, scored.new.callback, k, turn, refl, p) in
+            let same : inv.goes.count + (one + k) ≡ inv.goes.count + one + k = omega arith in
+            subst (λ (n : ℕ). RunsOver call c.args.threshold c.args.callback.now (all_shown value c.args.cells.now) n last h) same
+            (inv.goes.back (one + k) last h step);
+      };
+    }
+
+pub loop-doc-smaller : goal.loop-doc-smaller
+loop-doc-smaller g c = omega (arith, ap length (shown g (goal.at.loop-doc-smaller g c).After-take-cell))
+
+pub returns-clause-before : goal.returns-clause-before
+returns-clause-before g c =
+    let inv = c.loop-doc.invariant in
+    let start = inv.taken.alike.start in
+    lacks_all c.loop-doc.cells 0 (cells_start c.args.cells.now + 64 * c.args.word) (cells_start c.args.cells.now + 64 * (c.args.word + 1)) inv.before
+    (rw start at c.in_default.ensures.none refl)
