@@ -78,8 +78,10 @@ left g c = λ d.
     ]
 
 pub returns-clause-clear : goal.returns-clause-clear
-returns-clause-clear g c = λ d. (left g (goal.at.returns-clause-clear g c).After-loop-word d,
-    c.loop-word.invariant.taken.tidy d (left g (goal.at.returns-clause-clear g c).After-loop-word d))
+returns-clause-clear g c = λ d. (
+  left g (goal.at.returns-clause-clear g c).After-loop-word d,
+  c.loop-word.invariant.taken.tidy d (left g (goal.at.returns-clause-clear g c).After-loop-word d),
+)
 
 pub returns-clause-same : goal.returns-clause-same
 returns-clause-same g c = c.loop-word.invariant.taken.alike.clear
