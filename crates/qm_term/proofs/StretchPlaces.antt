@@ -1,6 +1,6 @@
 -- The bits and the cells of a stretch, by their places.
-use Rattle.std.proofs.Common.{◌≡◌, ◌≢◌, ◌∙◌, ℕ, ◌+◌, ◌-◌, ◌*◌, ◌/◌, ◌<◌, ◌≤◌, ◌==◌, ◌&&◌, ◌||◌, Bool, true, false, not, cond, List, nat_le, get_or, set, length, ap, arith, eq-eqb, inl, inr, ne_eqb, refl, sym}
-use Rattle.std.proofs.lemmas.Bool.{cases_Bool, cases_eq, cases_lt, le-leb, lt-leb}
+use Rattle.std.proofs.Common.{◌≡◌, ◌≢◌, ◌∙◌, ℕ, ◌+◌, ◌-◌, ◌<◌, ◌≤◌, ◌==◌, ◌&&◌, false, not, cond, List, nat_le, get_or, set, length, ap, arith, eq-eqb, inl, inr, ne_eqb, refl, sym}
+use Rattle.std.proofs.lemmas.Bool.{cases_eq, cases_lt, le-leb, lt-leb}
 use Rattle.std.proofs.lemmas.List.{get_or-set_other, get_or-set_same}
 use Rattle.qm_docset.specs.Words.{words_have}
 use Rattle.qm_docset.specs.declared.tiny_set.TinySet.{TinySet}

@@ -6,7 +6,6 @@ use Rattle.qm_term.specs.Cells.{AreAlike, LackAll, RunsOver, Shown, all_shown, c
 use Rattle.qm_term.specs.HitRuns.{one_if_above}
 use Rattle.qm_term.specs.Runs.{Turn}
 use Rattle.qm_term.specs.Stretches.{GoesOn}
-use Rattle.qm_term.specs.declared.wand.cells.Cell.{Cell}
 use Rattle.qm_term.specs.declared.wand.cells.Cells.{Cells}
 
 abbrev pub shown_at : {C : Type 0} → (C → ℕ) → Cells C → ℕ → Shown

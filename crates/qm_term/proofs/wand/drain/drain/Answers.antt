@@ -1,12 +1,12 @@
 -- Word by word all are taken out.
-use Rattle.std.proofs.Common.{◌≡◌, ◌∙◌, ℕ, ℤ, ◌+◌, ◌*◌, ◌<◌, ◌≤◌, List, [], true, false, ap, arith, inl, inr, length, of_z, refl, subst, sym, to_z, w64}
+use Rattle.std.proofs.Common.{◌≡◌, ◌∙◌, ℕ, ◌+◌, ◌*◌, List, false, arith, inl, inr, of_z, refl, subst, sym, to_z, w64}
 use Rattle.std.proofs.lemmas.Bool.{cases_Bool, cases_lt, false≢true}
 use Rattle.std.proofs.lemmas.Int.{to_z-of_z}
 use Rattle.qm_term.specs.Cells.{RunsOver, Shown, all_shown, cells_has, cells_start, hits_shown}
 use Rattle.qm_term.specs.HitRuns.{MayPrune}
 use Rattle.qm_term.specs.Runs.{InRange}
 use Rattle.qm_term.specs.RunScorers.{ticks_of}
-use Rattle.qm_term.specs.Stretches.{GoesOn, TakenOut}
+use Rattle.qm_term.specs.Stretches.{GoesOn}
 use Rattle.qm_term.proofs.StretchShown.{all_few, all_nothing, goes_further, goes_nowhere, lacks_before}
 use Rattle.qm_term.proofs.wand.drain.drain.Goals as goal
 use Rattle.qm_term.proofs.wand.drain.drain.Goals.{After-loop-word}

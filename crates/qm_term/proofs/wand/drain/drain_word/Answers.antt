@@ -1,15 +1,13 @@
 -- One by one the documents of the word are taken out and gone over.
-use Rattle.std.proofs.Common.{◌≡◌, ◌∙◌, ℕ, ℤ, zero, suc, ◌+◌, ◌*◌, ◌<◌, ◌≤◌, ◌&&◌, ◌==◌, List, ◌∷◌, ap, arith, cond, inl, inr, length, not, of_z, pos, refl, subst, sym, to_z, w64, zero-add}
-use Rattle.std.specs.Prelude.{All}
-use Rattle.std.proofs.lemmas.Bool.{cases_lt}
+use Rattle.std.proofs.Common.{◌≡◌, ◌∙◌, ℕ, ◌+◌, ◌*◌, ◌≤◌, ◌&&◌, ◌==◌, List, ◌∷◌, ap, arith, length, not, of_z, pos, refl, subst, sym, to_z, w64}
 use Rattle.std.proofs.lemmas.Int.{to_z-of_z}
 use Rattle.std.proofs.lemmas.List.Elements.{All-head, All-tail}
 use Rattle.qm_docset.specs.Entry.{greatest_score}
-use Rattle.qm_term.specs.Cells.{LackAll, RunsOver, Shown, all_shown, cell_of, cells_end, cells_has, cells_start, hits_shown}
+use Rattle.qm_term.specs.Cells.{LackAll, Shown, all_shown, cell_of, cells_start, hits_shown}
 use Rattle.qm_term.specs.HitRuns.{MayPrune, one_if_above}
 use Rattle.qm_term.specs.Runs.{InRange, MayTurn, Turn}
 use Rattle.qm_term.specs.RunScorers.{ticks_of}
-use Rattle.qm_term.specs.Stretches.{AreWithin, GoesOn}
+use Rattle.qm_term.specs.Stretches.{AreWithin}
 use Rattle.qm_term.specs.declared.wand.cells.Cell.{Cell}
 use Rattle.qm_term.proofs.StretchShown.{all_taken, goes_further, goes_nowhere, goes_one, has_from, lacks_all, shown_at, tidy_taken, was_there}
 use Rattle.qm_term.proofs.WandPlain.{at_most_one}

@@ -1,5 +1,5 @@
 -- A run over what is left is one over all that was there.
-use Rattle.std.proofs.Common.{◌≡◌, ℕ, ◌+◌, ◌*◌, ◌<◌, ◌≤◌, length}
+use Rattle.std.proofs.Common.{◌+◌, ◌*◌, ◌≤◌, length}
 use Rattle.qm_term.specs.Cells.{LackAll, all_shown, cells_start, hits_shown}
 use Rattle.qm_term.specs.HitRuns.{MayPrune}
 use Rattle.qm_term.specs.Runs.{InRange}

@@ -1,5 +1,5 @@
 -- A place is a bit and a cell.
-use Rattle.std.proofs.Common.{◌≡◌, ◌∙◌, ℕ, ◌+◌, ◌-◌, ◌<◌, ◌≤◌, ◌==◌, ◌||◌, List, ap, arith, get_or, length, set, refl, subst, sym}
+use Rattle.std.proofs.Common.{◌∙◌, ℕ, ◌+◌, ◌-◌, ◌<◌, ◌≤◌, ◌==◌, ◌||◌, List, ap, arith, get_or, length, set, refl, subst, sym}
 use Rattle.std.proofs.lemmas.List.{length-set}
 use Rattle.qm_docset.specs.Entry.{greatest_score}
 use Rattle.qm_docset.specs.Words.{words_have}

@@ -1,5 +1,5 @@
 -- A place is a bit and a cell.
-use Rattle.std.proofs.Common.{◌≡◌, ◌∙◌, ◌-◌, ◌/◌, ◌<◌, ◌≤◌, arith, eq-eqb, length, sym}
+use Rattle.std.proofs.Common.{◌∙◌, ◌-◌, ◌/◌, ◌<◌, arith, eq-eqb, length, sym}
 use Rattle.std.proofs.lemmas.Bool.{false≢true}
 use Rattle.std.proofs.lemmas.List.{get_or_read}
 use Rattle.qm_docset.proofs.BitSetLemmas.{words_have-remove}
