@@ -1,5 +1,5 @@
 -- The cells are filled and gone over: the run over what they show is one over the lists.
-use Rattle.std.proofs.Common.{◌≡◌, ◌∙◌, ℕ, ◌+◌, ◌-◌, ◌*◌, ◌/◌, ◌<◌, ◌≤◌, List, ap, arith, fold, length, pos, subst, sym, w64}
+use Rattle.std.proofs.Common.{◌≡◌, ◌∙◌, ℕ, ◌+◌, ◌-◌, ◌*◌, ◌/◌, ◌<◌, ◌≤◌, List, ap, arith, fold, length, of_z, sym, to_z, w64}
 use Rattle.std.proofs.lemmas.Int.{to_z-of_z}
 use Rattle.qm_docset.specs.Entry.{greatest_score}
 use Rattle.qm_term.specs.Cells.{all_shown, cells_clear, cells_start, cuts}
@@ -90,6 +90,8 @@ returns-clause-run g c =
     let th = c.args.threshold in
     let start : cells_start w ≡ c.args.low = c.fill.ensures.alike.start ∙ c.begin.ensures.start in
     let covers : c.args.end ≤ c.args.low + length w.cells.items = omega (arith, start, c.fill.ensures.alike.end, c.begin.ensures.end, c.requires.some) in
+    let after = c.drain.result in
+    let is_after : to_z w64 (of_z w64 after) ≡ after = to_z-of_z w64 after (record { sfits = c.drain.type_inv }) in
     let run = rw (to_z-of_z w64 th c.ranges.threshold) at c.drain.ensures.run in
     record {
       count = run.count;
@@ -100,7 +102,7 @@ returns-clause-run g c =
           (made g.C.ScoreCombiner.step g.C.ScoreCombiner.value g.C.ScoreCombiner.cleared g.C.ScoreCombiner.combined g.met.C.ScoreCombiner.combines
           g.met.C.ScoreCombiner.clear_keeps c.requires.begins.state.start first (cells_clear w).state c.requires.begins.state.is
           (ap (λ (x : Cell _). x.state) (c.fill.ensures.alike.clear ∙ c.begin.ensures.same))) c.fill.ensures.holds
-          start (omega (arith, c.requires.some)) covers th c.drain.result c.args.callback.now c.drain.new.callback run.count run.run k last z p;
+          start (omega (arith, c.requires.some)) covers th after c.args.callback.now c.drain.new.callback run.count run.run k last z (rw is_after at p);
     }
 
 pub returns-clause-callable : goal.returns-clause-callable
@@ -114,10 +116,13 @@ returns-clause-callable g c =
     let th = c.args.threshold in
     let start : cells_start w ≡ c.args.low = c.fill.ensures.alike.start ∙ c.begin.ensures.start in
     let covers : c.args.end ≤ c.args.low + length w.cells.items = omega (arith, start, c.fill.ensures.alike.end, c.begin.ensures.end, c.requires.some) in
+    let after = c.drain.result in
+    let is_after : to_z w64 (of_z w64 after) ≡ after = to_z-of_z w64 after (record { sfits = c.drain.type_inv }) in
     let run = rw (to_z-of_z w64 th c.ranges.threshold) at c.drain.ensures.run in
-    may_all_after (InRange w'.step) (g.C.ScoreCombiner.combined first) (g.met.C.BoundedBySum.within_sum first) g.C.ScoreCombiner.step
+    rw is_after
+    (may_all_after (InRange w'.step) (g.C.ScoreCombiner.combined first) (g.met.C.BoundedBySum.within_sum first) g.C.ScoreCombiner.step
     g.C.ScoreCombiner.value c.args.low c.args.end ls (row_members ss hs c.requires.heads) w
     (made g.C.ScoreCombiner.step g.C.ScoreCombiner.value g.C.ScoreCombiner.cleared g.C.ScoreCombiner.combined g.met.C.ScoreCombiner.combines
     g.met.C.ScoreCombiner.clear_keeps c.requires.begins.state.start first (cells_clear w).state c.requires.begins.state.is
     (ap (λ (x : Cell _). x.state) (c.fill.ensures.alike.clear ∙ c.begin.ensures.same))) c.fill.ensures.holds
-    start (omega (arith, c.requires.some)) w'.pre covers th c.drain.result c.args.callback.now c.drain.new.callback run.count run.run c.requires.callable
+    start (omega (arith, c.requires.some)) w'.pre covers th after c.args.callback.now c.drain.new.callback run.count run.run c.requires.callable)
