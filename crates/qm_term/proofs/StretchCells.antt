@@ -1,12 +1,11 @@
 -- What cells hold as lists are taken in.
-use Rattle.std.proofs.Common.{◌≡◌, ◌≢◌, ◌∙◌, ℕ, zero, suc, ◌+◌, ◌<◌, ◌≤◌, ◌||◌, ◌==◌, Bool, true, false, cond, leb, List, [], ◌∷◌, ◌++◌, fold, ap, ap₂, arith, eq-eqb, inl, inr}
+use Rattle.std.proofs.Common.{◌≡◌, ◌≢◌, ◌∙◌, ℕ, zero, suc, ◌+◌, ◌<◌, ◌≤◌, ◌||◌, true, false, leb, List, [], ◌∷◌, ◌++◌, fold, ap, ap₂, arith, eq-eqb, inl, inr}
 use Rattle.std.proofs.Common.{ne_eqb, refl, subst, sum, sym}
-use Rattle.std.specs.Prelude.{All}
 use Rattle.std.proofs.lemmas.Bool.{cases_Bool, cases_eq, cases_lt, cond_both, false≢true, or_left}
 use Rattle.std.proofs.lemmas.List.Elements.{All-cons, All-nil}
 use Rattle.qm_docset.specs.Entry.{greatest_score}
 use Rattle.qm_docset.specs.declared.numbers.TheConstants.{TERMINATED}
-use Rattle.qm_term.specs.Cells.{Adds, AreAlike, AreClear, HoldLists, Shown, TakesIn, cell_of, cells_clear, cells_has, shown_from}
+use Rattle.qm_term.specs.Cells.{Adds, AreClear, HoldLists, Shown, TakesIn, cell_of, cells_clear, cells_has, shown_from}
 use Rattle.qm_term.specs.Members.{AreMembers, IsMember, Member, all_of, bound_at, has, hit_score, hits_from, scores_in, scores_of}
 use Rattle.qm_term.specs.Pivot.{blockbound, bound_in, cut, head, top_by, total_top}
 use Rattle.qm_term.specs.Stretches.{AreTidy, AreWithin}

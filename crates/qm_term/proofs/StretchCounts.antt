@@ -31,4 +31,4 @@ length-all_of (m ∷ ms) = omega (arith, length-add_all m.entries (all_of ms), l
 pub length-united : (combined : List ℕ → ℕ) (ms : List Member) → length (united combined ms) ≤ postings ms
 unfolding united with_scores
 length-united combined ms =
-    omega (arith, length-all_of ms, length-map (all_of ms) (λ (h : Hit). record { document = h.document; score = combined (scores_of h.document ms) }))
+    omega (arith, length-all_of ms, length-map {B = Hit} (all_of ms) (λ (h : Hit). record { document = h.document; score = combined (scores_of h.document ms) }))

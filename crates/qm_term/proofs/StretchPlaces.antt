@@ -1,10 +1,10 @@
 -- The bits and the cells of a stretch, by their places.
-use Rattle.std.proofs.Common.{◌≡◌, ◌≢◌, ◌∙◌, ℕ, ◌+◌, ◌-◌, ◌*◌, ◌/◌, ◌<◌, ◌≤◌, ◌==◌, ◌&&◌, ◌||◌, Bool, true, false, not, cond, List, nat_le, get_or, set, length, ap, arith, eq-eqb, inl, inr, ne_eqb, refl, sym}
-use Rattle.std.proofs.lemmas.Bool.{cases_Bool, cases_eq, cases_lt, le-leb, lt-leb}
+use Rattle.std.proofs.Common.{◌≡◌, ◌≢◌, ◌∙◌, ℕ, ◌+◌, ◌-◌, ◌<◌, ◌≤◌, ◌==◌, ◌&&◌, false, not, cond, List, nat_le, get_or, set, length, ap, arith, eq-eqb, inl, inr, ne_eqb, refl, sym}
+use Rattle.std.proofs.lemmas.Bool.{cases_eq, cases_lt, le-leb, lt-leb}
 use Rattle.std.proofs.lemmas.List.{get_or-set_other, get_or-set_same}
 use Rattle.qm_docset.specs.Words.{words_have}
 use Rattle.qm_docset.specs.declared.tiny_set.TinySet.{TinySet}
-use Rattle.qm_combine.proofs.WindowWords.{get_or-past, has_at, has_at-before, has_at-from}
+use Rattle.qm_combine.proofs.WindowWords.{get_or-past, get_or-there, has_at, has_at-before, has_at-from}
 
 -- the cell of a document
 abbrev pub cell_at : {X : Type 0} → ℕ → List X → X → ℕ → X
@@ -24,6 +24,13 @@ module _ {X : Type 0} (start : ℕ) (cells : List X) (clear v : X) (doc : ℕ) (
 
   pub cell_here : cell_at start cells clear doc ≡ get_or cells (doc - start) clear
   cell_here = rw (le-leb start doc low) refl
+
+-- what is read at its place, whatever stands for one that is not there
+pub cell_read : {X : Type 0} (start : ℕ) (cells xs : List X) (clear : X) (doc : ℕ) → start ≤ doc → doc - start < length cells → xs ≡ cells
+    → (d : X) → get_or xs (doc - start) d ≡ cell_at start cells clear doc
+cell_read start cells xs clear doc low inside same d =
+    ap (λ (ys : List _). get_or ys (doc - start) d) same ∙ get_or-there cells (doc - start) d clear inside
+    ∙ sym (cell_here start cells clear clear doc low)
 
 -- a document that is taken out, by its place
 pub has_at-taken : (start doc : ℕ) (words less : List TinySet) → start ≤ doc → ((x : ℕ) → words_have less x ≡ (words_have words x && not (x == doc - start)))
@@ -60,4 +67,16 @@ pub none_there : (start : ℕ) (words : List TinySet) → ((x : ℕ) → words_h
 none_there start words none d = elim (cases_lt d start) [
   | inl before ↦ has_at-before start words d before
   | inr past ↦ has_at-from start words d past ∙ none (d - start)
+]
+
+-- cells that are clear are lengthened by clear ones
+pub clear_resized : {X : Type 0} (cells more : List X) (clear : X) (n : ℕ) → ((x : ℕ) → get_or cells x clear ≡ clear) → length more ≡ n
+    → ((k : ℕ) → k < n → k < length cells → get_or more k clear ≡ get_or cells k clear) → ((k : ℕ) → length cells ≤ k → k < n → get_or more k clear ≡ clear)
+    → (x : ℕ) → get_or more x clear ≡ clear
+clear_resized cells more clear n all long kept added x = elim (cases_lt x n) [
+  | inl below ↦ elim (cases_lt x (length cells)) [
+    | inl inside ↦ kept x below inside ∙ all x
+    | inr past ↦ added x past below
+  ]
+  | inr past ↦ get_or-past more x clear (omega (arith, long, past))
 ]

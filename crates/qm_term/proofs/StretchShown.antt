@@ -1,9 +1,11 @@
 -- What cells show as a document is taken out.
-use Rattle.std.proofs.Common.{◌≡◌, ◌≢◌, ◌∙◌, ℕ, ℤ, zero, suc, ◌+◌, ◌<◌, ◌≤◌, ◌==◌, ◌&&◌, ◌-◌, Bool, true, false, nat_le, not, List, [], ◌∷◌, ap, arith, eq-eqb, inl, inr, length, ne_eqb, refl, subst, sym}
+use Rattle.std.proofs.Common.{◌≡◌, ◌≢◌, ◌∙◌, ℕ, ℤ, zero, suc, ◌+◌, ◌<◌, ◌≤◌, ◌==◌, ◌&&◌, ◌-◌, Bool, true, false, nat_le, not, List, [], ◌∷◌, ap, arith, eq-eqb, inl, inr, length, ne_eqb, pos, refl, subst, sym, zero-add}
 use Rattle.std.proofs.lemmas.Bool.{and_parts, cases_Bool, cases_eq, cases_lt, false≢true, leb-true, lt-leb}
 use Rattle.qm_docset.specs.Words.{words_have}
-use Rattle.qm_term.specs.Cells.{AreAlike, LackAll, Shown, all_shown, cell_of, cells_end, cells_has, cells_start, shown_from}
-use Rattle.qm_term.specs.declared.wand.cells.Cell.{Cell}
+use Rattle.qm_term.specs.Cells.{AreAlike, LackAll, RunsOver, Shown, all_shown, cell_of, cells_end, cells_has, cells_start, shown_from}
+use Rattle.qm_term.specs.HitRuns.{one_if_above}
+use Rattle.qm_term.specs.Runs.{Turn}
+use Rattle.qm_term.specs.Stretches.{GoesOn}
 use Rattle.qm_term.specs.declared.wand.cells.Cells.{Cells}
 
 abbrev pub shown_at : {C : Type 0} → (C → ℕ) → Cells C → ℕ → Shown
@@ -110,3 +112,34 @@ lacks_before w d before = rw (lt-leb w.start d before) refl
 -- where nothing is there up to a document, and from there on to another, nothing is up to that
 pub lacks_all : {C : Type 0} (w : Cells C) (low mid end : ℕ) → LackAll w low mid → LackAll w mid end → LackAll w low end
 lacks_all w low mid end a b = λ d from to. elim (cases_lt d mid) [ inl before ↦ a d from before | inr past ↦ b d past to ]
+
+-- ---- runs over what is shown, one after the other
+
+module _ {F C : Type 0} (call : F → ℕ → ℤ → ℤ → F → Type 0) (value : C → ℕ) where
+  pub goes_nowhere : (th : ℤ) (f : F) (w : Cells C) (ticks : ℕ) → GoesOn call value th f w ticks th f w ticks
+  goes_nowhere th f w ticks = record {
+    count = 0;
+    counted = omega arith;
+    back = λ k last h p. subst (λ (n : ℕ). RunsOver call th f (all_shown value w) n last h) (sym (zero-add k)) p;
+  }
+
+  pub goes_further : (th mid end : ℤ) (f g h : F) (w v u : Cells C) (ticks more most : ℕ)
+      → GoesOn call value th f w ticks mid g v more → GoesOn call value mid g v more end h u most → GoesOn call value th f w ticks end h u most
+  goes_further th mid end f g h w v u ticks more most a b = record {
+    count = a.count + b.count;
+    counted = omega (arith, a.counted, b.counted);
+    back = λ k last z p.
+        let same : a.count + (b.count + k) ≡ a.count + b.count + k = omega arith in
+        subst (λ (n : ℕ). RunsOver call th f (all_shown value w) n last z) same (a.back (b.count + k) last z (b.back k last z p));
+  }
+
+  -- a document is taken out and gone over
+  pub goes_one : (th after : ℤ) (f g : F) (w v : Cells C) (ticks more doc : ℕ) → all_shown value w ≡ shown_at value w doc ∷ all_shown value v
+      → Turn call th f doc (pos (value (cell_of w doc).state)) after g → more ≡ ticks + one_if_above th (cell_of w doc).bound
+      → GoesOn call value th f w ticks after g v more
+  goes_one th after f g w v ticks more doc is turn counted = record {
+    count = one_if_above th (cell_of w doc).bound;
+    counted = counted;
+    back = λ k last z p.
+        subst (λ (xs : List Shown). RunsOver call th f xs (one_if_above th (cell_of w doc).bound + k) last z) (sym is) (after, g, k, turn, refl, p);
+  }

@@ -1,5 +1,5 @@
 -- The cells of a stretch of documents: what lists that are taken in make of each document.
-use Rattle.std.specs.Prelude.{◌≡◌, ◌≢◌, ℕ, zero, suc, ℤ, ◌+◌, ◌-◌, ◌<◌, ◌≤◌, ◌==◌, ◌&&◌, ◌||◌, Bool, true, false, not, nat_le, cond, List, [], ◌∷◌, length, slice_index_or}
+use Rattle.std.specs.Prelude.{◌≡◌, ◌≢◌, ℕ, zero, suc, ℤ, ◌+◌, ◌-◌, ◌<◌, ◌≤◌, ◌==◌, ◌&&◌, ◌||◌, Bool, false, nat_le, cond, List, [], ◌∷◌, length, slice_index_or}
 use Rattle.std.specs.Prelude.{pos, map}
 use Rattle.std.specs.List.{fold}
 use Rattle.qm_docset.specs.Words.{words_have}

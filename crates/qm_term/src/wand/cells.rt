@@ -137,7 +137,9 @@ fn put<C: BoundedBySum>(
     requires fits { (d : _) → (slice_index_or cells.old place d).bound + bound ≤ greatest_score }
     ensures words { (x : ℕ) → words_have words.new x ≡ (x == place || words_have words.old x) }
     ensures cells { (d : _) → cells.new ≡ set cells.old place (record {
-        bound = (slice_index_or cells.old place d).bound + bound; state = C.step (slice_index_or cells.old place d).state score }) }
+      bound = (slice_index_or cells.old place d).bound + bound;
+      state = C.step (slice_index_or cells.old place d).state score;
+    }) }
 {
     words[place / 64].insert_mut((place % 64) as u32);
     let cell = cells[place];

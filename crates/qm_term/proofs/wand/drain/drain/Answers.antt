@@ -1,12 +1,13 @@
 -- Word by word all are taken out.
-use Rattle.std.proofs.Common.{◌≡◌, ◌∙◌, ℕ, ℤ, ◌+◌, ◌*◌, ◌<◌, ◌≤◌, List, [], true, false, ap, arith, inl, inr, length, refl, subst, sym, w64}
+use Rattle.std.proofs.Common.{◌≡◌, ◌∙◌, ℕ, ◌+◌, ◌*◌, List, false, arith, inl, inr, of_z, refl, subst, sym, to_z, w64}
 use Rattle.std.proofs.lemmas.Bool.{cases_Bool, cases_lt, false≢true}
 use Rattle.std.proofs.lemmas.Int.{to_z-of_z}
-use Rattle.qm_term.specs.Cells.{RunsOver, Shown, all_shown, cells_has, cells_start}
+use Rattle.qm_term.specs.Cells.{RunsOver, Shown, all_shown, cells_has, cells_start, hits_shown}
+use Rattle.qm_term.specs.HitRuns.{MayPrune}
 use Rattle.qm_term.specs.Runs.{InRange}
-use Rattle.qm_term.specs.Stretches.{GoesOn, TakenOut}
-use Rattle.qm_term.proofs.StretchShown.{all_few, all_nothing, lacks_before}
-use Rattle.qm_term.specs.contracts.wand.drain.drain.F-FnMut as fnmut
+use Rattle.qm_term.specs.RunScorers.{ticks_of}
+use Rattle.qm_term.specs.Stretches.{GoesOn}
+use Rattle.qm_term.proofs.StretchShown.{all_few, all_nothing, goes_further, goes_nowhere, lacks_before}
 use Rattle.qm_term.proofs.wand.drain.drain.Goals as goal
 use Rattle.qm_term.proofs.wand.drain.drain.Goals.{After-loop-word}
 use Rattle.qm_term.proofs.wand.drain.drain.Given.{Over}
@@ -21,7 +22,7 @@ loop-word-init g c =
       before = λ d from to. lacks_before w d (omega (arith, to));
       room = omega arith;
       may = rw is c.requires.callable;
-      goes = record { count = 0; counted = omega arith; back = λ k last h p. rw is at p };
+      goes = goes_nowhere (InRange (goal.F-step g)) g.C.ScoreCombiner.value (to_z w64 (of_z w64 c.args.threshold)) c.args.callback.now c.args.cells.now _;
     }
 
 pub drain_word-threshold-requires-clause-inside : goal.drain_word-threshold-requires-clause-inside
@@ -29,7 +30,9 @@ drain_word-threshold-requires-clause-inside g c = λ d here.
     omega (arith, c.requires.inside d (c.loop-word.invariant.taken.had d here), c.loop-word.invariant.taken.alike.end)
 
 pub drain_word-threshold-requires-clause-before : goal.drain_word-threshold-requires-clause-before
-drain_word-threshold-requires-clause-before g c = rw c.loop-word.invariant.taken.alike.start c.loop-word.invariant.before
+drain_word-threshold-requires-clause-before g c = λ d from to.
+    let inv = c.loop-word.invariant in
+    inv.before d from (omega (arith, to, inv.taken.alike.start))
 
 pub drain_word-threshold-requires-clause-room : goal.drain_word-threshold-requires-clause-room
 drain_word-threshold-requires-clause-room g c =
@@ -40,7 +43,13 @@ pub loop-word-preserved : goal.loop-word-preserved
 loop-word-preserved g c =
     let inv = c.loop-word.invariant in
     let e = c.drain_word-threshold.ensures in
-    let had = inv.goes in
+    let call = InRange (goal.F-step g) in
+    let value = g.C.ScoreCombiner.value in
+    let run = c.drain_word-threshold in
+    let start = to_z w64 (of_z w64 c.args.threshold) in
+    let th = to_z w64 c.loop-word.threshold-bits in
+    let after = to_z w64 (of_z w64 run.result) in
+    let same : after ≡ run.result = to_z-of_z w64 run.result (record { sfits = run.type_inv }) in
     record {
       taken = record {
         had = λ d here. inv.taken.had d (e.taken.had d here);
@@ -54,15 +63,11 @@ loop-word-preserved g c =
       within = e.within;
       before = λ d from to. e.before d from (omega (arith, to, inv.taken.alike.start));
       room = omega (arith, e.room, inv.room);
-      may = e.callable;
-      goes = record {
-        count = had.count + e.run.count;
-        counted = omega (arith, had.counted, e.run.counted);
-        back = λ k last h p.
-            let again = had.back (e.run.count + k) last h (e.run.back k last h p) in
-            let same : had.count + (e.run.count + k) ≡ had.count + e.run.count + k = omega arith in
-            subst (λ (n : ℕ). RunsOver _ _ _ _ n last h) same again;
-      };
+      may = subst (λ t. MayPrune call (goal.F-pre g) t run.new.callback (hits_shown (all_shown value run.new.cells))) (sym same) e.callable;
+      goes = goes_further call value start th after c.args.callback.now c.loop-word.callback run.new.callback c.args.cells.now c.loop-word.cells run.new.cells
+          (ticks_of c.args.ticks.now) (ticks_of c.loop-word.ticks) (ticks_of run.new.ticks) inv.goes
+          (subst (λ t. GoesOn call value th c.loop-word.callback c.loop-word.cells (ticks_of c.loop-word.ticks) t run.new.callback run.new.cells (ticks_of run.new.ticks))
+          (sym same) e.run);
     }
 
 -- nothing is left
@@ -78,8 +83,10 @@ left g c = λ d.
     ]
 
 pub returns-clause-clear : goal.returns-clause-clear
-returns-clause-clear g c = λ d. (left g (goal.at.returns-clause-clear g c).After-loop-word d,
-    c.loop-word.invariant.taken.tidy d (left g (goal.at.returns-clause-clear g c).After-loop-word d))
+returns-clause-clear g c = λ d. (
+  left g (goal.at.returns-clause-clear g c).After-loop-word d,
+  c.loop-word.invariant.taken.tidy d (left g (goal.at.returns-clause-clear g c).After-loop-word d),
+)
 
 pub returns-clause-same : goal.returns-clause-same
 returns-clause-same g c = c.loop-word.invariant.taken.alike.clear
@@ -91,16 +98,19 @@ returns-clause-few g c =
 
 pub returns-clause-run : goal.returns-clause-run
 returns-clause-run g c =
-    let call = InRange (fnmut.words g.row.C g.row.F g.F.FnMut).step in
+    let call = InRange (goal.F-step g) in
+    let value = g.C.ScoreCombiner.value in
+    let th = to_z w64 c.loop-word.threshold-bits in
+    let start = to_z w64 (of_z w64 c.args.threshold) in
+    let is : start ≡ c.args.threshold = to_z-of_z w64 c.args.threshold c.ranges.threshold in
     let goes = c.loop-word.invariant.goes in
-    let none = all_nothing g.C.ScoreCombiner.value c.loop-word.cells (left g (goal.at.returns-clause-run g c).After-loop-word) in
-    let ended = goes.back 0 c.loop-word.threshold c.loop-word.callback
-    (subst (λ (xs : List Shown). RunsOver call c.loop-word.threshold c.loop-word.callback xs 0 c.loop-word.threshold c.loop-word.callback)
-    (sym none) (refl, refl, refl)) in
+    let none = all_nothing value c.loop-word.cells (left g (goal.at.returns-clause-run g c).After-loop-word) in
+    let ended = goes.back 0 th c.loop-word.callback
+    (subst (λ (xs : List Shown). RunsOver call th c.loop-word.callback xs 0 th c.loop-word.callback) (sym none) (refl, refl, refl)) in
     let same : goes.count + 0 ≡ goes.count = omega arith in
     record {
       count = goes.count;
       counted = goes.counted;
-      run = subst (λ (n : ℕ). RunsOver call c.args.threshold c.args.callback.now (all_shown g.C.ScoreCombiner.value c.args.cells.now) n
-          c.loop-word.threshold c.loop-word.callback) same ended;
+      run = subst (λ t. RunsOver call t c.args.callback.now (all_shown value c.args.cells.now) goes.count th c.loop-word.callback) is
+          (subst (λ (n : ℕ). RunsOver call start c.args.callback.now (all_shown value c.args.cells.now) n th c.loop-word.callback) same ended);
     }

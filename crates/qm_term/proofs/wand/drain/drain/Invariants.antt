@@ -1,22 +1,20 @@
 -- A run over what is left is one over all that was there.
-use Rattle.std.proofs.Common.{◌≡◌, ℕ, ◌+◌, ◌*◌, ◌≤◌, length}
+use Rattle.std.proofs.Common.{◌+◌, ◌*◌, ◌≤◌, length}
 use Rattle.qm_term.specs.Cells.{LackAll, all_shown, cells_start, hits_shown}
 use Rattle.qm_term.specs.HitRuns.{MayPrune}
 use Rattle.qm_term.specs.Runs.{InRange}
 use Rattle.qm_term.specs.RunScorers.{ticks_of}
 use Rattle.qm_term.specs.Stretches.{AreWithin, GoesOn, TakenOut}
-use Rattle.qm_term.specs.contracts.wand.drain.drain.F-FnMut as fnmut
 use Rattle.qm_term.proofs.wand.drain.drain.Given as goal
 
 abbrev pub invariant-loop-word : goal.invariant-loop-word
 invariant-loop-word g l =
-    let w = fnmut.words g.row.C g.row.F g.F.FnMut in
     let value = g.C.ScoreCombiner.value in
     record {
       taken : TakenOut l.fn.cells l.cells;
       within : AreWithin (all_shown value l.cells);
       before : LackAll l.cells 0 (cells_start l.fn.cells + 64 * l.word);
       room : ticks_of l.ticks + length (all_shown value l.cells) ≤ ticks_of l.fn.ticks + length (all_shown value l.fn.cells);
-      may : MayPrune (InRange w.step) w.pre l.threshold l.callback (hits_shown (all_shown value l.cells));
-      goes : GoesOn (InRange w.step) value l.fn.threshold l.fn.callback l.fn.cells (ticks_of l.fn.ticks) l.threshold l.callback l.cells (ticks_of l.ticks);
+      may : MayPrune (InRange (goal.F-step g)) (goal.F-pre g) l.threshold l.callback (hits_shown (all_shown value l.cells));
+      goes : GoesOn (InRange (goal.F-step g)) value l.fn.threshold l.fn.callback l.fn.cells (ticks_of l.fn.ticks) l.threshold l.callback l.cells (ticks_of l.ticks);
     }

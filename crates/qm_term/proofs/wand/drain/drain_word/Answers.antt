@@ -1,19 +1,16 @@
 -- One by one the documents of the word are taken out and gone over.
-use Rattle.std.proofs.Common.{◌≡◌, ◌∙◌, ℕ, ℤ, zero, suc, ◌+◌, ◌*◌, ◌<◌, ◌≤◌, ◌&&◌, ◌==◌, List, ◌∷◌, ap, arith, cond, inl, inr, length, not, pos, refl, subst, sym, w64}
-use Rattle.std.specs.Prelude.{All}
-use Rattle.std.proofs.lemmas.Bool.{cases_lt}
+use Rattle.std.proofs.Common.{◌≡◌, ◌∙◌, ℕ, ◌+◌, ◌*◌, ◌≤◌, ◌&&◌, ◌==◌, List, ◌∷◌, ap, arith, length, not, of_z, pos, refl, subst, sym, to_z, w64}
 use Rattle.std.proofs.lemmas.Int.{to_z-of_z}
 use Rattle.std.proofs.lemmas.List.Elements.{All-head, All-tail}
 use Rattle.qm_docset.specs.Entry.{greatest_score}
-use Rattle.qm_term.specs.Cells.{LackAll, RunsOver, Shown, all_shown, cell_of, cells_end, cells_has, cells_start, hits_shown}
+use Rattle.qm_term.specs.Cells.{LackAll, Shown, all_shown, cell_of, cells_start, hits_shown}
 use Rattle.qm_term.specs.HitRuns.{MayPrune, one_if_above}
 use Rattle.qm_term.specs.Runs.{InRange, MayTurn, Turn}
 use Rattle.qm_term.specs.RunScorers.{ticks_of}
-use Rattle.qm_term.specs.Stretches.{AreWithin, GoesOn}
+use Rattle.qm_term.specs.Stretches.{AreWithin}
 use Rattle.qm_term.specs.declared.wand.cells.Cell.{Cell}
-use Rattle.qm_term.proofs.StretchShown.{all_taken, has_from, lacks_all, shown_at, tidy_taken, was_there}
+use Rattle.qm_term.proofs.StretchShown.{all_taken, goes_further, goes_nowhere, goes_one, has_from, lacks_all, shown_at, tidy_taken, was_there}
 use Rattle.qm_term.proofs.WandPlain.{at_most_one}
-use Rattle.qm_term.specs.contracts.wand.drain.drain_word.F-FnMut as fnmut
 use Rattle.qm_term.proofs.wand.drain.drain_word.Goals as goal
 use Rattle.qm_term.proofs.wand.drain.drain_word.Goals.{After-take-cell}
 use Rattle.qm_term.proofs.wand.drain.drain_word.Given.{Over}
@@ -27,7 +24,7 @@ loop-doc-init g c =
       before = c.requires.before;
       room = omega arith;
       may = rw is c.requires.callable;
-      goes = record { count = 0; counted = omega arith; back = λ k last h p. rw is at p };
+      goes = goes_nowhere (InRange (goal.F-step g)) g.C.ScoreCombiner.value (to_z w64 (of_z w64 c.args.threshold)) c.args.callback.now c.args.cells.now _;
     }
 
 pub take-cell-requires-clause-there : goal.take-cell-requires-clause-there
@@ -49,7 +46,7 @@ shown g c =
     let start : cells_start w ≡ cells_start c.args.cells.now = inv.taken.alike.start in
     let before : LackAll w (cells_start w) doc =
     λ d from to. lacks_all w 0 (cells_start c.args.cells.now + 64 * c.args.word) doc inv.before
-    (rw start at c.in-Some.ensures.first) d (omega arith) to in
+    (λ x past below. c.in-Some.ensures.first x (omega (arith, past, start)) below) d (omega arith) to in
     all_taken g.C.ScoreCombiner.value w c.take-cell.new.self doc c.in-Some.ensures.has c.take-cell.ensures.has c.take-cell.ensures.others
     c.take-cell.ensures.alike (has_from w doc c.in-Some.ensures.has)
     (omega (arith, c.requires.inside doc (inv.taken.had doc c.in-Some.ensures.has), inv.taken.alike.end)) before
@@ -81,16 +78,16 @@ score_cell-threshold-requires-clause-room g c =
 
 pub score_cell-threshold-requires-clause-callable : goal.score_cell-threshold-requires-clause-callable
 score_cell-threshold-requires-clause-callable g c =
-    let w = fnmut.words g.row.C g.row.F g.F.FnMut in
-    let may = subst (λ (xs : List Shown). MayPrune (InRange w.step) w.pre c.loop-doc.threshold c.loop-doc.callback (hits_shown xs))
+    let th = to_z w64 c.loop-doc.threshold-bits in
+    let may = subst (λ (xs : List Shown). MayPrune (InRange (goal.F-step g)) (goal.F-pre g) th c.loop-doc.callback (hits_shown xs))
     (shown g (goal.at.score_cell-threshold-requires-clause-callable g c).After-take-cell) c.loop-doc.invariant.may in
-    subst (λ (x : Cell _). MayTurn w.pre c.loop-doc.threshold c.loop-doc.callback c.in-Some.doc (g.C.ScoreCombiner.value x.state))
+    subst (λ (x : Cell _). MayTurn (goal.F-pre g) th c.loop-doc.callback c.in-Some.doc (g.C.ScoreCombiner.value x.state))
     (sym c.take-cell.ensures.cell) may.0
 
 pub loop-doc-preserved : goal.loop-doc-preserved
 loop-doc-preserved g c =
-    let w = fnmut.words g.row.C g.row.F g.F.FnMut in
-    let call = InRange w.step in
+    let call = InRange (goal.F-step g) in
+    let th = to_z w64 c.loop-doc.threshold-bits in
     let value = g.C.ScoreCombiner.value in
     let inv = c.loop-doc.invariant in
     let old = c.loop-doc.cells in
@@ -99,12 +96,16 @@ loop-doc-preserved g c =
     let e = c.take-cell.ensures in
     let is = shown g (goal.at.loop-doc-preserved g c).After-take-cell in
     let scored = c.score_cell-threshold in
-    let one = one_if_above c.loop-doc.threshold (cell_of old doc).bound in
+    let after = to_z w64 (of_z w64 scored.result) in
+    let same_threshold : after ≡ scored.result = to_z-of_z w64 scored.result (record { sfits = scored.type_inv }) in
+    let one = one_if_above th (cell_of old doc).bound in
     let ticks : ticks_of scored.new.ticks ≡ ticks_of c.loop-doc.ticks + one = scored.ensures.ticks
-    ∙ ap (λ (x : Cell _). ticks_of c.loop-doc.ticks + one_if_above c.loop-doc.threshold x.bound) e.cell in
-    let turn : Turn call c.loop-doc.threshold c.loop-doc.callback doc (pos (value (cell_of old doc).state)) scored.result scored.new.callback =
-    subst (λ (x : Cell _). Turn call c.loop-doc.threshold c.loop-doc.callback doc (pos (value x.state)) scored.result scored.new.callback) e.cell scored.ensures.turn in
-    let may = subst (λ (xs : List Shown). MayPrune call w.pre c.loop-doc.threshold c.loop-doc.callback (hits_shown xs)) is inv.may in
+    ∙ ap (λ (x : Cell _). ticks_of c.loop-doc.ticks + one_if_above th x.bound) e.cell in
+    let turn : Turn call th c.loop-doc.callback doc (pos (value (cell_of old doc).state)) after scored.new.callback =
+    subst (λ (x : Cell _). Turn call th c.loop-doc.callback doc (pos (value x.state)) after scored.new.callback) e.cell
+    (subst (λ t. Turn call th c.loop-doc.callback doc (pos (value c.take-cell.result.state)) t scored.new.callback) (sym same_threshold) scored.ensures.turn) in
+    let start = to_z w64 (of_z w64 c.args.threshold) in
+    let may = subst (λ (xs : List Shown). MayPrune call (goal.F-pre g) th c.loop-doc.callback (hits_shown xs)) is inv.may in
     record {
       taken = record {
         had = λ d here. inv.taken.had d (was_there value old new doc c.in-Some.ensures.has e.has e.others d here);
@@ -117,18 +118,11 @@ loop-doc-preserved g c =
       };
       within = All-tail (λ (x : Shown). (x.score ≤ x.bound) × (x.bound ≤ greatest_score)) _ _ (subst AreWithin is inv.within);
       before = λ d from to. e.has d ∙ ap (λ b. b && not (d == doc)) (inv.before d from to);
-      room = omega (arith, ap length is, inv.room, ticks, at_most_one c.loop-doc.threshold (cell_of old doc).bound);
-      may = may.1 scored.result scored.new.callback turn;
-      goes = record {
-        count = inv.goes.count + one;
-        counted = omega (arith, inv.goes.counted, ticks);
-        back = λ k last h p.
-            let step = subst (λ (xs : List Shown). RunsOver call c.loop-doc.threshold c.loop-doc.callback xs (one + k) last h) (sym is)
-            (scored.result, scored.new.callback, k, turn, refl, p) in
-            let same : inv.goes.count + (one + k) ≡ inv.goes.count + one + k = omega arith in
-            subst (λ (n : ℕ). RunsOver call c.args.threshold c.args.callback.now (all_shown value c.args.cells.now) n last h) same
-            (inv.goes.back (one + k) last h step);
-      };
+      room = omega (arith, ap length is, inv.room, ticks, at_most_one th (cell_of old doc).bound);
+      may = may.1 after scored.new.callback turn;
+      goes = goes_further call value start th after c.args.callback.now c.loop-doc.callback scored.new.callback c.args.cells.now old new
+          (ticks_of c.args.ticks.now) (ticks_of c.loop-doc.ticks) (ticks_of scored.new.ticks) inv.goes
+          (goes_one call value th after c.loop-doc.callback scored.new.callback old new (ticks_of c.loop-doc.ticks) (ticks_of scored.new.ticks) doc is turn ticks);
     }
 
 pub loop-doc-smaller : goal.loop-doc-smaller
@@ -139,4 +133,4 @@ returns-clause-before g c =
     let inv = c.loop-doc.invariant in
     let start = inv.taken.alike.start in
     lacks_all c.loop-doc.cells 0 (cells_start c.args.cells.now + 64 * c.args.word) (cells_start c.args.cells.now + 64 * (c.args.word + 1)) inv.before
-    (rw start at c.in_default.ensures.none refl)
+    (λ d past below. c.in_default.ensures.none refl d (omega (arith, past, start)) (omega (arith, below, start)))

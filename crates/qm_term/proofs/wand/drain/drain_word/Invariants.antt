@@ -1,16 +1,14 @@
 -- A run over what is left is one over all that was there.
-use Rattle.std.proofs.Common.{◌≡◌, ℕ, ◌+◌, ◌*◌, ◌<◌, ◌≤◌, length}
+use Rattle.std.proofs.Common.{◌+◌, ◌*◌, ◌≤◌, length}
 use Rattle.qm_term.specs.Cells.{LackAll, all_shown, cells_start, hits_shown}
 use Rattle.qm_term.specs.HitRuns.{MayPrune}
 use Rattle.qm_term.specs.Runs.{InRange}
 use Rattle.qm_term.specs.RunScorers.{ticks_of}
 use Rattle.qm_term.specs.Stretches.{AreWithin, GoesOn, TakenOut}
-use Rattle.qm_term.specs.contracts.wand.drain.drain_word.F-FnMut as fnmut
 use Rattle.qm_term.proofs.wand.drain.drain_word.Given as goal
 
 abbrev pub invariant-loop-doc : goal.invariant-loop-doc
 invariant-loop-doc g l =
-    let w = fnmut.words g.row.C g.row.F g.F.FnMut in
     let value = g.C.ScoreCombiner.value in
     let start = cells_start l.fn.cells in
     record {
@@ -18,8 +16,8 @@ invariant-loop-doc g l =
       within : AreWithin (all_shown value l.cells);
       before : LackAll l.cells 0 (start + 64 * l.word);
       room : ticks_of l.ticks + length (all_shown value l.cells) ≤ ticks_of l.fn.ticks + length (all_shown value l.fn.cells);
-      may : MayPrune (InRange w.step) w.pre l.threshold l.callback (hits_shown (all_shown value l.cells));
-      goes : GoesOn (InRange w.step) value l.fn.threshold l.fn.callback l.fn.cells (ticks_of l.fn.ticks) l.threshold l.callback l.cells (ticks_of l.ticks);
+      may : MayPrune (InRange (goal.F-step g)) (goal.F-pre g) l.threshold l.callback (hits_shown (all_shown value l.cells));
+      goes : GoesOn (InRange (goal.F-step g)) value l.fn.threshold l.fn.callback l.fn.cells (ticks_of l.fn.ticks) l.threshold l.callback l.cells (ticks_of l.ticks);
     }
 
 abbrev pub decreases-loop-doc : goal.decreases-loop-doc

@@ -1,6 +1,5 @@
 -- One by one the documents of the list are added.
-use Rattle.std.proofs.Common.{◌≡◌, ◌∙◌, ℕ, zero, suc, ◌+◌, ◌<◌, ◌≤◌, ap, arith, length, refl, subst, sym}
-use Rattle.qm_docset.specs.Entry.{greatest_score}
+use Rattle.std.proofs.Common.{◌≡◌, ◌∙◌, ℕ, suc, ◌<◌, ◌≤◌, ap, arith, length, subst, sym}
 use Rattle.qm_docset.specs.declared.numbers.TheConstants.{TERMINATED}
 use Rattle.qm_term.specs.Cells.{Adds, TakesIn, cell_of}
 use Rattle.qm_term.specs.Members.{IsMember, Member, bound_at}
