@@ -73,7 +73,14 @@ members_from (suc k) (m ∷ ms) h = members_from k ms h.1
 pub tops_from : (ms : List Member) (k : ℕ) (d : Member) → k < length ms → (get_or ms k d).top + total_top (drop (k + 1) ms) ≤ total_top ms
 tops_from [] k d l = absurd (omega arith)
 tops_from (m ∷ ms) zero d l = omega (arith, total-cons (λ (x : Member). x.top) m ms)
-tops_from (m ∷ ms) (suc k) d l = omega (arith, total-cons (λ (x : Member). x.top) m ms, tops_from ms k d (omega arith))
+tops_from (m ∷ ms) (suc k) d l =
+    let one : suc k + 1 ≡ suc (k + 1) = omega arith in
+    omega (
+      arith,
+      ap (λ (n : ℕ). total_top (drop n (m ∷ ms))) one,
+      total-cons (λ (x : Member). x.top) m ms,
+      tops_from ms k d (omega arith),
+    )
 
 -- lists none of whose records stands before a document are as they were, cut to it
 pub cuts_from : (ss : List TermScorerWithMaxScore) (hs : List Head) (t : ℕ) → AreHeads ss hs → AreFrom t hs → cuts t (row_lists ss hs) ≡ row_lists ss hs

@@ -3,7 +3,7 @@ use Rattle.std.proofs.Common.{◌≡◌, ◌∙◌, ℕ, ℤ, zero, suc, ◌+◌
 use Rattle.std.proofs.Common.{sum, sym}
 use Rattle.std.proofs.lemmas.Bool.{cases_Bool, cases_lt, false≢true}
 use Rattle.qm_docset.specs.Entry.{greatest_score}
-use Rattle.qm_term.specs.Cells.{HoldLists, RunsOver, Shown, cell_of, cells_clear, cells_has, cuts, hits_shown, shown_from}
+use Rattle.qm_term.specs.Cells.{HoldLists, RunsOver, Shown, all_shown, cell_of, cells_clear, cells_has, cells_start, cuts, hits_shown, shown_from}
 use Rattle.qm_term.specs.HitRuns.{MayPrune, one_if_above}
 use Rattle.qm_term.specs.Members.{AreMembers, Hit, Member, has, all_of, scores_of, united}
 use Rattle.qm_term.specs.Pivot.{Held, Pruned, blockbound, total_top}
@@ -99,7 +99,7 @@ module _ {F C : Type 0} (call : F → ℕ → ℤ → ℤ → F → Type 0) (com
       (subst (λ (x : F). Pruned call combined th x (cuts end ms) j last z) r.2
       (subst (λ (x : ℤ). Pruned call combined x g (cuts end ms) j last z) r.1 p)))
 
-  pub run_shown : (n s : ℕ) → low ≤ s → s ≤ end → end ≤ s + n → (th th' : ℤ) (f g : F) (k : ℕ) → RunsOver call th f (shown_from value w s n) k th' g →
+  run_shown : (n s : ℕ) → low ≤ s → s ≤ end → end ≤ s + n → (th th' : ℤ) (f g : F) (k : ℕ) → RunsOver call th f (shown_from value w s n) k th' g →
       (j : ℕ) (last : ℤ) (z : F) → Pruned call combined th' g (cuts end ms) j last z → Pruned call combined th f (cuts s ms) (k + j) last z
   run_shown zero s a b c th th' f g k r j last z p =
       ended th th' f g k j s last z (omega (arith, b, c)) (over_none th th' f g k _ (shown_past value w end s zero (λ d l. (h.beyond d l).0) (omega (arith, b, c))) r) p
@@ -174,7 +174,7 @@ module _ {F C : Type 0} (call : F → ℕ → ℤ → ℤ → F → Type 0) (com
     may_none : (th : ℤ) (f : F) (es : List Shown) → es ≡ [] → MayPrune call pre th f (hits_shown es)
     may_none th f es e = subst (λ (xs : List Shown). MayPrune call pre th f (hits_shown xs)) (sym e) tt
 
-    pub may_shown : (n s : ℕ) → low ≤ s → s ≤ end → (th : ℤ) (f : F) →
+    may_shown : (n s : ℕ) → low ≤ s → s ≤ end → (th : ℤ) (f : F) →
         MayPrune call pre th f (united combined (cuts s ms)) → MayPrune call pre th f (hits_shown (shown_from value w s n))
     may_shown zero s a b th f may = may_none th f _ (shown_zero value w s)
     may_shown (suc n) s a b th f may =
@@ -199,7 +199,7 @@ module _ {F C : Type 0} (call : F → ℕ → ℤ → ℤ → F → Type 0) (com
         (subst (λ (x : ℕ). MayPrune call pre th f (united combined (cuts x ms))) e may))
 
     -- and after the run, what is left
-    pub may_after : (n s : ℕ) → low ≤ s → s ≤ end → end ≤ s + n → (th th' : ℤ) (f g : F) (k : ℕ) → RunsOver call th f (shown_from value w s n) k th' g →
+    may_after : (n s : ℕ) → low ≤ s → s ≤ end → end ≤ s + n → (th th' : ℤ) (f g : F) (k : ℕ) → RunsOver call th f (shown_from value w s n) k th' g →
         MayPrune call pre th f (united combined (cuts s ms)) → MayPrune call pre th' g (united combined (cuts end ms))
     may_after zero s a b c th th' f g k r may =
         may_ended th th' f g k s (omega (arith, b, c)) (over_none th th' f g k _ (shown_zero value w s) r) may
@@ -217,3 +217,27 @@ module _ {F C : Type 0} (call : F → ℕ → ℤ → ℤ → F → Type 0) (com
                 ((may_here s a y th f may).1 r'.0 r'.1 r'.3)
           ]
         ]
+
+  -- ---- all that is there, where the first cell is that of the first document
+
+  module _ (start : cells_start w ≡ low) (some : low ≤ end) where
+    pub run_all : end ≤ low + length w.cells.items → (th th' : ℤ) (f g : F) (k : ℕ) → RunsOver call th f (all_shown value w) k th' g →
+        (j : ℕ) (last : ℤ) (z : F) → Pruned call combined th' g (cuts end ms) j last z → Pruned call combined th f (cuts low ms) (k + j) last z
+    unfolding all_shown
+    run_all covers th th' f g k r j last z p =
+        let n = length w.cells.items in
+        run_shown n low (omega arith) some covers th th' f g k (subst (λ (x : ℕ). RunsOver call th f (shown_from value w x n) k th' g) start r) j last z p
+
+    pub may_all : (pre : F → ℕ → ℤ → Type 0) (th : ℤ) (f : F) →
+        MayPrune call pre th f (united combined (cuts low ms)) → MayPrune call pre th f (hits_shown (all_shown value w))
+    unfolding all_shown
+    may_all pre th f may =
+        let n = length w.cells.items in
+        subst (λ (x : ℕ). MayPrune call pre th f (hits_shown (shown_from value w x n))) (sym start) (may_shown pre n low (omega arith) some th f may)
+
+    pub may_all_after : (pre : F → ℕ → ℤ → Type 0) → end ≤ low + length w.cells.items → (th th' : ℤ) (f g : F) (k : ℕ) → RunsOver call th f (all_shown value w) k th' g →
+        MayPrune call pre th f (united combined (cuts low ms)) → MayPrune call pre th' g (united combined (cuts end ms))
+    unfolding all_shown
+    may_all_after pre covers th th' f g k r may =
+        let n = length w.cells.items in
+        may_after pre n low (omega arith) some covers th th' f g k (subst (λ (x : ℕ). RunsOver call th f (shown_from value w x n) k th' g) start r) may

@@ -142,15 +142,19 @@ returns-clause-run g c =
     let is = to_z-of_z w64 c.args.threshold c.ranges.threshold in
     let all = cuts_from c.take_stretch-after.new.scorers c.take_stretch-after.new.heads c.first_doc.result
     c.take_stretch-after.ensures.heads c.first_doc.ensures.least in
+    let after = c.take_stretch-after.result in
+    let is_after : to_z w64 (of_z w64 after) ≡ after = to_z-of_z w64 after (record { sfits = c.take_stretch-after.type_inv }) in
     let run = rw (is, same) at c.take_stretch-after.ensures.run in
     record {
       count = run.count;
       counted = run.counted;
-      back = λ k last h p. run.back k last h (rw (all, c.take_stretch-after.ensures.lists, same) at p);
+      back = λ k last h p. run.back k last h (rw (is_after, all, c.take_stretch-after.ensures.lists, same) at p);
     }
 
 pub returns-clause-callable : goal.returns-clause-callable
 returns-clause-callable g c =
     let all = cuts_from c.take_stretch-after.new.scorers c.take_stretch-after.new.heads c.first_doc.result
     c.take_stretch-after.ensures.heads c.first_doc.ensures.least in
-    rw (all, c.take_stretch-after.ensures.lists) c.take_stretch-after.ensures.callable
+    let after = c.take_stretch-after.result in
+    let is_after : to_z w64 (of_z w64 after) ≡ after = to_z-of_z w64 after (record { sfits = c.take_stretch-after.type_inv }) in
+    rw (is_after, all, c.take_stretch-after.ensures.lists) c.take_stretch-after.ensures.callable

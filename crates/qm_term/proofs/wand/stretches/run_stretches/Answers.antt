@@ -1,6 +1,7 @@
 -- Stretch by stretch the run goes on.
-use Rattle.std.proofs.Common.{◌≡◌, ◌∙◌, ℕ, ℤ, ◌+◌, ◌<◌, ◌≤◌, List, ap, arith, get_or, length, map, refl, subst, sym, w64}
+use Rattle.std.proofs.Common.{◌≡◌, ◌∙◌, ℕ, ℤ, ◌+◌, ◌<◌, ◌≤◌, List, ap, arith, get_or, length, map, of_z, refl, rules, subst, sym, to_z, w64}
 use Rattle.std.proofs.lemmas.Int.{to_z-of_z}
+use mir.Val.{SFits}
 use Rattle.std.proofs.lemmas.List.{length-map}
 use Rattle.qm_docset.specs.declared.numbers.TheConstants.{TERMINATED}
 use Rattle.qm_term.specs.Cells.{cells_clear, cuts}
@@ -39,7 +40,7 @@ loop-low-init g c =
       may = rw (is, all) c.requires.callable;
       back = λ k last h p.
           let same : k ≡ ticks_of c.args.ticks.now + k = omega (arith, c.requires.none) in
-          subst (λ (n : ℕ). Pruned (InRange w.step) combined th c.args.callback.now ls n last h) same (rw (is, all) at p);
+          subst (λ (n : ℕ). Pruned (InRange w.step) combined (to_z w64 (of_z w64 th)) c.args.callback.now ls n last h) same (rw all at p);
     }
 
 pub next_stretch-moved-requires-clause-begins : goal.next_stretch-moved-requires-clause-begins
@@ -57,6 +58,9 @@ loop-low-preserved g c =
     let inv = c.loop-low.invariant in
     let moved = c.next_stretch-moved in
     let combined = g.C.ScoreCombiner.combined (cells_clear c.args.cells.now).state in
+    let r = moved.result in
+    let fits : SFits w64 r.threshold = search rules in
+    let is : to_z w64 (of_z w64 r.threshold) ≡ r.threshold = to_z-of_z w64 r.threshold fits in
     let run = rw inv.same at moved.ensures.run in
     let may = rw inv.same at moved.ensures.callable in
     record {
@@ -66,34 +70,38 @@ loop-low-preserved g c =
       same = moved.ensures.same ∙ inv.same;
       below = moved.ensures.end;
       few = omega (arith, moved.ensures.few, inv.few, moved.ensures.past);
-      may = may;
+      may = rw is may;
       back = λ k last h p.
-          let again = inv.back (run.count + k) last h (run.back k last h p) in
+          let again = inv.back (run.count + k) last h (run.back k last h (rw is at p)) in
           let same : ticks_of c.loop-low.ticks + (run.count + k) ≡ ticks_of moved.new.ticks + k = omega (arith, run.counted) in
-          subst (λ (n : ℕ). Pruned (InRange w.step) combined c.args.threshold c.args.callback.now
+          subst (λ (n : ℕ). Pruned (InRange w.step) combined (to_z w64 (of_z w64 c.args.threshold)) c.args.callback.now
           (row_lists c.args.scorers.now c.args.heads.now) n last h) same again;
     }
 
-pub returns-clause-run : goal.returns-clause-run
-returns-clause-run g c =
+pub returns : goal.returns
+returns g c =
     let w = fnmut.words g.row.C g.row.F g.F.FnMut in
     let inv = c.loop-low.invariant in
+    let th = to_z w64 c.loop-low.threshold-bits in
+    let is = to_z-of_z w64 c.args.threshold c.ranges.threshold in
     let own = (cells_clear c.args.cells.now).state in
     let combined = g.C.ScoreCombiner.combined own in
     let ls = row_lists c.loop-low.scorers c.loop-low.heads in
     let are : AreMembers ls = row_members c.loop-low.scorers c.loop-low.heads inv.heads in
     let left : AreMembers (cuts c.loop-low.low ls) = cuts_members c.loop-low.low ls are in
-    let none = pruned_none combined (g.met.C.BoundedBySum.within_sum own) (InRange w.step) c.loop-low.threshold c.loop-low.callback
+    let none = pruned_none combined (g.met.C.BoundedBySum.within_sum own) (InRange w.step) th c.loop-low.callback
     (cuts c.loop-low.low ls) left (λ d held. absurd (omega (
       arith,
       held_from c.loop-low.low d ls are held,
       (held_started d (cuts c.loop-low.low ls) left held).1,
       c.loop-low-test.false,
     ))) in
-    let all = inv.back 0 c.loop-low.threshold c.loop-low.callback none in
+    let all = inv.back 0 th c.loop-low.callback none in
     let same : ticks_of c.loop-low.ticks + 0 ≡ ticks_of c.loop-low.ticks = omega arith in
     record {
-      last = c.loop-low.threshold;
-      run = subst (λ (n : ℕ). Pruned (InRange w.step) combined c.args.threshold c.args.callback.now
-          (row_lists c.args.scorers.now c.args.heads.now) n c.loop-low.threshold c.loop-low.callback) same all;
+      run = record {
+        last = th;
+        run = subst (λ (n : ℕ). Pruned (InRange w.step) combined c.args.threshold c.args.callback.now
+            (row_lists c.args.scorers.now c.args.heads.now) n th c.loop-low.callback) same (rw is at all);
+      };
     }

@@ -5,8 +5,6 @@ use Rattle.qm_term.specs.Heads.{listed, no_member}
 use Rattle.qm_term.specs.Members.{Member}
 use Rattle.qm_term.specs.Pivot.{cut, head}
 use Rattle.qm_term.specs.RunScorers.{wand_member}
-use Rattle.qm_term.specs.declared.wand.heads.Head.{Head}
-use Rattle.qm_term.proofs.HeadRecords.{any}
 use Rattle.qm_term.proofs.RowMoves.{row_member}
 use Rattle.qm_term.proofs.RowRecords.{doc_at, zeros}
 use Rattle.qm_term.proofs.RowStretch.{set_same}
@@ -21,7 +19,7 @@ returns-else-heads-k-clause-lists c =
     let ls = row_lists ss hs in
     let m = get_or ls k no_member in
     let at = doc_at (map wand_member ss) hs c.requires.heads.records k zeros c.requires.within in
-    let past : c.args.low ≤ head m = omega (arith, at, ap (λ (h : Head). h.doc) (any hs k zeros _ c.requires.within), c.if-heads-k.false) in
+    let past : c.args.low ≤ head m = omega (arith, at, c.if-heads-k.false) in
     let l : k < length ls = omega (arith, c.requires.within, length-map hs (listed (map wand_member ss))) in
     sym (ap (set ls k) (cut_all c.args.low m (row_member ss hs k c.requires.heads c.requires.within) past) ∙ set_same ls k no_member l)
 
@@ -32,5 +30,5 @@ returns-else-heads-k-clause-answer c =
     let k = c.args.k in
     let m = get_or (row_lists ss hs) k no_member in
     let at = doc_at (map wand_member ss) hs c.requires.heads.records k zeros c.requires.within in
-    let past : c.args.low ≤ head m = omega (arith, at, ap (λ (h : Head). h.doc) (any hs k zeros _ c.requires.within), c.if-heads-k.false) in
-    omega (arith, at, ap (λ (h : Head). h.doc) (any hs k zeros _ c.requires.within), ap head (cut_all c.args.low m (row_member ss hs k c.requires.heads c.requires.within) past))
+    let past : c.args.low ≤ head m = omega (arith, at, c.if-heads-k.false) in
+    omega (arith, at, ap head (cut_all c.args.low m (row_member ss hs k c.requires.heads c.requires.within) past))

@@ -14,11 +14,11 @@ use Rattle.std.proofs.lemmas.List.{get_or-map}
 use Rattle.qm_term.proofs.wand.stretches.take_block.Goals as goal
 
 pub bound_in-bound-requires-clause-here : goal.bound_in-bound-requires-clause-here
-bound_in-bound-requires-clause-here g c = λ d. omega (arith, ap (λ (h : Head). h.doc) (any c.args.heads.now c.args.k d _ c.requires.within))
+bound_in-bound-requires-clause-here g c = λ d. omega (arith, ap (λ (h : Head). h.doc) (any c.args.heads.now c.args.k d zeros c.requires.within))
 
 pub bound_in-bound-requires-clause-below : goal.bound_in-bound-requires-clause-below
 bound_in-bound-requires-clause-below g c =
-    omega (arith, doc_at (map wand_member c.args.scorers.now) c.args.heads.now c.requires.heads.records c.args.k _ c.requires.within, c.requires.here, c.requires.below)
+    omega (arith, doc_at (map wand_member c.args.scorers.now) c.args.heads.now c.requires.heads.records c.args.k zeros c.requires.within, c.requires.here, c.requires.below)
 
 pub take_part-requires-clause-start : goal.take_part-requires-clause-start
 take_part-requires-clause-start g c =
@@ -44,13 +44,13 @@ take_part-requires-clause-block g c = λ d from to.
     let was : get_or (row_lists ss hs) k no_member ≡ listed ns h =
     sym (ap (λ (xs : List Member). get_or xs k no_member) c.bound_in-bound.ensures.lists) ∙ is in
     let same : h.doc ≡ (get_or hs k zeros).doc = docs.0 c.requires.within in
-    let doc : c.index-heads-k.result.doc ≡ h.doc = omega (arith, same, ap (λ (x : Head). x.doc) (any hs k zeros _ c.requires.within)) in
+    let p = (get_or hs k zeros).doc in
     let at : h.doc ≡ head (listed ns h) = r.doc in
-    let end = c.end_from.ensures.here (omega (arith, doc, ap (λ (x : Head). x.doc) (any gs k zeros _ l))) in
-    let far : d ≤ h.block_end = omega (arith, to, c.min-stop.ensures, end, ap (λ (x : Head). x.block_end) (any gs k zeros _ l)) in
+    let end = c.end_from.ensures.here (omega (arith, same)) in
+    let far : d ≤ h.block_end = omega (arith, to, c.min-stop.ensures, end) in
     let after : h.doc ≤ d = omega (arith, from, at, ap head is) in
-    ap (λ (m : Member). bound_at d m.blocks) is ∙ r.bound d (omega (arith, known.0, doc, after)) far
-    ∙ sym (c.bound_in-bound.ensures.bound ∙ ap (λ (m : Member). bound_at c.bound_in-bound.args.p m.blocks) was ∙ r.bound c.bound_in-bound.args.p known.0 known.1)
+    ap (λ (m : Member). bound_at d m.blocks) is ∙ r.bound d (omega (arith, known.0, same, after)) far
+    ∙ sym (c.bound_in-bound.ensures.bound ∙ ap (λ (m : Member). bound_at p m.blocks) was ∙ r.bound p known.0 known.1)
 
 pub take_part-requires-clause-cells : goal.take_part-requires-clause-cells
 take_part-requires-clause-cells g c =
@@ -73,20 +73,18 @@ returns-clause-block g c =
     let docs = docs_at hs gs c.bound_in-bound.ensures.docs k zeros in
     let l : k < length gs = omega (arith, docs.1, c.requires.within) in
     let known = c.bound_in-bound.ensures.known zeros in
-    let doc : c.index-heads-k.result.doc ≡ (get_or gs k zeros).doc = omega (arith, docs.0 c.requires.within, ap (λ (x : Head). x.doc) (any hs k zeros _ c.requires.within)) in
+    let doc : (get_or gs k zeros).doc ≡ (get_or hs k zeros).doc = docs.0 c.requires.within in
     let at : (get_or hs k zeros).doc ≡ head (get_or ls k no_member) = doc_at (map wand_member ss) hs c.requires.heads.records k zeros c.requires.within in
-    let end = c.end_from.ensures.here (omega (arith, doc, ap (λ (x : Head). x.doc) (any gs k zeros _ l))) in
+    let end = c.end_from.ensures.here (omega (arith, doc)) in
     record {
       stop = c.min-stop.result;
       within = omega (arith, c.min-stop.ensures);
       past = omega (
         arith,
         at,
-        docs.0 c.requires.within,
         known.1,
         doc,
         end,
-        ap (λ (x : Head). x.block_end) (any gs k zeros _ l),
         c.min-stop.ensures,
         c.requires.here,
         c.requires.below,

@@ -123,24 +123,24 @@ loop-doc-preserved g c =
 
 pub loop-doc-smaller : goal.loop-doc-smaller
 loop-doc-smaller g c =
-    let ss = c.args.scorers.now in
-    let hs = c.args.heads.now in
     let k = c.args.k in
-    let ls = row_lists ss hs in
-    let m = get_or ls k no_member in
-    let is : IsMember m = row_member ss hs k c.requires.heads c.requires.within in
-    let l : k < length ls = omega (arith, c.requires.within, length-map hs (listed (map wand_member ss))) in
-    let after = loop-doc-preserved g c in
-    let t = after.part.0 in
+    let ss = c.loop-doc.scorers in
+    let hs = c.loop-doc.heads in
+    let was = row_lists ss hs in
+    let m = get_or was k no_member in
+    let block = c.take_block-doc.ensures.block in
+    let t = block.stop in
+    let inside : k < length hs = omega (arith, c.requires.within, c.loop-doc.auto.heads) in
+    let l : k < length was = omega (arith, inside, length-map hs (listed (map wand_member ss))) in
     let at : get_or (row_lists c.take_block-doc.new.scorers c.take_block-doc.new.heads) k no_member ≡ cut t m =
-    ap (λ (xs : List Member). get_or xs k no_member) after.part.3 ∙ get_or-set_same ls k (cut t m) no_member l in
+    ap (λ (xs : List Member). get_or xs k no_member) block.lists ∙ get_or-set_same was k (cut t m) no_member l in
     omega (
       arith,
-      c.take_block-doc.ensures.block.past,
+      block.past,
       c.loop-doc.invariant.here,
-      after.here,
+      c.take_block-doc.ensures.answer,
       ap head at,
-      cut_reaches t m is (omega (arith, after.part.1, c.requires.below)),
+      cut_reaches t m (row_member ss hs k c.loop-doc.invariant.heads inside) (omega (arith, block.within, c.requires.below)),
       c.loop-doc-test.true,
     )
 

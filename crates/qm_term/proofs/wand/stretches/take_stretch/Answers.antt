@@ -1,5 +1,5 @@
 -- The cells are filled and gone over: the run over what they show is one over the lists.
-use Rattle.std.proofs.Common.{◌≡◌, ◌∙◌, ℕ, ◌+◌, ◌-◌, ◌*◌, ◌/◌, ◌<◌, ◌≤◌, List, ap, arith, fold, length, pos, subst, sym, w64}
+use Rattle.std.proofs.Common.{◌≡◌, ◌∙◌, ℕ, ◌+◌, ◌-◌, ◌*◌, ◌/◌, ◌<◌, ◌≤◌, List, ap, arith, fold, length, of_z, sym, to_z, w64}
 use Rattle.std.proofs.lemmas.Int.{to_z-of_z}
 use Rattle.qm_docset.specs.Entry.{greatest_score}
 use Rattle.qm_term.specs.Cells.{all_shown, cells_clear, cells_start, cuts}
@@ -11,7 +11,7 @@ use Rattle.qm_term.specs.declared.wand.cells.Cell.{Cell}
 use Rattle.qm_term.proofs.RowRecords.{row_members}
 use Rattle.qm_term.proofs.StretchCells.{holds_tidy, shown_within}
 use Rattle.qm_term.proofs.StretchCuts.{AreCut-cuts, cuts_members}
-use Rattle.qm_term.proofs.StretchRuns.{may_after, may_shown, run_shown}
+use Rattle.qm_term.proofs.StretchRuns.{may_all, may_all_after, run_all}
 use Rattle.qm_term.proofs.WandSteps.{tops_cut}
 use Rattle.qm_term.specs.contracts.wand.stretches.take_stretch.F-FnMut as fnmut
 use Rattle.qm_term.proofs.wand.stretches.take_stretch.Goals as goal
@@ -60,7 +60,6 @@ drain-requires-clause-beyond g c = λ d past.
     (c.fill.ensures.holds.beyond d (omega (arith, past, c.fill.ensures.alike.start, c.begin.ensures.start, c.requires.some))).0
 
 pub drain-requires-clause-callable : goal.drain-requires-clause-callable
-unfolding all_shown
 drain-requires-clause-callable g c =
     let w' = fnmut.words g.row.C g.row.F g.F.FnMut in
     let hs = c.args.heads.now in
@@ -69,20 +68,18 @@ drain-requires-clause-callable g c =
     let w = c.fill.new.cells in
     let first = (cells_clear c.args.cells.now).state in
     let th = c.args.threshold in
-    let start : cells_start w ≡ c.args.low = c.fill.ensures.alike.start ∙ c.begin.ensures.start in
-    let shown = may_shown (InRange w'.step) (g.C.ScoreCombiner.combined first) (g.met.C.BoundedBySum.within_sum first) g.C.ScoreCombiner.step
+    rw (to_z-of_z w64 th c.ranges.threshold)
+    (may_all (InRange w'.step) (g.C.ScoreCombiner.combined first) (g.met.C.BoundedBySum.within_sum first) g.C.ScoreCombiner.step
     g.C.ScoreCombiner.value c.args.low c.args.end ls (row_members ss hs c.requires.heads) w
     (made g.C.ScoreCombiner.step g.C.ScoreCombiner.value g.C.ScoreCombiner.cleared g.C.ScoreCombiner.combined g.met.C.ScoreCombiner.combines
     g.met.C.ScoreCombiner.clear_keeps c.requires.begins.state.start first (cells_clear w).state c.requires.begins.state.is
-    (ap (λ (x : Cell _). x.state) (c.fill.ensures.alike.clear ∙ c.begin.ensures.same))) c.fill.ensures.holds w'.pre
-    (length w.cells.items) c.args.low (omega arith) (omega (arith, c.requires.some)) th c.args.callback.now c.requires.callable in
-    rw (to_z-of_z w64 th c.ranges.threshold, start) shown
+    (ap (λ (x : Cell _). x.state) (c.fill.ensures.alike.clear ∙ c.begin.ensures.same))) c.fill.ensures.holds
+    (c.fill.ensures.alike.start ∙ c.begin.ensures.start) (omega (arith, c.requires.some)) w'.pre th c.args.callback.now c.requires.callable)
 
 pub returns-clause-same : goal.returns-clause-same
 returns-clause-same g c = c.drain.ensures.same ∙ c.fill.ensures.alike.clear ∙ c.begin.ensures.same
 
 pub returns-clause-run : goal.returns-clause-run
-unfolding all_shown
 returns-clause-run g c =
     let w' = fnmut.words g.row.C g.row.F g.F.FnMut in
     let hs = c.args.heads.now in
@@ -92,23 +89,23 @@ returns-clause-run g c =
     let first = (cells_clear c.args.cells.now).state in
     let th = c.args.threshold in
     let start : cells_start w ≡ c.args.low = c.fill.ensures.alike.start ∙ c.begin.ensures.start in
-    let end : c.args.end ≤ c.args.low + length w.cells.items = omega (arith, start, c.fill.ensures.alike.end, c.begin.ensures.end, c.requires.some) in
-    let made_run = rw (to_z-of_z w64 th c.ranges.threshold, start) at c.drain.ensures.run in
+    let covers : c.args.end ≤ c.args.low + length w.cells.items = omega (arith, start, c.fill.ensures.alike.end, c.begin.ensures.end, c.requires.some) in
+    let after = c.drain.result in
+    let is_after : to_z w64 (of_z w64 after) ≡ after = to_z-of_z w64 after (record { sfits = c.drain.type_inv }) in
+    let run = rw (to_z-of_z w64 th c.ranges.threshold) at c.drain.ensures.run in
     record {
-      count = c.drain.ensures.run.count;
-      counted = c.drain.ensures.run.counted;
+      count = run.count;
+      counted = run.counted;
       back = λ k last z p.
-          run_shown (InRange w'.step) (g.C.ScoreCombiner.combined first) (g.met.C.BoundedBySum.within_sum first) g.C.ScoreCombiner.step
+          run_all (InRange w'.step) (g.C.ScoreCombiner.combined first) (g.met.C.BoundedBySum.within_sum first) g.C.ScoreCombiner.step
           g.C.ScoreCombiner.value c.args.low c.args.end ls (row_members ss hs c.requires.heads) w
           (made g.C.ScoreCombiner.step g.C.ScoreCombiner.value g.C.ScoreCombiner.cleared g.C.ScoreCombiner.combined g.met.C.ScoreCombiner.combines
           g.met.C.ScoreCombiner.clear_keeps c.requires.begins.state.start first (cells_clear w).state c.requires.begins.state.is
           (ap (λ (x : Cell _). x.state) (c.fill.ensures.alike.clear ∙ c.begin.ensures.same))) c.fill.ensures.holds
-          (length w.cells.items) c.args.low (omega arith) (omega (arith, c.requires.some)) end th c.drain.result c.args.callback.now c.drain.new.callback
-          c.drain.ensures.run.count made_run.run k last z p;
+          start (omega (arith, c.requires.some)) covers th after c.args.callback.now c.drain.new.callback run.count run.run k last z (rw is_after at p);
     }
 
 pub returns-clause-callable : goal.returns-clause-callable
-unfolding all_shown
 returns-clause-callable g c =
     let w' = fnmut.words g.row.C g.row.F g.F.FnMut in
     let hs = c.args.heads.now in
@@ -118,12 +115,14 @@ returns-clause-callable g c =
     let first = (cells_clear c.args.cells.now).state in
     let th = c.args.threshold in
     let start : cells_start w ≡ c.args.low = c.fill.ensures.alike.start ∙ c.begin.ensures.start in
-    let end : c.args.end ≤ c.args.low + length w.cells.items = omega (arith, start, c.fill.ensures.alike.end, c.begin.ensures.end, c.requires.some) in
-    let made_run = rw (to_z-of_z w64 th c.ranges.threshold, start) at c.drain.ensures.run in
-    may_after (InRange w'.step) (g.C.ScoreCombiner.combined first) (g.met.C.BoundedBySum.within_sum first) g.C.ScoreCombiner.step
+    let covers : c.args.end ≤ c.args.low + length w.cells.items = omega (arith, start, c.fill.ensures.alike.end, c.begin.ensures.end, c.requires.some) in
+    let after = c.drain.result in
+    let is_after : to_z w64 (of_z w64 after) ≡ after = to_z-of_z w64 after (record { sfits = c.drain.type_inv }) in
+    let run = rw (to_z-of_z w64 th c.ranges.threshold) at c.drain.ensures.run in
+    rw is_after
+    (may_all_after (InRange w'.step) (g.C.ScoreCombiner.combined first) (g.met.C.BoundedBySum.within_sum first) g.C.ScoreCombiner.step
     g.C.ScoreCombiner.value c.args.low c.args.end ls (row_members ss hs c.requires.heads) w
     (made g.C.ScoreCombiner.step g.C.ScoreCombiner.value g.C.ScoreCombiner.cleared g.C.ScoreCombiner.combined g.met.C.ScoreCombiner.combines
     g.met.C.ScoreCombiner.clear_keeps c.requires.begins.state.start first (cells_clear w).state c.requires.begins.state.is
-    (ap (λ (x : Cell _). x.state) (c.fill.ensures.alike.clear ∙ c.begin.ensures.same))) c.fill.ensures.holds w'.pre
-    (length w.cells.items) c.args.low (omega arith) (omega (arith, c.requires.some)) end th c.drain.result c.args.callback.now c.drain.new.callback
-    c.drain.ensures.run.count made_run.run c.requires.callable
+    (ap (λ (x : Cell _). x.state) (c.fill.ensures.alike.clear ∙ c.begin.ensures.same))) c.fill.ensures.holds
+    start (omega (arith, c.requires.some)) w'.pre covers th after c.args.callback.now c.drain.new.callback run.count run.run c.requires.callable)
