@@ -7,7 +7,6 @@ ghost use Rattle.qm_phrase.specs.Places.{Ascends, HavePassed, greatest_first, le
 ghost use Rattle.qm_phrase.specs.Starts.{starts};
 ghost use Rattle.qm_phrase.specs.TermRows.{AreInside, rows_left, terms_of};
 
-use crate::pair::count_pair;
 use crate::row::ALL_PLACES;
 use crate::term_row::TermRow;
 
@@ -47,8 +46,7 @@ pub(crate) fn pass(rows: &mut [TermRow], positions: &[Vec<u32>], place: u64, flo
 /// One pass: the least of the first places is a start exactly where the greatest of them is within the
 /// slop, and then every term that begins with it passes it. What lies further than the slop before the
 /// greatest is no start, and is passed at once. So it takes at most the number of places times the number
-/// of terms, and where more than two terms have few places near each other their number times the logarithm
-/// of these. Two terms are merged.
+/// of terms, and where terms have few places near each other their number times the logarithm of these.
 pub(crate) fn count_starts(
     rows: &mut [TermRow],
     positions: &[Vec<u32>],
@@ -61,10 +59,6 @@ pub(crate) fn count_starts(
     ensures count { result ≡ min most (starts slop (rows_left positions.now rows.old)) }
     ensures terms { terms_of rows.new ≡ terms_of rows.old }
 {
-    if let [first, second] = &*rows {
-        let (ones, others) = (&positions[first.member], &positions[second.member]);
-        return count_pair(&first.row, ones, &second.row, others, slop, most);
-    }
     let mut count = 0;
     while count < most {
         let (least, greatest) = first_places(rows, positions);
