@@ -8,6 +8,7 @@
 mod common_places;
 mod counting;
 mod full_terms;
+mod pair;
 mod phrase_prefix_scorer;
 mod phrase_scorer;
 mod phrase_terms;

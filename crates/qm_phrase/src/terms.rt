@@ -1,7 +1,7 @@
 //! The terms of a phrase: the postings of each, and beside them buffers for positions. They need not
 //! stand anywhere between two calls.
 
-ghost use Rattle.std.specs.Prelude.{◌≡◌, ℕ, ◌-◌, ◌<◌, ◌≤◌, All, IfOk, length, map, min, vec_capacity};
+ghost use Rattle.std.specs.Prelude.{◌≡◌, ℕ, ◌-◌, ◌<◌, ◌≤◌, All, IfOk, IfSome, length, map, min, vec_capacity};
 ghost use Rattle.qm_docset.specs.Entry.{head_document, head_positions};
 ghost use Rattle.qm_docset.specs.Lists.{bounds, lists};
 ghost use Rattle.qm_phrase.specs.PhraseTerms.{lists_given, members_of, offsets_of, terms_given};
@@ -10,6 +10,7 @@ ghost use Rattle.qm_phrase.specs.TermRows.{positions_in, rows_left, terms_of};
 ghost use Rattle.qm_phrase.specs.Terms.{AreHere, AreKept, AreMovedTo, AreRoomy, AreTerms, IsFirstStart, IsLook, begun, sets_here, shifts_in, term_lists};
 
 use crate::counting::count_starts;
+use crate::pair::count_pair;
 use crate::phrase_terms::PhraseTerms;
 use crate::row::Row;
 use crate::term_row::TermRow;
@@ -70,8 +71,29 @@ impl<P: Postings> TermPlaces<P> {
         ensures count { result ≡ min most (starts slop (sets_here P.DocSet self.old)) }
         ensures kept { AreKept P.DocSet self.old self.new }
     {
+        if let Some(count) = self.count_lent(slop, most) {
+            return count;
+        }
         self.read_places();
         count_starts(&mut self.rows, &self.positions, slop, most)
+    }
+
+    // The same where there are two terms, whose members lend their positions.
+    fn count_lent(&mut self, slop: u32, most: u32) -> Option<u32>
+        requires valid { AreTerms P.DocSet self.old }
+        requires here { AreHere P.DocSet self.old }
+        ensures count { IfSome result (λ count. count ≡ min most (starts slop (sets_here P.DocSet self.old))) }
+        ensures kept { AreKept P.DocSet self.old self.new }
+        ensures here { AreHere P.DocSet self.new }
+    {
+        if self.rows.len() != 2 {
+            return None;
+        }
+        find_each(&mut self.members);
+        let (first, second) = (&self.rows[0], &self.rows[1]);
+        let ones = self.members[first.member].lent_positions()?;
+        let others = self.members[second.member].lent_positions()?;
+        Some(count_pair(first.row.shift, ones, second.row.shift, others, slop, most))
     }
 
     /// Looks at one document: answers how many starts it has, or `most` where there are more; or, where it
@@ -193,6 +215,20 @@ fn read_positions<P: Postings>(members: &mut [P], positions: &mut [Vec<u32>])
 {
     for (i, buffer) in positions.iter_mut().enumerate() {
         members[i].positions(buffer);
+    }
+}
+
+// Lets every member find its positions in the document that it stands on.
+fn find_each<P: Postings>(members: &mut [P])
+    requires valid { All P.valid members.old }
+    requires here { All (λ m. P.placed m × (head_document (P.entries m) < TERMINATED)) members.old }
+    ensures entries { lists P.DocSet members.new ≡ lists P.DocSet members.old }
+    ensures limits { bounds P.DocSet members.new ≡ bounds P.DocSet members.old }
+    ensures valid { All P.valid members.new }
+    ensures here { All (λ m. P.placed m × (head_document (P.entries m) < TERMINATED)) members.new }
+{
+    for member in members.iter_mut() {
+        member.find_positions();
     }
 }
 

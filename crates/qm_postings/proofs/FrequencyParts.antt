@@ -12,7 +12,7 @@ module _ {A : Type 0} (xs ys : List A) (start end : ℕ) (ordered : start ≤ en
   whole = take (end - start) (drop start (xs ++ ys))
 
   -- the part lies in the first row
-  before : end ≤ length xs → take (end - start) (drop start xs) ≡ whole
+  pub before : end ≤ length xs → take (end - start) (drop start xs) ≡ whole
   before e =
       sym (take-append-le (end - start) (drop start xs) ys (omega (arith, length-drop start xs)))
       ∙ ap (take (end - start)) (sym (drop-append-le start xs ys (omega arith)))

@@ -188,6 +188,22 @@ impl<'a> FrequencyPart<'a> {
         }
     }
 
+    // The sum of those of a range of these postings.
+    #[inline]
+    pub(crate) fn sum_between(&self, start: usize, end: usize) -> usize
+        requires start { start ≤ end }
+        requires end { end ≤ length (listed self.now) }
+        requires fits { sum (take (end - start) (drop start (listed self.now))) ≤ usize.MAX }
+        ensures { result ≡ sum (take (end - start) (drop start (listed self.now))) }
+    {
+        if end <= self.small.len() {
+            // as in most segments
+            sum_of_small(&self.small[start..end])
+        } else {
+            self.part(start, end).sum()
+        }
+    }
+
     // The same frequencies in memory of their own.
     pub(crate) fn copy(&self, alloc: Global) -> Result<Vec<u32>, AllocError>
         ensures same { IfOk result (λ it. it.items ≡ listed self.now) }

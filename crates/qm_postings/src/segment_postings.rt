@@ -299,7 +299,8 @@ impl<'a> SegmentPostings<'a> {
         if arrays.positions.is_empty() {
             return arrays.positions;
         }
-        let start = arrays.positions_start(self.cursor, self.mark, self.mark_start);
+        let block = self.block_here();
+        let start = arrays.positions_start(self.cursor, block, self.mark, self.mark_start);
         self.mark = self.cursor;
         self.mark_start = start;
         let end = start + arrays.frequencies.at(self.cursor) as usize;
@@ -464,6 +465,21 @@ impl<'a> Postings for SegmentPostings<'a> {
         for position in positions {
             output.push(*position + offset).unwrap();
         }
+    }
+
+    /// The first call in a block sums the frequencies of less than a block.
+    fn find_positions(&mut self) {
+        self.positions_here();
+    }
+
+    /// None where the field keeps no positions, or none were asked for.
+    fn lent_positions(&self) -> Option<&[u32]> {
+        let arrays = self.arrays;
+        if self.mark != self.cursor || arrays.positions.is_empty() {
+            return None;
+        }
+        let end = self.mark_start + arrays.frequencies.at(self.cursor) as usize;
+        Some(&arrays.positions[self.mark_start..end])
     }
 
     ghost ordered = { λ s h. ArePositions-postings s h };

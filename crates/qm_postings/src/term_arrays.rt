@@ -1,6 +1,6 @@
 //! What a segment keeps of the postings of a term.
 
-ghost use Rattle.std.specs.Prelude.{◌≡◌, ◌≤◌, ◌<◌, length, sum, take};
+ghost use Rattle.std.specs.Prelude.{◌≡◌, ◌/◌, ◌≤◌, ◌<◌, length, sum, take};
 ghost use Rattle.qm_postings.specs.Frequencies.{listed};
 ghost use Rattle.qm_postings.specs.TermArrays.{AreArrays};
 ghost use Rattle.qm_postings.specs.declared.freq_reading_option.FreqReadingOption.{FreqReadingOption};
@@ -35,22 +35,29 @@ pub(crate) struct TermArrays<'a> {
 }
 
 impl<'a> TermArrays<'a> {
-    // Where the positions of the posting at a place begin. It is known where those of the posting at
-    // the mark do, and where those of each block do; so it sums the frequencies of less than a block.
-    pub(crate) fn positions_start(&self, place: usize, mark: usize, mark_start: usize) -> usize
+    // Where the positions of the posting at a place begin, which stands in the block of this number. It is
+    // known where those of the posting at the mark do, and where those of each block do; so it sums the
+    // frequencies of less than a block.
+    pub(crate) fn positions_start(
+        &self,
+        place: usize,
+        block: usize,
+        mark: usize,
+        mark_start: usize,
+    ) -> usize
         requires arrays { (reading : FreqReadingOption) × AreArrays reading self.now }
         requires some { 0 < length self.now.positions.now }
         requires within { place < length (listed self.now.frequencies) }
+        requires block { block ≡ place / self.now.block_len }
         requires mark { mark ≤ place }
         requires start { mark_start ≡ sum (take mark (listed self.now.frequencies)) }
         ensures { result ≡ sum (take place (listed self.now.frequencies)) }
     {
-        let block = place / self.block_len;
         let block_start = block * self.block_len;
         if mark < block_start {
-            self.blocks[block].positions_start + self.frequencies.part(block_start, place).sum()
+            self.blocks[block].positions_start + self.frequencies.sum_between(block_start, place)
         } else {
-            mark_start + self.frequencies.part(mark, place).sum()
+            mark_start + self.frequencies.sum_between(mark, place)
         }
     }
 }

@@ -1,26 +1,10 @@
 -- As many positions as the frequency says, from where those of the posting begin.
 use Rattle.qm_postings.specs.Frequencies.{listed}
-use Rattle.std.proofs.Common.{◌≡◌, ◌<◌, ◌≤◌, ◌+◌, ◌-◌, ℕ, length, sum, get_or, take, drop, ap, refl, sym, arith, ◌∙◌, rules}
-use Rattle.qm_docset.specs.Entry.{head_document}
-use Rattle.qm_docset.specs.declared.numbers.TheConstants.{TERMINATED}
-use Rattle.qm_postings.specs.SegmentPostings.{IsPostings, looked_block, postings_left}
+use Rattle.std.proofs.Common.{◌≡◌, ◌<◌, ◌+◌, ◌-◌, length, get_or, take, drop, ap, refl, sym, arith, ◌∙◌, rules}
+use Rattle.qm_postings.specs.SegmentPostings.{looked_block}
 use Rattle.qm_postings.specs.StoredFacts.{no_positions, positions_at}
-use Rattle.qm_postings.specs.TermArrays.{stored}
-use Rattle.qm_postings.specs.declared.segment_postings.SegmentPostings.{SegmentPostings}
-use Rattle.qm_docset.proofs.PlacesLeft.{within}
-use Rattle.qm_postings.proofs.PositionSums.{sum-past}
-use Rattle.qm_postings.proofs.PostingsLeft.{named}
+use Rattle.qm_postings.proofs.PostingsLeft.{end_inside, inside}
 use Rattle.qm_postings.proofs.segment_postings.SegmentPostings.positions_here.Goals as goal
-
-inside : (s : SegmentPostings) → IsPostings s → head_document (postings_left s) < TERMINATED → s.cursor < length s.arrays.documents.now
-inside s valid here = within s.cursor (stored s.reading s.arrays) s.arrays.documents.now (named s) valid.place here
-
--- the positions of the posting that the cursor stands on are there
-end_inside : (s : SegmentPostings) (start : ℕ) → IsPostings s → head_document (postings_left s) < TERMINATED →
-    0 < length s.arrays.positions.now → start ≡ sum (take s.cursor (listed s.arrays.frequencies)) →
-    start + get_or (listed s.arrays.frequencies) s.cursor 0 ≤ length s.arrays.positions.now
-end_inside s start valid here some is =
-    omega (arith, is, valid.arrays.enough some, sum-past s.cursor (listed s.arrays.frequencies) (omega (arith, inside s valid here, valid.arrays.frequencies)))
 
 pub returns-then-is_empty-clause-positions : goal.returns-then-is_empty-clause-positions
 returns-then-is_empty-clause-positions c =
@@ -47,6 +31,7 @@ positions_start-start-requires c =
       arrays = (s.reading, valid.arrays);
       some = some;
       within = omega (arith, inside s valid c.requires.here, valid.arrays.frequencies);
+      block = c.block_here-block.ensures;
       mark = c.requires.valid.mark;
       start = c.requires.valid.mark_start some;
     }
@@ -112,3 +97,6 @@ returns-clause-stays c = refl
 
 pub returns-then-is_empty-clause-stays : goal.returns-then-is_empty-clause-stays
 returns-then-is_empty-clause-stays c = refl
+
+pub block_here-block-requires-clause-here : goal.block_here-block-requires-clause-here
+block_here-block-requires-clause-here c = inside c.args.self.now c.requires.valid c.requires.here
