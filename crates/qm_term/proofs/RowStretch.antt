@@ -49,7 +49,10 @@ end_next ms hs p k d l least r new all e by low i =
       ap (skip p) (rest_at (listed ms) hs k d l),
       skip-cons p (listed ms (get_or hs k d)) (map (listed ms) (drop (k + 1) hs)),
       skip_le_end p (map (listed ms) (drop (k + 1) hs)),
-      e, by, low, i,
+      e,
+      by,
+      low,
+      i,
     )
 
 -- ---- lists by their places

@@ -152,12 +152,7 @@ pub fn block_wand<C: BoundedBySum, F: FnMut(DocId, Score) -> Score>(
     let mut cells = Cells::new(alloc, combiner)?;
     let mut ticks = Ticks::new();
     run_stretches(
-        &mut heads,
-        &mut row,
-        &mut cells,
-        threshold,
-        &mut ticks,
-        callback,
+        &mut heads, &mut row, &mut cells, threshold, &mut ticks, callback,
     );
     let ticks = ticks.get();
     Ok(WandCount {
