@@ -1,6 +1,7 @@
 -- What a writer of documents has written.
 use Rattle.std.specs.Prelude.{◌≡◌, ◌≤◌, ◌++◌, ℕ, ℤ, List, Option, OnOk, Result, length, string_bytes, false, true}
 use Rattle.std.specs.Fmt.{IsPlainFormatter, formatter_writer}
+use Rattle.qm_script.specs.Pruned.{rising, threshold_after}
 use Rattle.qm_script.specs.Text.{IsListing}
 use Rattle.qm_script.specs.declared.item_writer.ItemWriter.{ItemWriter}
 use Rattle.qm_script.specs.declared.listing.Listing.{Listing}
@@ -27,3 +28,9 @@ ListsMore more before after = (items : List (ℕ × Option ℤ)) → ListsSoFar 
 -- what it had written before stands
 abbrev pub KeepsListed : Listing → Listing → Type 0
 KeepsListed before after = (items : List (ℕ × Option ℤ)) → ListsSoFar items before → ListsSoFar items after
+
+-- what a run calls for of some items from a threshold on has what was listed before in front of it, and this threshold is
+-- left behind it
+pub record ListsRun (threshold : ℤ) (items : List (ℕ × Option ℤ)) (before after : Listing) (left : ℤ) : Type 0 where
+  pub called : ListsMore (rising threshold items) before after
+  pub left_is : left ≡ threshold_after threshold (rising threshold items)

@@ -9,10 +9,10 @@ ghost use Rattle.qm_index.specs.Parts.{segments_of};
 ghost use Rattle.qm_script.specs.Found.{found_above_in_parts};
 ghost use Rattle.qm_script.specs.Parts.{document_count};
 ghost use Rattle.qm_script.specs.ProgramNumbers.{most_segments};
-ghost use Rattle.qm_script.specs.Pruned.{all_pruned, parts_pruned, rising, threshold_after};
+ghost use Rattle.qm_script.specs.Pruned.{all_pruned, parts_pruned};
 ghost use Rattle.qm_script.specs.Text.{WritesListing};
 ghost use Rattle.qm_script.specs.Under.{IsListingRefusal, IsWithinScores};
-ghost use Rattle.qm_script.specs.Written.{ListsMore, ListsSoFar};
+ghost use Rattle.qm_script.specs.Written.{ListsMore, ListsRun, ListsSoFar};
 ghost use Rattle.qm_weight.specs.Scorers.{IsRefusalOf};
 ghost use Rattle.qm_weight.specs.Tree.{is_scoring};
 ghost use Rattle.qm_weight.specs.Weights.{tree_of};
@@ -124,10 +124,7 @@ fn list_run(
     listing: &mut Listing,
 ) -> Result<Score, QueryError>
     requires scoring { IsTrue (is_scoring (tree_of weight.now)) }
-    ensures left { IfOk result
-        (λ left. left ≡ threshold_after threshold (rising threshold (listed true (tree_of weight.now) listing.old.first segment.now.segment))) }
-    ensures listed { OnOk result
-        (ListsMore (rising threshold (listed true (tree_of weight.now) listing.old.first segment.now.segment)) listing.old listing.new) }
+    ensures run { IfOk result (ListsRun threshold (listed true (tree_of weight.now) listing.old.first segment.now.segment) listing.old listing.new) }
     ensures refused { IfErr result (IsRefusalOf (tree_of weight.now) 1) }
 {
     let mut left = threshold;
