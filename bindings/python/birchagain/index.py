@@ -62,7 +62,9 @@ class Index(Queries, StoredIndex):
             return call(self._handle, *arguments)
 
     def _call(self, call, *arguments) -> None:
-        raise_for(self._answered(call, *arguments))
+        status = self._answered(call, *arguments)
+        if status:
+            raise_for(status)
 
     def close(self) -> None:
         """Frees its memory. Harmless where it is closed already."""

@@ -3,7 +3,7 @@
 from __future__ import annotations
 
 import ctypes
-from typing import Iterator, List, Literal, NamedTuple
+from typing import Iterator, List, Literal, NamedTuple, Tuple
 
 from . import _library
 from .errors import QueryError, raise_for
@@ -23,23 +23,26 @@ class Hit(NamedTuple):
     score: int
 
 
-class _Text:
-    """The text of a query, as the library takes it."""
+# a query as the library takes it: the number of its language, its bytes, and how many these are
+_Passed = Tuple[int, bytes, int]
 
-    def __init__(self, query: str, language: Language) -> None:
-        if language not in _NUMBERS:
-            raise ValueError(f"there is no language {language!r}, but {' and '.join(map(repr, _NUMBERS))}")
-        encoded = query.encode()
-        self.passed = (_NUMBERS[language], encoded, len(encoded))
 
-    def raise_for(self, status: int) -> None:
-        """Raises what a status of a call with this text stands for."""
-        if status < _UNTYPED:
-            raise_for(status)
-            return
-        place = ctypes.c_size_t()
-        _library.check_query(*self.passed, place)
-        raise QueryError(status, len(self.passed[1][: place.value].decode()))
+def _passed(query: str, language: Language) -> _Passed:
+    number = _NUMBERS.get(language)
+    if number is None:
+        raise ValueError(f"there is no language {language!r}, but {' and '.join(map(repr, _NUMBERS))}")
+    encoded = query.encode()
+    return number, encoded, len(encoded)
+
+
+def _raise_for(status: int, passed: _Passed) -> None:
+    """Raises what a status of a call with this query stands for."""
+    if status < _UNTYPED:
+        raise_for(status)
+        return
+    place = ctypes.c_size_t()
+    _library.check_query(*passed, place)
+    raise QueryError(status, len(passed[1][: place.value].decode()))
 
 
 def query_words(query: str, *, language: Language = "typed") -> List[str]:
@@ -48,12 +51,12 @@ def query_words(query: str, *, language: Language = "typed") -> List[str]:
 
     Raises `QueryError` where it is not understood.
     """
-    text = _Text(query, language)
+    passed = _passed(query, language)
     # its words are not more than its bytes, nor are theirs
-    room = max(text.passed[2], 1)
+    room = max(passed[2], 1)
     data, ends = ctypes.create_string_buffer(room), (ctypes.c_size_t * room)()
     size, count = ctypes.c_size_t(), ctypes.c_size_t()
-    text.raise_for(_library.query_words(*text.passed, data, room, ends, room, size, count))
+    _raise_for(_library.query_words(*passed, data, room, ends, room, size, count), passed)
     joined, places = data.raw[: size.value], [0, *ends[: count.value]]
     return [joined[start:end].decode() for start, end in zip(places, places[1:])]
 
@@ -69,8 +72,10 @@ class Queries:
     query_words = staticmethod(query_words)
 
     def _ask(self, call, query: str, language: Language, *arguments) -> None:
-        text = _Text(query, language)
-        text.raise_for(self._answered(call, *text.passed, *arguments))
+        passed = _passed(query, language)
+        status = self._answered(call, *passed, *arguments)
+        if status:
+            _raise_for(status, passed)
 
     def count(self, query: str, *, language: Language = "typed") -> int:
         """How many documents match a query.

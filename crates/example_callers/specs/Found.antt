@@ -1,5 +1,5 @@
 -- What callers find, and what they do.
-use Rattle.std.specs.Prelude.{◌≡◌, ℕ, ℤ, ◌⊎◌, ◌&&◌, ◌++◌, All, Bool, IsTrue, List, Option, drop, filter, length, nat_le, option_and_then, slice_get}
+use Rattle.std.specs.Prelude.{◌≡◌, ℕ, ℤ, ◌⊎◌, ◌&&◌, ◌++◌, All, Bool, IsTrue, List, Ok, Option, drop, filter, length, nat_le, option_and_then, slice_get}
 use Rattle.std.specs.List.{list_any, range_with_len}
 use Rattle.std.specs.Ordering.{eq_by_cmp}
 use Rattle.birchagain_partitions.specs.BestOverIndexes.{listed}
@@ -11,14 +11,16 @@ use Rattle.qm_postings.specs.Blocks.{Block, looked_at, term_blocks}
 use Rattle.qm_postings.specs.Document.{Draft}
 use Rattle.qm_postings.specs.Segment.{Segment, holds, postings_of}
 use Rattle.qm_postings.specs.Statistics.{Searched}
+use Rattle.qm_postings.specs.contracts.searcher.SearcherBm25StatisticsProvider.TheImpl.{ghosts}
 use Rattle.qm_postings.specs.declared.address.DocAddress.{DocAddress}
 use Rattle.qm_postings.specs.declared.statistics.Bm25StatisticsProvider.{Ghosts}
 use Rattle.qm_query.specs.Query.{Query}
 use Rattle.qm_query.specs.QueryTree.{query_tree}
-use Rattle.qm_query.specs.Searches.{count_in, with_scores}
+use Rattle.qm_query.specs.Searches.{IsCountOf, count_in, with_scores}
 use Rattle.qm_query.specs.TopDocs.{StandsBefore, score_first}
 use Rattle.qm_schema.specs.Term.{TermKey, term_cmp}
 use Rattle.qm_schema.specs.declared.schema.option.IndexRecordOption.TheVariants.{WithFreqs}
+use Rattle.qm_script.specs.Asked.{asked}
 use Rattle.qm_script.specs.Script as language
 use Rattle.qm_script.specs.Searching.{AreBestIn}
 use Rattle.qm_script.specs.declared.searching.Hit.{Hit}
@@ -75,3 +77,9 @@ pub record HasBestIn (q : language.Query) (s : Indexed) (words : Searched) (befo
   pub best : AreBestIn q s words (length before) (listed hits)
   pub counted : length hits ≡ count
   pub front : after ≡ hits ++ drop count before
+
+-- So many documents of all segments of a searcher match a query that is spelled so, and were not deleted.
+pub record IsCountOfSpelled (q : language.Query) (searcher : Searched) (count : ℕ) : Type 0 where
+  pub query : Query
+  pub built : asked q ≡ Ok query
+  pub counted : IsCountOf ghosts searcher query count

@@ -17,7 +17,7 @@ use Rattle.qm_schema.specs.Refusals.{refusal_number}
 use Rattle.qm_schema.specs.declared.error.QueryError.{QueryError}
 use Rattle.qm_schema.specs.declared.error.QueryError.TheVariants.{Memory}
 use Rattle.qm_script.specs.AllSegments.{all_listed}
-use Rattle.qm_script.specs.Answers.{AnswersQuery, IsLineRefusal, IsListingAnswer}
+use Rattle.qm_script.specs.Answers.{AnswersQuery, IsAskedUnder, IsLineRefusal, IsListingAnswer}
 use Rattle.qm_script.specs.Asked.{Builds, asked}
 use Rattle.qm_script.specs.BestListed.{alive_listed_from, scored_item}
 use Rattle.qm_script.specs.Counts.{alive_count}
@@ -35,6 +35,8 @@ use Rattle.qm_script.specs.Text.{IsListing, listing_text}
 use Rattle.qm_script.specs.Under.{IsForDocuments, IsForScores, IsScoreRefusal, tree_of}
 use Rattle.qm_script.specs.declared.answer.Answer.{Answer}
 use Rattle.qm_script.specs.declared.answer.Answer.TheVariants.{Refused}
+use Rattle.qm_script.specs.declared.question.Question.{Question}
+use Rattle.qm_script.specs.declared.question.Question.TheVariants.{Documents, Scores, Count, Above, Best}
 use Rattle.qm_weight.specs.Best.{best}
 use Rattle.qm_weight.specs.Tree.{Tree}
 use Rattle.qm_script.proofs.AskedNames.{all-named}
@@ -49,22 +51,30 @@ use Rattle.qm_script.proofs.PrunedParts.{pruned-segments}
 abbrev lent : {X : Type 0} → X → Bor X
 lent x = record { ref_ptr = (0, 0); now = x }
 
--- what a refused line would have been asked under
-abbrev pub for_documents : Script → EnableScoring Searched
+-- documents alone, of nothing that is searched
+abbrev for_documents : Script → EnableScoring Searched
 for_documents s = Disabled (lent s.current.schema) None
 
-pub IsForDocuments-refused : (s : Script) → IsForDocuments s (for_documents s)
+IsForDocuments-refused : (s : Script) → IsForDocuments s (for_documents s)
 IsForDocuments-refused s = record { fields = refl; scores = refl }
 
-abbrev pub nothing_searched : State → Searched
+abbrev nothing_searched : State → Searched
 nothing_searched s =
     record { schema = s.documents.current.schema; segments = []; weights = s.weights; default_weight = ungiven_weight; norms = range_with_len 0 256 }
 
-abbrev pub for_scores : State → EnableScoring Searched
+abbrev for_scores : State → EnableScoring Searched
 for_scores s = Enabled (lent (nothing_searched s)) (lent (nothing_searched s))
 
-pub IsForScores-refused : (s : State) → IsForScores s (nothing_searched s) (for_scores s)
+IsForScores-refused : (s : State) → IsForScores s (nothing_searched s) (for_scores s)
 IsForScores-refused s = record { fields = refl; scores = refl; weights = record { given = λ q. refl; others = refl; norms = refl } }
+
+-- what a refused line would have been asked under
+pub refused-under : (question : Question) (s : State) → (enable : EnableScoring Searched) × IsAskedUnder question s enable
+refused-under Documents s = (for_documents s.documents, IsForDocuments-refused s.documents)
+refused-under Count s = (for_documents s.documents, IsForDocuments-refused s.documents)
+refused-under Scores s = (for_scores s, (nothing_searched s, IsForScores-refused s))
+refused-under (Above threshold) s = (for_scores s, (nothing_searched s, IsForScores-refused s))
+refused-under (Best count) s = (for_scores s, (nothing_searched s, IsForScores-refused s))
 
 -- a line that lists something of a query, by what is to fit of it
 module _ (text_of : Query → List ℕ) (Fits : Query → Type 0) (q : language.Query) (text : List ℕ) where
@@ -88,12 +98,16 @@ module _ (text_of : Query → List ℕ) (Fits : Query → Type 0) (q : language.
     text-answer (Err e) answer written within refused is =
         subst (λ a. AnswersQuery text_of Fits q a text) (sym is) (e, refl, line-refusal e refused)
 
-    -- the same of a listing
-    pub listing-answer : (items : List (ℕ × Option ℤ)) (r : Result (Unit {0}) QueryError) (answer : Answer) →
-        listing_text items ≡ text_of query → OnOk r (IsListing items text) → OnOk r (Fits query) → IfErr r Refusal →
-        IsListingAnswer r answer → AnswersQuery text_of Fits q answer text
-    listing-answer items (Ok done) answer same lists within refused is = text-answer (Ok done) answer (lists.listed ∙ same) within refused is
-    listing-answer items (Err e) answer same lists within refused is = text-answer (Err e) answer tt tt refused is
+-- a listing's text
+pub listing-written : (items : List (ℕ × Option ℤ)) (text wanted : List ℕ) (r : Result (Unit {0}) QueryError) →
+    listing_text items ≡ wanted → OnOk r (IsListing items text) → OnOk r (text ≡ wanted)
+listing-written items text wanted (Ok done) same lists = lists.listed ∙ same
+listing-written items text wanted (Err e) same lists = tt
+
+-- why it was refused
+pub refused-as : {P Q : QueryError → Type 0} (r : Result (Unit {0}) QueryError) → ((e : QueryError) → P e → Q e) → IfErr r P → IfErr r Q
+refused-as (Ok done) weaker is = tt
+refused-as (Err e) weaker is = weaker e is
 
 -- what is written behind nothing
 pub behind_nothing : (text more : List ℕ) → length text ≡ 0 → text ++ more ≡ more

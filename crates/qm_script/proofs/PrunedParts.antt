@@ -31,13 +31,12 @@ above threshold score less = grind (arith, ints)
 not_above : (threshold score : ℤ) → score ≤ℤ threshold → int_lt threshold score ≡ false
 not_above threshold score low = grind (arith, ints)
 
--- what was called for so far has one pair more, and what is to come is above its score
-pub rising-called : (threshold score : ℤ) (d : ℕ) (found : List (ℕ × ℤ)) (left : List (ℕ × Option ℤ)) → threshold <ℤ score →
-    map pair_item (found ++ (d, score) ∷ []) ++ rising score left ≡ map pair_item found ++ rising threshold ((d, Some score) ∷ left)
+-- what was called for so far has one item more, and what is to come is above its score
+pub rising-called : (threshold score : ℤ) (d : ℕ) (found left : List (ℕ × Option ℤ)) → threshold <ℤ score →
+    (found ++ (d, Some score) ∷ []) ++ rising score left ≡ found ++ rising threshold ((d, Some score) ∷ left)
 rising-called threshold score d found left less =
-    ap (λ l. l ++ rising score left) (map-append pair_item found ((d, score) ∷ []))
-    ∙ append_assoc (map pair_item found) ((d, Some score) ∷ []) (rising score left)
-    ∙ ap (λ b. map pair_item found ++ (if b then (d, Some score) ∷ rising score left else rising threshold left)) (sym (above threshold score less))
+    append_assoc found ((d, Some score) ∷ []) (rising score left)
+    ∙ ap (λ b. found ++ (if b then (d, Some score) ∷ rising score left else rising threshold left)) (sym (above threshold score less))
 
 -- it is passed over
 pub rising-passed : (threshold score : ℤ) (d : ℕ) (left : List (ℕ × Option ℤ)) →
@@ -64,12 +63,6 @@ pub entries-listed : (tree : Tree) (first : ℕ) (s : Segment) → numbered firs
 entries-listed tree first s =
     ap (numbered first) (map-map entry_item (λ d. scored d (score tree 1 s d)) (matching tree s))
     ∙ map-map (λ (i : ℕ × Option ℤ). (first + i.0, i.1)) (λ d. let i : ℕ × Option ℤ = (d, Some (pos (score tree 1 s d))) in i) (matching tree s)
-
--- what a run called for in a segment, numbered over all of them
-pub run-listed : (threshold : ℤ) (tree : Tree) (first : ℕ) (s : Segment) (found : List (ℕ × ℤ)) →
-    map pair_item found ≡ rising threshold (map entry_item (list tree 1 s)) → numbered first (map pair_item found) ≡ rising threshold (listed true tree first s)
-run-listed threshold tree first s found is =
-    ap (numbered first) is ∙ numbered-rising first threshold (map entry_item (list tree 1 s)) ∙ ap (rising threshold) (entries-listed tree first s)
 
 -- ---- a loop over segments: one more
 
@@ -98,37 +91,11 @@ module _ (threshold : ℤ) (tree : Tree) (readers : List Reader) (i : ℕ)
 
 -- ---- the threshold behind a run
 
-after-numbered : (first : ℕ) (threshold : ℤ) (items : List (ℕ × Option ℤ)) → threshold_after threshold (numbered first items) ≡ threshold_after threshold items
-after-numbered first threshold [] = refl
-after-numbered first threshold ((n, None) ∷ items) = after-numbered first threshold items
-after-numbered first threshold ((n, Some score) ∷ items) = after-numbered first score items
-
-after-last : (threshold score : ℤ) (d : ℕ) (found : List (ℕ × ℤ)) (k : ℕ) → length found ≡ k + 1 →
-    slice_get found k ≡ Some (d, score) → threshold_after threshold (map pair_item found) ≡ score
-after-last threshold score d [] k number is = absurd (omega (arith, number))
-after-last threshold score d (p ∷ []) zero number is = ap (λ o. (unwrap_or o p).1) is
-after-last threshold score d (p ∷ []) (suc k) number is = absurd (omega (arith, number))
-after-last threshold score d (p ∷ q ∷ found) zero number is = absurd (omega (arith, number))
-after-last threshold score d (p ∷ q ∷ found) (suc k) number is = after-last p.1 score d (q ∷ found) k (omega (arith, number)) is
-
-none-found : (found : List (ℕ × ℤ)) → slice_get found (length found - 1) ≡ None → found ≡ []
-none-found [] is = refl
-none-found (p ∷ found) is =
-    let within : length (p ∷ found) - 1 < length (p ∷ found) = omega arith in
-    absurd (none-some _ (sym is ∙ slice_get-get_or (p ∷ found) (length (p ∷ found) - 1) p within))
-
-module _ (first : ℕ) (threshold : ℤ) (found : List (ℕ × ℤ)) (all : List (ℕ × Option ℤ)) (is : numbered first (map pair_item found) ≡ all) where
-  -- the score of the last one that was called for
-  pub threshold-last : (d : ℕ) (score : ℤ) → slice_get found (length found - 1) ≡ Some (d, score) → score ≡ threshold_after threshold all
-  threshold-last d score last =
-      let within = slice_get_within found (length found - 1) (d, score) last in
-      sym (after-last threshold score d found (length found - 1) (omega (arith, within)) last)
-      ∙ sym (after-numbered first threshold (map pair_item found)) ∙ ap (threshold_after threshold) is
-
-  -- none was called for
-  pub threshold-kept : slice_get found (length found - 1) ≡ None → threshold ≡ threshold_after threshold all
-  threshold-kept none = ap (λ ps. threshold_after threshold (numbered first (map pair_item ps))) (sym (none-found found none))
-      ∙ ap (threshold_after threshold) is
+-- the score of the last item
+pub after-called : (threshold score : ℤ) (n : ℕ) (items : List (ℕ × Option ℤ)) → threshold_after threshold (items ++ (n, Some score) ∷ []) ≡ score
+after-called threshold score n [] = refl
+after-called threshold score n ((m, None) ∷ items) = after-called threshold score n items
+after-called threshold score n ((m, Some s) ∷ items) = after-called s score n items
 
 -- ---- the open segment in parts
 

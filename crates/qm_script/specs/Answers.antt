@@ -1,5 +1,5 @@
 -- What the program answers to a line, what it leaves, and the text of each answer.
-use Rattle.std.specs.Prelude.{◌≡◌, ℕ, true, false, ◌⊎◌, ℤ, Option, None, Some, Result, Ok, Err, List, [], ◌∷◌, ◌++◌, codes, length, nat_abs, string_bytes}
+use Rattle.std.specs.Prelude.{◌≡◌, ℕ, true, false, ◌⊎◌, ℤ, Option, None, Some, Result, Ok, Err, List, [], ◌∷◌, ◌++◌, codes, IfErr, OnOk, length, nat_abs, string_bytes}
 use Rattle.std.specs.Fmt.{decimal}
 use Rattle.qm_postings.specs.Statistics.{Searched}
 use Rattle.qm_query.specs.Query.{Query}
@@ -21,8 +21,9 @@ use Rattle.qm_script.specs.declared.answer.Answer.{Answer}
 use Rattle.qm_script.specs.declared.answer.Answer.TheVariants.{Silence, Listing, Refused, NotUnderstood}
 use Rattle.qm_script.specs.ProgramNumbers.{most_segments}
 use Rattle.qm_script.specs.declared.parse.Command.{Command}
-use Rattle.qm_script.specs.declared.parse.Command.TheVariants.{Nothing, AddDocument, SetWeight, EndSegment, DeleteDocument, ListDocuments, ListScores}
-use Rattle.qm_script.specs.declared.parse.Command.TheVariants.{CountMatches, ListAbove, ListBest}
+use Rattle.qm_script.specs.declared.parse.Command.TheVariants.{Nothing, AddDocument, SetWeight, EndSegment, DeleteDocument, Ask}
+use Rattle.qm_script.specs.declared.question.Question.{Question}
+use Rattle.qm_script.specs.declared.question.Question.TheVariants.{Documents, Scores, Count, Above, Best}
 
 -- a refusal of this number that is due
 abbrev pub IsRefusedBy : (QueryError → Type 0) → ℕ → Type 0
@@ -90,33 +91,38 @@ pruned_text threshold enable s query = listing_text (found_above threshold enabl
 abbrev pub best_text : ℕ → EnableScoring Searched → Script → Query → List ℕ
 best_text count enable s query = listing_text (found_best count enable query (all_segments s))
 
--- a line that lists documents alone
-abbrev pub ListsDocuments : language.Query → Script → Answer → List ℕ → Type 0
-ListsDocuments q s answer text =
-    (enable : EnableScoring Searched) × IsForDocuments s enable × AnswersQuery (listed_text enable s) (IsWithinScores enable) q answer text
+-- what is made of a query, by what is asked of it
+abbrev pub asked_text : Question → EnableScoring Searched → Script → Query → List ℕ
+asked_text Documents enable s query = listed_text enable s query
+asked_text Scores enable s query = listed_text enable s query
+asked_text Count enable s query = count_text enable s query
+asked_text (Above threshold) enable s query = pruned_text threshold enable s query
+asked_text (Best count) enable s query = best_text count enable s query
 
--- a line that counts them
-abbrev pub CountsMatches : language.Query → Script → Answer → List ℕ → Type 0
-CountsMatches q s answer text =
-    (enable : EnableScoring Searched) × IsForDocuments s enable × AnswersQuery (count_text enable s) (IsWithinScores enable) q answer text
+-- what has to fit: where none of the best is wanted, only that what its leaves weigh is a score
+abbrev pub FitsAsked : Question → EnableScoring Searched → Query → Type 0
+FitsAsked (Best count) enable query = IsWithinBest count enable query
+FitsAsked question enable query = IsWithinScores enable query
 
--- a line that lists documents with scores, by what the script says that words weigh
-abbrev pub ListsScores : language.Query → State → Answer → List ℕ → Type 0
-ListsScores q s answer text =
-    (searched : Searched) × (enable : EnableScoring Searched) × IsForScores s searched enable ×
-    AnswersQuery (listed_text enable s.documents) (IsWithinScores enable) q answer text
+-- what it is asked under: what scores are, by what the script says that words weigh
+abbrev pub IsAskedUnder : Question → State → EnableScoring Searched → Type 0
+IsAskedUnder Documents s enable = IsForDocuments s.documents enable
+IsAskedUnder Count s enable = IsForDocuments s.documents enable
+IsAskedUnder question s enable = (searched : Searched) × IsForScores s searched enable
 
--- a line that lists those of them for which a pruned run calls
-abbrev pub ListsAbove : ℤ → language.Query → State → Answer → List ℕ → Type 0
-ListsAbove threshold q s answer text =
-    (searched : Searched) × (enable : EnableScoring Searched) × IsForScores s searched enable ×
-    AnswersQuery (pruned_text threshold enable s.documents) (IsWithinScores enable) q answer text
+-- a line that asks this of a query
+abbrev pub AnswersQuestion : Question → language.Query → State → Answer → List ℕ → Type 0
+AnswersQuestion question q s answer text =
+    (enable : EnableScoring Searched) × IsAskedUnder question s enable ×
+    AnswersQuery (asked_text question enable s.documents) (FitsAsked question enable) q answer text
 
--- a line that lists the best of them; where none is wanted only what its leaves weigh has to be a score
-abbrev pub ListsBest : ℕ → language.Query → State → Answer → List ℕ → Type 0
-ListsBest count q s answer text =
-    (searched : Searched) × (enable : EnableScoring Searched) × IsForScores s searched enable ×
-    AnswersQuery (best_text count enable s.documents) (IsWithinBest count enable) q answer text
+-- What was asked of a query is written, or refused.
+pub record WritesAsked (question : Question) (query : Query) (s : State) (result : Result (Unit {0}) QueryError) (text : List ℕ) : Type 0 where
+  pub enable : EnableScoring Searched
+  pub under : IsAskedUnder question s enable
+  pub written : OnOk result (text ≡ asked_text question enable s.documents query)
+  pub within : OnOk result (FitsAsked question enable query)
+  pub refused : IfErr result (λ e. (e ≡ Memory) ⊎ IsScoreRefusal (FitsAsked question enable) query e)
 
 -- what is answered where a change of the documents or the weights came to this
 abbrev pub IsChangeAnswer : Result (Unit {0}) QueryError → Answer → Type 0
@@ -136,12 +142,8 @@ Step s (Some Nothing) answer text t = (answer ≡ Silence) × (t ≡ s)
 Step s (Some (AddDocument words)) answer text t = AddsDocument (string_bytes words) s answer t
 Step s (Some (SetWeight word weight)) answer text t = (answer ≡ Silence) × (t ≡ with_weight s (string_bytes word) (nat_abs weight.score))
 Step s (Some EndSegment) answer text t = EndsSegment s answer t
-Step s (Some (ListDocuments q)) answer text t = ListsDocuments (query_of q) s.documents answer text × (t ≡ s)
-Step s (Some (ListScores q)) answer text t = ListsScores (query_of q) s answer text × (t ≡ s)
 Step s (Some (DeleteDocument number)) answer text t = DeletesDocument number s answer t
-Step s (Some (CountMatches q)) answer text t = CountsMatches (query_of q) s.documents answer text × (t ≡ s)
-Step s (Some (ListAbove threshold q)) answer text t = ListsAbove threshold (query_of q) s answer text × (t ≡ s)
-Step s (Some (ListBest count q)) answer text t = ListsBest count (query_of q) s answer text × (t ≡ s)
+Step s (Some (Ask question q)) answer text t = AnswersQuestion question (query_of q) s answer text × (t ≡ s)
 
 -- the exit status of a script in which no other line is answered worse than this
 abbrev pub status_of : Answer → ℕ

@@ -3,8 +3,8 @@ use Rattle.qm_script.specs.Script.{Request, nothing, add_document, set_weight, e
 use Rattle.qm_script.specs.Script.{list_above, list_best}
 use Rattle.qm_script.specs.Spelled.{query_of}
 use Rattle.qm_script.specs.declared.parse.Command.{Command}
-use Rattle.qm_script.specs.declared.parse.Command.TheVariants.{Nothing, AddDocument, SetWeight, EndSegment, DeleteDocument, ListDocuments, ListScores}
-use Rattle.qm_script.specs.declared.parse.Command.TheVariants.{CountMatches, ListAbove, ListBest}
+use Rattle.qm_script.specs.declared.parse.Command.TheVariants.{Nothing, AddDocument, SetWeight, EndSegment, DeleteDocument, Ask}
+use Rattle.qm_script.specs.declared.question.Question.TheVariants.{Documents, Scores, Count, Above, Best}
 use Rattle.std.specs.Prelude.{string_bytes}
 use Rattle.qm_postings.specs.Document.{words_of}
 
@@ -14,8 +14,8 @@ request_of (AddDocument words) = add_document (words_of (string_bytes words))
 request_of (SetWeight word weight) = set_weight (string_bytes word) weight.score
 request_of EndSegment = end_segment
 request_of (DeleteDocument number) = delete_document number
-request_of (ListDocuments q) = list_documents (query_of q)
-request_of (ListScores q) = list_scores (query_of q)
-request_of (CountMatches q) = count_matches (query_of q)
-request_of (ListAbove threshold q) = list_above threshold (query_of q)
-request_of (ListBest count q) = list_best count (query_of q)
+request_of (Ask Documents q) = list_documents (query_of q)
+request_of (Ask Scores q) = list_scores (query_of q)
+request_of (Ask Count q) = count_matches (query_of q)
+request_of (Ask (Above threshold) q) = list_above threshold (query_of q)
+request_of (Ask (Best count) q) = list_best count (query_of q)

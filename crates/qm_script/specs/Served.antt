@@ -1,8 +1,10 @@
 -- What serves a query: the segments of a script as they are, or narrowed for it.
-use Rattle.std.specs.Prelude.{◌≡◌, ◌⊎◌, List, Option, None, Some, false}
+use Rattle.std.specs.Prelude.{◌≡◌, ◌⊎◌, List, Ok, Option, None, Some, false}
 use Rattle.qm_index.specs.Indexed.{AreMerged, AreSearched}
 use Rattle.qm_postings.specs.Reading.{Reader}
 use Rattle.qm_postings.specs.Statistics.{Searched}
+use Rattle.qm_query.specs.Query as built
+use Rattle.qm_script.specs.Asked.{asked}
 use Rattle.qm_script.specs.Narrowed.{AreNarrowed}
 use Rattle.qm_script.specs.Prefixes.{has_failing}
 use Rattle.qm_script.specs.Reached.{is_reached}
@@ -31,3 +33,9 @@ pub record IsNarrowedFor (q : Query) (c : Corpus) (searcher : Searched) : Type 0
 abbrev pub IsServed : Query → Corpus → Option Searched → Type 0
 IsServed q c None = IsWhole c ⊎ IsReachedBy q c
 IsServed q c (Some searcher) = IsNarrowedFor q c searcher
+
+-- a query that is spelled so is built, and served
+pub record ServesQuery (query : built.Query) (c : Corpus) (narrowed : Option Searched) : Type 0 where
+  pub spelled : Query
+  pub is_built : asked spelled ≡ Ok query
+  pub served : IsServed spelled c narrowed

@@ -1,21 +1,24 @@
 //! What the program answers to a line.
 
 ghost use Rattle.std.specs.Prelude.{◌≡◌, IfOk, OnOk, length, string_bytes};
-ghost use Rattle.qm_script.specs.Answers.{CountsMatches, DeletesDocument, IsChangeAnswer, IsListingAnswer, ListsAbove, ListsBest, ListsDocuments};
-ghost use Rattle.qm_script.specs.Answers.{ListsScores, Step, answer_text, status_of};
+ghost use Rattle.qm_query.specs.Query.{query_of as built_query};
+ghost use Rattle.qm_script.specs.Answers.{AnswersQuestion, DeletesDocument, IsChangeAnswer, IsListingAnswer, Step, WritesAsked, answer_text, status_of};
+ghost use Rattle.qm_script.specs.ScriptSegments.{IsBuilt};
+ghost use Rattle.qm_script.specs.Served.{ServesQuery};
 ghost use Rattle.qm_script.specs.Spelled.{query_of};
 ghost use Rattle.qm_script.specs.State.{state};
 
 use crate::best::write_best;
-use crate::build_query::build_query;
 use crate::corpus::Corpus;
 use crate::counting::write_count;
-use crate::listing::write_matches;
+use crate::matching::write_matches;
 use crate::parse::Command;
 use crate::pruning::write_pruned;
+use crate::query_builder::build_query;
+use crate::question::Question;
 use crate::spelled_query::SpelledQuery;
-use qm_docset::Score;
-use qm_query::EnableScoring;
+use qm_postings::Searcher;
+use qm_query::{AnyQuery, EnableScoring};
 use qm_schema::QueryError;
 use std::alloc::{AllocError, Global};
 
@@ -91,14 +94,8 @@ pub(crate) fn answer_command(
             weight,
         )),
         Some(Command::EndSegment) => answer_change(corpus.end_segment(alloc)),
-        Some(Command::ListDocuments(query)) => list_documents(alloc, corpus, &query, text),
-        Some(Command::ListScores(query)) => list_scores(alloc, corpus, &query, text),
         Some(Command::DeleteDocument(number)) => answer_deletion(alloc, corpus, number),
-        Some(Command::CountMatches(query)) => count_matches(alloc, corpus, &query, text),
-        Some(Command::ListAbove(threshold, query)) => list_above(
-            alloc, corpus, threshold, &query, text,
-        ),
-        Some(Command::ListBest(count, query)) => list_best(alloc, corpus, count, &query, text),
+        Some(Command::Ask(question, query)) => answer_query(alloc, corpus, question, &query, text),
     }
 }
 
@@ -126,134 +123,62 @@ fn answer_change(changed: Result<(), QueryError>) -> Result<Answer, AllocError>
     }
 }
 
-// Answers a line that lists documents alone.
+// Answers a line that asks something of a query.
 #[tactic(auto, using(crate::proofs::States::is_state))]
-fn list_documents(
+fn answer_query(
     alloc: Global,
     corpus: &mut Corpus,
+    question: Question,
     spelled: &SpelledQuery,
     text: &mut String,
 ) -> Result<Answer, AllocError>
     requires { length (string_bytes text.old) ≡ 0 }
-    ensures answer { IfOk result (λ answer. ListsDocuments (query_of spelled.now) (state corpus.old).documents answer (string_bytes text.new)) }
+    ensures answer { IfOk result (λ answer. AnswersQuestion question (query_of spelled.now) (state corpus.old) answer (string_bytes text.new)) }
     ensures unchanged { OnOk result (state corpus.new ≡ state corpus.old) }
 {
     match build_query(alloc, spelled) {
         Ok(query) => {
             let narrowed = corpus.build_segments(alloc, spelled)?;
-            let searcher = corpus.searcher();
-            let searched = corpus.searched(&narrowed);
+            let written = write_asked(alloc, corpus, &narrowed, question, &query, text);
+            Ok(answer_listing(written))
+        }
+        Err(error) => Ok(Answer::Refused(error.number())),
+    }
+}
+
+// Writes what is asked of a query, over the segments that serve it.
+fn write_asked(
+    alloc: Global,
+    corpus: &Corpus,
+    narrowed: &Option<Searcher>,
+    question: Question,
+    query: &AnyQuery,
+    text: &mut String,
+) -> Result<(), QueryError>
+    requires built { IsBuilt corpus.now }
+    requires served { ServesQuery (built_query query.now) corpus.now narrowed.now }
+    requires empty { length (string_bytes text.old) ≡ 0 }
+    ensures { WritesAsked question (built_query query.now) (state corpus.now) result (string_bytes text.new) }
+{
+    let searcher = corpus.searcher();
+    let searched = corpus.searched(narrowed);
+    let segments = searched.segment_readers();
+    match question {
+        Question::Documents => {
             let enable = EnableScoring::disabled_from_searcher(searcher);
-            let written = write_matches(alloc, searched.segment_readers(), enable, &query, text);
-            Ok(answer_listing(written))
+            write_matches(alloc, segments, enable, query, text)
         }
-        Err(error) => Ok(Answer::Refused(error.number())),
-    }
-}
-
-// Answers a line that counts documents which weren't deleted.
-#[tactic(auto, using(crate::proofs::States::is_state))]
-fn count_matches(
-    alloc: Global,
-    corpus: &mut Corpus,
-    spelled: &SpelledQuery,
-    text: &mut String,
-) -> Result<Answer, AllocError>
-    requires { length (string_bytes text.old) ≡ 0 }
-    ensures answer { IfOk result (λ answer. CountsMatches (query_of spelled.now) (state corpus.old).documents answer (string_bytes text.new)) }
-    ensures unchanged { OnOk result (state corpus.new ≡ state corpus.old) }
-{
-    match build_query(alloc, spelled) {
-        Ok(query) => {
-            let narrowed = corpus.build_segments(alloc, spelled)?;
-            let searched = corpus.searched(&narrowed);
-            let written = write_count(alloc, searched, &query, text);
-            Ok(answer_listing(written))
-        }
-        Err(error) => Ok(Answer::Refused(error.number())),
-    }
-}
-
-// Answers a line that lists documents with scores.
-#[tactic(auto, using(crate::proofs::States::is_state))]
-fn list_scores(
-    alloc: Global,
-    corpus: &mut Corpus,
-    spelled: &SpelledQuery,
-    text: &mut String,
-) -> Result<Answer, AllocError>
-    requires { length (string_bytes text.old) ≡ 0 }
-    ensures answer { IfOk result (λ answer. ListsScores (query_of spelled.now) (state corpus.old) answer (string_bytes text.new)) }
-    ensures unchanged { OnOk result (state corpus.new ≡ state corpus.old) }
-{
-    match build_query(alloc, spelled) {
-        Ok(query) => {
-            let narrowed = corpus.build_segments(alloc, spelled)?;
-            let searcher = corpus.searcher();
-            let searched = corpus.searched(&narrowed);
+        Question::Scores => {
             let enable = EnableScoring::enabled_from_searcher(searcher);
-            let written = write_matches(alloc, searched.segment_readers(), enable, &query, text);
-            Ok(answer_listing(written))
+            write_matches(alloc, segments, enable, query, text)
         }
-        Err(error) => Ok(Answer::Refused(error.number())),
-    }
-}
-
-// Answers a line that lists those of them for which a pruned run calls.
-#[tactic(auto, using(crate::proofs::States::is_state))]
-fn list_above(
-    alloc: Global,
-    corpus: &mut Corpus,
-    threshold: Score,
-    spelled: &SpelledQuery,
-    text: &mut String,
-) -> Result<Answer, AllocError>
-    requires { length (string_bytes text.old) ≡ 0 }
-    ensures answer { IfOk result (λ answer. ListsAbove threshold (query_of spelled.now) (state corpus.old) answer (string_bytes text.new)) }
-    ensures unchanged { OnOk result (state corpus.new ≡ state corpus.old) }
-{
-    match build_query(alloc, spelled) {
-        Ok(query) => {
-            let narrowed = corpus.build_segments(alloc, spelled)?;
-            let searcher = corpus.searcher();
-            let searched = corpus.searched(&narrowed);
-            let written = write_pruned(
-                alloc,
-                searched.segment_readers(),
-                corpus.ended(),
-                EnableScoring::enabled_from_searcher(searcher),
-                &query,
-                threshold,
-                text,
-            );
-            Ok(answer_listing(written))
+        Question::Count => write_count(alloc, searched, query, text),
+        Question::Above(threshold) => {
+            let enable = EnableScoring::enabled_from_searcher(searcher);
+            let ended = corpus.ended();
+            write_pruned(alloc, segments, ended, enable, query, threshold, text)
         }
-        Err(error) => Ok(Answer::Refused(error.number())),
-    }
-}
-
-// Answers a line that lists the best of them.
-#[tactic(auto, using(crate::proofs::States::is_state))]
-fn list_best(
-    alloc: Global,
-    corpus: &mut Corpus,
-    count: u32,
-    spelled: &SpelledQuery,
-    text: &mut String,
-) -> Result<Answer, AllocError>
-    requires { length (string_bytes text.old) ≡ 0 }
-    ensures answer { IfOk result (λ answer. ListsBest count (query_of spelled.now) (state corpus.old) answer (string_bytes text.new)) }
-    ensures unchanged { OnOk result (state corpus.new ≡ state corpus.old) }
-{
-    match build_query(alloc, spelled) {
-        Ok(query) => {
-            let narrowed = corpus.build_segments(alloc, spelled)?;
-            let searcher = corpus.searcher();
-            let searched = corpus.searched(&narrowed);
-            let written = write_best(alloc, searched, searcher, &query, count, text);
-            Ok(answer_listing(written))
-        }
-        Err(error) => Ok(Answer::Refused(error.number())),
+        Question::Best(count) => write_best(alloc, searched, searcher, query, count, text),
     }
 }
 

@@ -11,14 +11,14 @@ ghost use Rattle.qm_script.specs.Parts.{document_count};
 ghost use Rattle.qm_script.specs.ProgramNumbers.{most_segments};
 ghost use Rattle.qm_script.specs.Text.{WritesListing};
 ghost use Rattle.qm_script.specs.Under.{IsBestRefusal, IsWithinBest};
-ghost use Rattle.qm_script.specs.Written.{AddsToListing};
+ghost use Rattle.qm_script.specs.Written.{ListsMore};
 
-use crate::item_writer::ItemWriter;
+use crate::listing::Listing;
 use qm_docset::Score;
 use qm_postings::{DocAddress, Searcher, SegmentReader};
 use qm_query::{AnyQuery, TopDocs};
 use qm_schema::QueryError;
-use std::alloc::{AllocError, Global};
+use std::alloc::Global;
 
 /// Writes the best documents of the searcher's segments that the query matches and that weren't deleted,
 /// at most so many, joined by one space and numbered over all segments; each with its score, by what another searcher says
@@ -42,9 +42,9 @@ pub(crate) fn write_best(
     let best = TopDocs::with_limit(count as usize);
     let found = best.search_counted(alloc, query, searcher, weights)?;
     let firsts = first_numbers(alloc, searcher.segment_readers())?;
-    let mut writer = ItemWriter::new(alloc, text);
-    write_found(&mut writer, firsts.as_slice(), found.documents.as_slice())?;
-    writer.finish(text)
+    let mut listing = Listing::new(alloc, text);
+    list_found(&mut listing, firsts.as_slice(), found.documents.as_slice());
+    listing.finish(text)
 }
 
 /// The number of each segment's first document.
@@ -67,19 +67,15 @@ pub(crate) fn first_numbers(
     Ok(firsts)
 }
 
-// Writes each with its number, by those of the segments' first documents.
-fn write_found(
-    writer: &mut ItemWriter,
-    firsts: &[u64],
-    found: &[(Score, DocAddress)],
-) -> Result<(), AllocError>
+// Lists each by its number, by those of the segments' first documents.
+fn list_found(listing: &mut Listing, firsts: &[u64], found: &[(Score, DocAddress)])
     requires there { All (λ f. f.1.segment_ord < length firsts.now) found.now }
     requires few { All (λ n. n ≤ most_segments * TERMINATED) firsts.now }
-    ensures { AddsToListing result (map (found_item firsts.now) found.now) writer.old writer.new }
+    ensures { ListsMore (map (found_item firsts.now) found.now) listing.old listing.new }
 {
+    // those before this one are listed
     for (score, address) in found {
-        let first = firsts[address.segment_ord as usize];
-        writer.write_score(first + u64::from(address.doc_id), *score)?;
+        listing.begin_segment(firsts[address.segment_ord as usize]);
+        listing.add_score(address.doc_id, *score);
     }
-    Ok(())
 }

@@ -15,7 +15,7 @@ ghost use Rattle.qm_script.specs.ProgramNumbers.{most_segments, ungiven_weight};
 ghost use Rattle.qm_script.specs.TextSegments.{IsTextRefusal};
 ghost use Rattle.qm_script.specs.Weights.{IsWeighedBy};
 
-use crate::has_cut::has_cut;
+use crate::cut_prefixes::has_cut;
 use crate::narrowed::narrowed;
 use crate::non_negative_score::NonNegativeScore;
 use crate::spelled_query::SpelledQuery;

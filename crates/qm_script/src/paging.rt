@@ -14,7 +14,7 @@ ghost use Rattle.qm_script.specs.Searching.{IsPageIn};
 ghost use Rattle.qm_script.specs.Spelled.{query_of};
 ghost use Rattle.qm_weight.specs.Weights.{tree_of};
 
-use crate::build_query::build_query;
+use crate::query_builder::build_query;
 use crate::searching::make_ready;
 use crate::spelled_query::SpelledQuery;
 use qm_combine::EmptyScorer;

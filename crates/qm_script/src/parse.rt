@@ -10,11 +10,11 @@ ghost use Rattle.qm_script.specs.Spelling.{Spells};
 use crate::document_line::document_text;
 use crate::form::{LineForm, line_form};
 use crate::non_negative_score::NonNegativeScore;
+use crate::question::Question;
 use crate::read_query::read_query;
 use crate::spelled_query::{MAX_DEPTH, SpelledQuery};
 use crate::unparsed::Unparsed;
 use crate::words::{Words, cut_words};
-use qm_docset::Score;
 use std::alloc::Global;
 use std::str;
 
@@ -31,18 +31,8 @@ pub enum Command {
     EndSegment,
     /// To delete the document of this number over all segments.
     DeleteDocument(u64),
-    /// To list the documents that match.
-    ListDocuments(SpelledQuery),
-    /// To list the documents that match, each with its score.
-    ListScores(SpelledQuery),
-    /// To count the documents that match and weren't deleted.
-    CountMatches(SpelledQuery),
-    /// To list the documents that match and score more than all before them in their segment and than
-    /// the threshold, each with its score.
-    ListAbove(Score, SpelledQuery),
-    /// To list the best of the documents that match and weren't deleted, at most so many, each with its
-    /// score: by score downwards, then by number upwards.
-    ListBest(u32, SpelledQuery),
+    /// To answer what is asked of a query.
+    Ask(Question, SpelledQuery),
 }
 
 /// What a line asks for.
@@ -100,9 +90,9 @@ fn parse_behind_form(
             Ok(Command::EndSegment)
         }
         LineForm::Delete => parse_delete(words),
-        LineForm::Docs => Ok(Command::ListDocuments(parse_query(alloc, words)?)),
-        LineForm::Scores => Ok(Command::ListScores(parse_query(alloc, words)?)),
-        LineForm::Count => Ok(Command::CountMatches(parse_query(alloc, words)?)),
+        LineForm::Docs => Ok(Command::Ask(Question::Documents, parse_query(alloc, words)?)),
+        LineForm::Scores => Ok(Command::Ask(Question::Scores, parse_query(alloc, words)?)),
+        LineForm::Count => Ok(Command::Ask(Question::Count, parse_query(alloc, words)?)),
         LineForm::Prune => parse_prune(alloc, words),
         LineForm::Top => parse_top(alloc, words),
     }
@@ -133,7 +123,7 @@ fn parse_prune(alloc: Global, words: &mut Words<'_>) -> Result<Command, Unparsed
 {
     let threshold = words.threshold()?;
     let query = parse_query(alloc, words)?;
-    Ok(Command::ListAbove(threshold, query))
+    Ok(Command::Ask(Question::Above(threshold), query))
 }
 
 #[tactic(auto, unfolding(crate::specs::Script::top_at))]
@@ -142,7 +132,7 @@ fn parse_top(alloc: Global, words: &mut Words<'_>) -> Result<Command, Unparsed>
 {
     let count = words.count()?;
     let query = parse_query(alloc, words)?;
-    Ok(Command::ListBest(count, query))
+    Ok(Command::Ask(Question::Best(count), query))
 }
 
 /// The query that a text spells, all of it, where it is UTF-8.

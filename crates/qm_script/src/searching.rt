@@ -14,8 +14,8 @@ ghost use Rattle.qm_script.specs.Searching.{AreBestIn, IsCountIn, IsReadyFor};
 ghost use Rattle.qm_script.specs.Spelled.{query_of};
 
 use crate::best::first_numbers;
-use crate::build_query::build_query;
-use crate::has_cut::has_cut;
+use crate::cut_prefixes::has_cut;
+use crate::query_builder::build_query;
 use crate::spelled_query::SpelledQuery;
 use qm_docset::Score;
 use qm_index::Index;

@@ -4,15 +4,14 @@ use Rattle.qm_query.specs.Searches.{scoring_by}
 use Rattle.qm_query.specs.TopDocs.{alive_matches_from, score_first}
 use Rattle.qm_script.specs.BestListed.{best_listed, firsts_from, found_item}
 use Rattle.qm_index.specs.Parts.{segments_of}
-use Rattle.qm_script.specs.Text.{IsListing}
-use Rattle.qm_script.specs.Written.{HasListed}
+use Rattle.qm_script.specs.Written.{ListsSoFar}
 use Rattle.qm_script.specs.Under.{tree_of}
 use Rattle.qm_weight.specs.Best.{best}
 use Rattle.qm_script.proofs.BestListings.{best-there, found-listed}
 use Rattle.qm_script.proofs.best.write_best.Goals as goal
 
-pub write_found-requires-clause-there : goal.write_found-requires-clause-there
-write_found-requires-clause-there c =
+pub list_found-requires-clause-there : goal.list_found-requires-clause-there
+list_found-requires-clause-there c =
     let readers = c.args.searcher.now.segments in
     let tree = tree_of (scoring_by c.args.weights.now c.args.searcher.now) (query_of c.args.query.now) in
     let firsts = c.as_slice.ensures.value ∙ c.in_ok-firsts.ensures.numbers ∙ ap (λ rs. firsts_from 0 (segments_of rs)) c.segment_readers.ensures.segments in
@@ -32,7 +31,5 @@ returns-clause-listed c =
     let listed : map (found_item c.as_slice.result.now) c.as_slice-2.result.now ≡ best_listed c.args.count tree (segments_of readers) =
     ap (λ ns. map (found_item ns) c.as_slice-2.result.now) firsts ∙ ap (map (found_item (firsts_from 0 (segments_of readers)))) found
     ∙ found-listed tree c.args.count readers in
-    let written = c.in_ok-write_found.ensures [] c.new-writer.ensures in
-    let all : IsListing (best_listed c.args.count tree (segments_of readers)) (string_bytes c.finish.new.text) =
-    c.finish.ensures.listed _ (subst (λ l. HasListed l c.write_found.new.writer) listed written) in
-    search (rules, all)
+    let written = c.list_found.ensures [] c.new-listing.ensures in
+    c.finish.ensures.listed _ (subst (λ l. ListsSoFar l c.list_found.new.listing) listed written)

@@ -6,26 +6,26 @@ use Rattle.qm_query.specs.Query.{query_of}
 use Rattle.qm_index.specs.Parts.{segments_of}
 use Rattle.qm_script.specs.Parts.{document_count}
 use Rattle.qm_script.specs.Pruned.{all_pruned, parts_pruned}
-use Rattle.qm_script.specs.Written.{HasListed}
+use Rattle.qm_script.specs.Written.{ListsSoFar}
 use Rattle.qm_weight.specs.Tree.{is_scoring}
 use Rattle.qm_weight.specs.Weights.{tree_of}
 use Rattle.qm_script.proofs.PartLemmas.{count-split, count-taken}
 use Rattle.qm_script.proofs.PrunedParts.{rest-taken}
 use Rattle.qm_script.proofs.pruning.write_pruned.Goals as goal
 
-pub write_runs-requires-clause-few : goal.write_runs-requires-clause-few
-write_runs-requires-clause-few c = omega (arith, count-taken c.args.segments.now c.args.ended, c.requires.few)
+pub list_runs-requires-clause-few : goal.list_runs-requires-clause-few
+list_runs-requires-clause-few c = omega (arith, count-taken c.args.segments.now c.args.ended, c.requires.few)
 
-pub write_runs-requires-clause-scoring : goal.write_runs-requires-clause-scoring
-write_runs-requires-clause-scoring c = search (rules, c.in_ok-weight.ensures.scoring c.requires.scoring)
+pub list_runs-requires-clause-scoring : goal.list_runs-requires-clause-scoring
+list_runs-requires-clause-scoring c = search (rules, c.in_ok-weight.ensures.scoring c.requires.scoring)
 
-pub write_parts-requires-clause-few : goal.write_parts-requires-clause-few
-write_parts-requires-clause-few c =
+pub list_parts-requires-clause-few : goal.list_parts-requires-clause-few
+list_parts-requires-clause-few c =
     let rest = ap (λ rs. document_count (segments_of rs)) (rest-taken c.args.ended c.args.segments.now) in
     omega (arith, rest, count-split c.args.segments.now c.args.ended, c.in_ok-first.ensures.counted, c.requires.few)
 
-pub write_parts-requires-clause-scoring : goal.write_parts-requires-clause-scoring
-write_parts-requires-clause-scoring c =
+pub list_parts-requires-clause-scoring : goal.list_parts-requires-clause-scoring
+list_parts-requires-clause-scoring c =
     subst (λ w. IsTrue (is_scoring (tree_of w))) (sym c.deref-2.ensures) (c.in_ok-weight.ensures.scoring c.requires.scoring)
 
 pub returns-clause-listed : goal.returns-clause-listed
@@ -42,8 +42,7 @@ returns-clause-listed c =
     let number = c.in_ok-first.ensures.counted ∙ ap document_count front in
     let back = ap segments_of (rest-taken ended readers) ∙ sym (drop-map (λ (r : Reader). r.segment) ended readers) in
     let items = all_pruned (to_z w64 (of_z w64 c.args.threshold)) (tree_of c.deref.result.now) (segments_of (take ended readers)) in
-    let listed = c.in_ok-write_parts.ensures.listed items c.in_ok-first.ensures.listed in
-    let written = subst (λ l. HasListed l c.write_parts.new.writer)
+    let listed = c.in_ok-list_parts.ensures.listed items c.in_ok-first.ensures.listed in
+    let written = subst (λ l. ListsSoFar l c.list_parts.new.listing)
     (λ i. all_pruned (same i) (one i) (front i) ++ parts_pruned (same i) (other i) (number i) (back i)) listed in
-    let whole = c.finish.ensures.listed _ written in
-    search (rules, whole)
+    c.finish.ensures.listed _ written

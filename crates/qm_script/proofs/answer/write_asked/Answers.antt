@@ -1,0 +1,1 @@
+use Rattle.qm_script.proofs.answer.write_asked.Goals as goal
