@@ -1,12 +1,11 @@
 -- The run over what cells show, as one over the lists that they hold.
-use Rattle.std.proofs.Common.{◌≡◌, ◌∙◌, ℕ, ℤ, zero, suc, ◌+◌, ◌<◌, ◌≤◌, ◌<ℤ◌, ◌≤ℤ◌, Bool, true, false, List, [], ◌∷◌, fold, length, pos, ap, arith, inl, inr, refl, subst}
+use Rattle.std.proofs.Common.{◌≡◌, ◌∙◌, ℕ, ℤ, zero, suc, ◌+◌, ◌<◌, ◌≤◌, ◌<ℤ◌, ◌≤ℤ◌, true, false, List, [], ◌∷◌, fold, length, pos, ap, arith, inl, inr, refl, subst}
 use Rattle.std.proofs.Common.{sum, sym}
 use Rattle.std.proofs.lemmas.Bool.{cases_Bool, cases_lt, false≢true}
-use Rattle.qm_docset.specs.Entry.{greatest_score}
 use Rattle.qm_term.specs.Cells.{HoldLists, RunsOver, Shown, all_shown, cell_of, cells_clear, cells_has, cells_start, cuts, hits_shown, shown_from}
-use Rattle.qm_term.specs.HitRuns.{MayPrune, one_if_above}
-use Rattle.qm_term.specs.Members.{AreMembers, Hit, Member, has, all_of, scores_of, united}
-use Rattle.qm_term.specs.Pivot.{Held, Pruned, blockbound, total_top}
+use Rattle.qm_term.specs.HitRuns.{MayPrune}
+use Rattle.qm_term.specs.Members.{AreMembers, Member, scores_of, united}
+use Rattle.qm_term.specs.Pivot.{Held, Pruned, blockbound}
 use Rattle.qm_term.specs.Runs.{MayTurn, Turn}
 use Rattle.qm_term.specs.declared.wand.cells.Cells.{Cells}
 use Rattle.qm_term.proofs.StretchCells.{has_below}
@@ -123,21 +122,21 @@ module _ {F C : Type 0} (call : F → ℕ → ℤ → ℤ → F → Type 0) (com
               run_shown n (suc s) (omega (arith, a)) (omega (arith, inside)) (omega (arith, c)) after th' mid g m r'.5 j last z p in
               by_above (Pruned call combined th f (cuts s ms) (k + j) last z) th (cell_of w s).bound
               (λ above.
-                  let one = is_above th (cell_of w s).bound above in
-                  let same : suc (m + j) ≡ k + j = omega (arith, r'.4, one) in
-                  subst (λ (i : ℕ). Pruned call combined th f (cuts s ms) i last z) same
-                  (score_step combined within call th s (cuts s ms) (cuts (suc s) ms) (cuts_members s ms are)
-                  (scores_cuts th s ms are (held_here s a y) (subst (λ (i : ℕ). th <ℤ pos i) (bound_here s a y) above)) f mid z after last (m + j)
-                  (subst (λ (i : ℕ). Turn call th f s (pos i) after mid) (score_here s a y) turn) rest))
+              let one = is_above th (cell_of w s).bound above in
+              let same : suc (m + j) ≡ k + j = omega (arith, r'.4, one) in
+              subst (λ (i : ℕ). Pruned call combined th f (cuts s ms) i last z) same
+              (score_step combined within call th s (cuts s ms) (cuts (suc s) ms) (cuts_members s ms are)
+              (scores_cuts th s ms are (held_here s a y) (subst (λ (i : ℕ). th <ℤ pos i) (bound_here s a y) above)) f mid z after last (m + j)
+              (subst (λ (i : ℕ). Turn call th f s (pos i) after mid) (score_here s a y) turn) rest))
               (λ quiet.
-                  let none = not_above th (cell_of w s).bound quiet in
-                  let same : m + j ≡ k + j = omega (arith, r'.4, none) in
-                  let score = low_score s a y th quiet in
-                  let moved = subst (λ (x : F). Pruned call combined th x (cuts (suc s) ms) (m + j) last z) (turn.same_callback score)
-                  (subst (λ (x : ℤ). Pruned call combined x mid (cuts (suc s) ms) (m + j) last z) (turn.same_threshold score) rest) in
-                  subst (λ (i : ℕ). Pruned call combined th f (cuts s ms) i last z) same
-                  (step_over th s (λ d x v held. at_s (λ i. pos (blockbound i ms) ≤ℤ th) s d x v
-                  (subst (λ (i : ℕ). pos i ≤ℤ th) (bound_here s a y) quiet)) f z last (m + j) moved))
+              let none = not_above th (cell_of w s).bound quiet in
+              let same : m + j ≡ k + j = omega (arith, r'.4, none) in
+              let score = low_score s a y th quiet in
+              let moved = subst (λ (x : F). Pruned call combined th x (cuts (suc s) ms) (m + j) last z) (turn.same_callback score)
+              (subst (λ (x : ℤ). Pruned call combined x mid (cuts (suc s) ms) (m + j) last z) (turn.same_threshold score) rest) in
+              subst (λ (i : ℕ). Pruned call combined th f (cuts s ms) i last z) same
+              (step_over th s (λ d x v held. at_s (λ i. pos (blockbound i ms) ≤ℤ th) s d x v
+              (subst (λ (i : ℕ). pos i ≤ℤ th) (bound_here s a y) quiet)) f z last (m + j) moved))
         ]
       ]
 
@@ -151,20 +150,20 @@ module _ {F C : Type 0} (call : F → ℕ → ℤ → ℤ → F → Type 0) (com
     may_here s a y th f may =
         by_above _ th (cell_of w s).bound
         (λ above.
-            let first = score_may combined within call th s (cuts s ms) (cuts (suc s) ms) (cuts_members s ms are)
-            (scores_cuts th s ms are (held_here s a y) (subst (λ (i : ℕ). th <ℤ pos i) (bound_here s a y) above)) pre f may in (
-              subst (λ (i : ℕ). MayTurn pre th f s i) (sym (score_here s a y)) first.0,
-              λ after g turn. first.1 after g (subst (λ (i : ℕ). Turn call th f s (pos i) after g) (score_here s a y) turn),
-            ))
+        let first = score_may combined within call th s (cuts s ms) (cuts (suc s) ms) (cuts_members s ms are)
+        (scores_cuts th s ms are (held_here s a y) (subst (λ (i : ℕ). th <ℤ pos i) (bound_here s a y) above)) pre f may in (
+          subst (λ (i : ℕ). MayTurn pre th f s i) (sym (score_here s a y)) first.0,
+          λ after g turn. first.1 after g (subst (λ (i : ℕ). Turn call th f s (pos i) after g) (score_here s a y) turn),
+        ))
         (λ quiet.
-            let score = low_score s a y th quiet in
-            let rest = may_over th s (λ d x v held. at_s (λ i. pos (blockbound i ms) ≤ℤ th) s d x v
-            (subst (λ (i : ℕ). pos i ≤ℤ th) (bound_here s a y) quiet)) pre f may in (
-              λ high. absurd (clash_ℤ high score),
-              λ after g turn.
-                  subst (λ (t : ℤ). MayPrune call pre t g (united combined (cuts (suc s) ms))) (sym (turn.same_threshold score))
-                  (subst (λ (x : F). MayPrune call pre th x (united combined (cuts (suc s) ms))) (sym (turn.same_callback score)) rest),
-            ))
+        let score = low_score s a y th quiet in
+        let rest = may_over th s (λ d x v held. at_s (λ i. pos (blockbound i ms) ≤ℤ th) s d x v
+        (subst (λ (i : ℕ). pos i ≤ℤ th) (bound_here s a y) quiet)) pre f may in (
+          λ high. absurd (clash_ℤ high score),
+          λ after g turn.
+              subst (λ (t : ℤ). MayPrune call pre t g (united combined (cuts (suc s) ms))) (sym (turn.same_threshold score))
+              (subst (λ (x : F). MayPrune call pre th x (united combined (cuts (suc s) ms))) (sym (turn.same_callback score)) rest),
+        ))
 
     may_later : (s : ℕ) → low ≤ s → s < end → cells_has w s ≡ false → (th : ℤ) (f : F) →
         MayPrune call pre th f (united combined (cuts s ms)) → MayPrune call pre th f (united combined (cuts (suc s) ms))
