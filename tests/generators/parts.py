@@ -44,6 +44,7 @@ GENERATORS = {
     "blocks of small lists": postings.blocks_of_small_lists,
     "postings": postings.by_chance,
     "runs": runs.by_chance,
+    "runs over stretches": runs.over_stretches,
     "indexes": indexes.by_chance,
     "stored rows": stored.by_chance,
     "turned bits": stored_segments.turned_bits,
@@ -85,6 +86,7 @@ TABLES = {
     "cases_postings": [
         ("small phrases", [*((slop, (0, 1)) for slop in (0, 1, 2, 7)), (1, (2, 0, 3))]),
         ("blocks of small lists", list(itertools.product((1, 2, 3, 128), postings.SMALL_LISTS))),
+        ("runs over stretches", list(itertools.product(("mixed", "rising"), (3, 128)))),
     ],
     "cases_store": [
         ("turned bits", range(stored_segments.PARTS_OF_BITS)),

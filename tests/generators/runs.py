@@ -1,6 +1,7 @@
 """Pruned runs over the scorers of terms, beside the plain loop over what these list."""
 
 from collections import defaultdict
+from random import Random
 
 from generators import calls, chance, spelled
 from generators.spelled import row
@@ -22,6 +23,10 @@ from model import (
 
 COMBINERS = ("sum", "sum", "max 0", "max 1", "max 500", "max 1000")
 WEIGHTS = (0, 1, 100, 1000, 10**12, GREATEST // 6)
+# how the documents of a segment follow one another by their lengths
+ORDERS = ("alike", "mixed", "rising")
+# more documents than the longest stretch has
+MANY = 5000
 
 
 class Run:
@@ -113,16 +118,25 @@ def document(random, frequent, is_padded):
     return " ".join(found + ["x"] * (max(0, 12 - len(found)) if is_padded else random.choice([0, 0, 1, 5, 20])))
 
 
-def by_chance(random):
-    """Runs over the terms of a segment whose documents have one length, or lengths of all kinds in any order or in
-    ascending order."""
-    order, frequent = random.choice(["alike", "mixed", "rising"]), random.sample(chance.WORDS, random.randint(1, 5))
-    words = [document(random, frequent, order == "alike") for _ in range(chance.size(random))]
+def over_segment(random, order, count, length):
+    """Runs over the terms of a segment of so many documents, in blocks of a length. The documents have one length, or
+    lengths of all kinds in any order or in ascending order."""
+    frequent = random.sample(chance.WORDS, random.randint(1, 5))
+    words = [document(random, frequent, order == "alike") for _ in range(count)]
     if order == "rising":
         words.sort(key=lambda it: len(it.split()))
     segment = Segment((chance.BODY,), [{"body": it.split()} for it in words])
-    length = random.choice(chance.BLOCKS)
     yield from spelled.one_segment(segment, words, length, chance.BODY)
     if segment.terms:
         for _ in range(12):
             yield from several_runs(random, segment, length)
+
+
+def by_chance(random):
+    yield from over_segment(random, random.choice(ORDERS), chance.size(random), random.choice(chance.BLOCKS))
+
+
+def over_stretches(given):
+    """Runs that go over several stretches of documents, the longest there are among them."""
+    order, length = given
+    yield from over_segment(Random(f"{order} {length}"), order, MANY, length)

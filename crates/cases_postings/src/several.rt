@@ -99,7 +99,7 @@ impl<'b> SeveralRows<'b> {
     }
 
     // Whether the run of `TICKS TURNS T ..` scores at most so many documents, and at least one for each
-    // call, in at most so many turns, at once and turn by turn.
+    // call, in at most so many turns and at least one for each of these, at once and turn by turn.
     fn is_bounded(&self, alloc: Global, bounds: &str) -> Result<bool, Fault> {
         let (ticks, run) = cut(bounds);
         let (turns, _) = cut(run);
@@ -123,7 +123,7 @@ impl<'b> SeveralRows<'b> {
         let count = self.run(alloc, by_turns, run, Memory::Ample, &mut calls)?;
         let called = words_of(alloc, calls.as_str())?.len() as u128;
         let is_scored = called <= count.ticks && count.ticks <= most.ticks;
-        Ok(is_scored && count.turns <= most.turns)
+        Ok(is_scored && count.ticks <= count.turns && count.turns <= most.turns)
     }
 }
 

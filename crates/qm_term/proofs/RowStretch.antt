@@ -1,11 +1,11 @@
 -- Records in no order: how far their blocks at a document reach, and what taking one list in leaves.
-use Rattle.std.proofs.Common.{◌≡◌, ◌∙◌, ℕ, zero, suc, ◌+◌, ◌<◌, ◌≤◌, List, [], ◌∷◌, ap, arith, drop, get_or, inl, inr, length, map, min, refl, set, sym}
+use Rattle.std.proofs.Common.{◌≡◌, ◌∙◌, ℕ, zero, suc, ◌+◌, ◌<◌, ◌≤◌, List, [], ◌∷◌, ap, arith, drop, get_or, inl, inr, length, map, min, refl, set}
 use Rattle.std.proofs.lemmas.Bool.{cases_lt, le-leb, lt-leb}
 use Rattle.qm_docset.specs.declared.numbers.TheConstants.{TERMINATED}
-use Rattle.qm_term.specs.Heads.{AreRecords, listed, lists, no_member}
+use Rattle.qm_term.specs.Heads.{AreRecords, listed, no_member}
 use Rattle.qm_term.specs.Members.{AreMembers, Member, end_at}
 use Rattle.qm_term.specs.Pivot.{cut, head, skip, skip_by, total_top}
-use Rattle.qm_term.specs.Stretches.{AreFrom, AreLookedAt, IsLookedAt}
+use Rattle.qm_term.specs.Stretches.{AreFrom, IsLookedAt}
 use Rattle.qm_term.specs.declared.wand.heads.Head.{Head}
 use Rattle.qm_term.proofs.WandBounds.{skip-cons, skip_le_end, total-cons}
 use Rattle.qm_term.proofs.WandRows.{rest_at}

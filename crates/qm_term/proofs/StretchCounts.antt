@@ -1,5 +1,5 @@
 -- No more documents are counted than there are postings.
-use Rattle.std.proofs.Common.{◌≡◌, ◌∙◌, ℕ, ℤ, suc, ◌+◌, ◌≤◌, List, [], ◌∷◌, length, ap, arith, map, refl}
+use Rattle.std.proofs.Common.{ℕ, ℤ, suc, ◌+◌, ◌≤◌, List, [], ◌∷◌, length, ap, arith}
 use Rattle.std.proofs.lemmas.List.{length-map}
 use Rattle.qm_term.specs.HitRuns.{count_above}
 use Rattle.qm_term.specs.Members.{Hit, Member, add_all, add_entry, all_of, scores_of, total, united, with_scores}

@@ -1,10 +1,10 @@
 -- Lists cut to one document after another, as steps of the run over U.
-use Rattle.std.proofs.Common.{◌≡◌, ◌∙◌, ℕ, ℤ, zero, suc, ◌+◌, ◌<◌, ◌≤◌, ◌<ℤ◌, ◌≤ℤ◌, List, [], ◌∷◌, length, get_or, pos, ap, ap₂, arith, inl, inr, refl, subst, sym, false}
+use Rattle.std.proofs.Common.{◌≡◌, ◌∙◌, ℕ, ℤ, zero, suc, ◌<◌, ◌≤◌, ◌<ℤ◌, ◌≤ℤ◌, List, [], ◌∷◌, length, get_or, pos, ap, ap₂, arith, inl, inr, refl, subst, sym}
 use Rattle.std.proofs.lemmas.Bool.{cases_lt, false≢true}
 use Rattle.qm_term.specs.Cells.{cuts}
 use Rattle.qm_term.specs.Heads.{no_member}
 use Rattle.qm_docset.specs.declared.numbers.TheConstants.{TERMINATED}
-use Rattle.qm_term.specs.Members.{AreBounded, AreMembers, Block, Hit, IsMember, Member, all_of, has, hit_document, hits_from}
+use Rattle.qm_term.specs.Members.{AreBounded, AreMembers, Block, Hit, IsMember, Member, all_of, hit_document, hits_from}
 use Rattle.qm_term.specs.Pivot.{AreCut, Held, Passes, Scores, blockbound, cut, head}
 use Rattle.qm_term.proofs.WandBounds.{AreBounded-from, ascends, cut_blockbound, cut_blockbound_le, cut_from, cut_held, cut_members, has-from, has-from_below, low_le}
 use Rattle.qm_term.proofs.WandScores.{cut_scores}

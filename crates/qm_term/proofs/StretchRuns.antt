@@ -1,12 +1,11 @@
 -- The run over what cells show, as one over the lists that they hold.
-use Rattle.std.proofs.Common.{◌≡◌, ◌∙◌, ℕ, ℤ, zero, suc, ◌+◌, ◌<◌, ◌≤◌, ◌<ℤ◌, ◌≤ℤ◌, Bool, true, false, List, [], ◌∷◌, fold, length, pos, ap, arith, inl, inr, refl, subst}
+use Rattle.std.proofs.Common.{◌≡◌, ◌∙◌, ℕ, ℤ, zero, suc, ◌+◌, ◌<◌, ◌≤◌, ◌<ℤ◌, ◌≤ℤ◌, true, false, List, [], ◌∷◌, fold, length, pos, ap, arith, inl, inr, refl, subst}
 use Rattle.std.proofs.Common.{sum, sym}
 use Rattle.std.proofs.lemmas.Bool.{cases_Bool, cases_lt, false≢true}
-use Rattle.qm_docset.specs.Entry.{greatest_score}
 use Rattle.qm_term.specs.Cells.{HoldLists, RunsOver, Shown, all_shown, cell_of, cells_clear, cells_has, cells_start, cuts, hits_shown, shown_from}
-use Rattle.qm_term.specs.HitRuns.{MayPrune, one_if_above}
-use Rattle.qm_term.specs.Members.{AreMembers, Hit, Member, has, all_of, scores_of, united}
-use Rattle.qm_term.specs.Pivot.{Held, Pruned, blockbound, total_top}
+use Rattle.qm_term.specs.HitRuns.{MayPrune}
+use Rattle.qm_term.specs.Members.{AreMembers, Member, scores_of, united}
+use Rattle.qm_term.specs.Pivot.{Held, Pruned, blockbound}
 use Rattle.qm_term.specs.Runs.{MayTurn, Turn}
 use Rattle.qm_term.specs.declared.wand.cells.Cells.{Cells}
 use Rattle.qm_term.proofs.StretchCells.{has_below}

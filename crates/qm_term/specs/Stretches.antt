@@ -2,7 +2,7 @@
 use Rattle.std.specs.Prelude.{◌≡◌, ℕ, ℤ, ◌+◌, ◌<◌, ◌≤◌, List, length, slice_index_or, true, false, All}
 use Rattle.qm_combine.specs.Combiner.{HasRoomFor, IsCleared}
 use Rattle.qm_docset.specs.Entry.{greatest_score}
-use Rattle.qm_term.specs.Cells.{AreAlike, RunsOver, TakesIn, all_shown, cell_of, cells_clear, cells_end, cells_has, cuts, Shown}
+use Rattle.qm_term.specs.Cells.{AreAlike, RunsOver, TakesIn, all_shown, cell_of, cells_clear, cells_end, cells_has, Shown}
 use Rattle.qm_term.specs.Heads.{moved_at, no_member}
 use Rattle.qm_term.specs.Members.{Member, bound_at}
 use Rattle.qm_term.specs.Pivot.{Pruned, cut, head}

@@ -17,7 +17,7 @@ ghost use Rattle.qm_term.specs.Runs.{InRange, MayPrune as MayRunOver, MayTurn, T
 ghost use Rattle.qm_term.specs.RunScorers.{IsRunScorer, first_score, ticks_of, wand_member};
 ghost use Rattle.qm_term.specs.TermBlocks.{member_of};
 ghost use Rattle.qm_term.specs.TermScorer.{IsTermScorer};
-ghost use Rattle.qm_term.specs.WandRun.{IsNewRun, IsRun, PrunesTerms, RunFinishes, RunLeavesAll, RunTakesTurn, terms_left};
+ghost use Rattle.qm_term.specs.WandRun.{IsNewRun, IsRun, PrunesTerms, RunLeavesAll, RunTakesTurn, terms_left};
 ghost use Rattle.qm_term.specs.WandRun.{run_combiner, run_lists, run_threshold, run_ticks, run_turns, run_union};
 
 use crate::term_scorer::TermScorer;

@@ -1,7 +1,6 @@
-use Rattle.std.proofs.Common.{◌≡◌, ◌∙◌, ◌<◌, ◌≤◌, ap, arith, get_or, length, map, refl, sym}
+use Rattle.std.proofs.Common.{◌∙◌, ap, arith, get_or, map, sym}
 use Rattle.qm_term.specs.HeadRow.{row_lists}
 use Rattle.qm_term.specs.Heads.{no_member}
-use Rattle.qm_term.specs.Pivot.{head}
 use Rattle.qm_term.specs.RunScorers.{wand_member}
 use Rattle.qm_term.specs.declared.wand.heads.Head.{Head}
 use Rattle.qm_term.proofs.HeadRecords.{any}

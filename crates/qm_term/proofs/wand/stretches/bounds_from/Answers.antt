@@ -1,4 +1,4 @@
-use Rattle.std.proofs.Common.{◌≡◌, ◌∙◌, ◌+◌, ◌<◌, ◌≤◌, List, ap, arith, get_or, inl, inr, length, map, rules, sym, subst}
+use Rattle.std.proofs.Common.{◌≡◌, ◌∙◌, ◌+◌, ◌<◌, List, ap, arith, get_or, inl, inr, length, map, rules, sym, subst}
 use Rattle.std.proofs.lemmas.Bool.{cases_eq}
 use Rattle.std.proofs.lemmas.List.{get_or-map}
 use Rattle.qm_term.specs.HeadRow.{row_lists}
@@ -7,7 +7,6 @@ use Rattle.qm_term.specs.Members.{Member}
 use Rattle.qm_term.specs.Pivot.{pivot_bound}
 use Rattle.qm_term.specs.RunScorers.{wand_member}
 use Rattle.qm_term.specs.Stretches.{IsLookedAt}
-use Rattle.qm_term.specs.declared.wand.heads.Head.{Head}
 use Rattle.qm_term.proofs.RowRecords.{row_members, zeros}
 use Rattle.qm_term.proofs.WandRows.{pivot_bounds_le, sum_below, sum_done, sum_more}
 use Rattle.qm_term.proofs.wand.stretches.bounds_from.Goals as goal

@@ -1,7 +1,6 @@
 -- List by list the cells are filled, from the last on.
 use Rattle.std.proofs.Common.{◌≡◌, ◌∙◌, ℕ, ◌+◌, ◌-◌, ◌<◌, ◌≤◌, List, ap, arith, drop, fold, get_or, length, map, refl, set, subst, sum, sym}
 use Rattle.std.proofs.lemmas.List.{length-map}
-use Rattle.qm_combine.specs.Combiner.{HasRoomFor}
 use Rattle.qm_docset.specs.Entry.{greatest_score}
 use Rattle.qm_term.specs.Cells.{HoldLists, TakesIn, cuts}
 use Rattle.qm_term.specs.HeadRow.{row_lists}

@@ -1,15 +1,13 @@
 -- Blocks are passed, or a stretch is taken.
-use Rattle.std.proofs.Common.{◌≡◌, ◌∙◌, ℕ, ℤ, ◌+◌, ◌<◌, ◌≤◌, ◌≤ℤ◌, List, ap, arith, map, pos, refl, subst, sym, to_z, of_z, w64}
+use Rattle.std.proofs.Common.{◌≡◌, ◌∙◌, ℕ, ℤ, ◌+◌, ◌<◌, ◌≤ℤ◌, List, ap, arith, map, pos, subst, to_z, of_z, w64}
 use Rattle.std.proofs.lemmas.Int.{to_z-of_z}
 use Rattle.qm_docset.specs.declared.numbers.TheConstants.{TERMINATED}
 use Rattle.qm_term.specs.Cells.{cells_clear, cuts}
 use Rattle.qm_term.specs.HeadRow.{row_lists}
-use Rattle.qm_term.specs.HitRuns.{MayPrune}
-use Rattle.qm_term.specs.Members.{AreMembers, Member, united}
+use Rattle.qm_term.specs.Members.{AreMembers, Member}
 use Rattle.qm_term.specs.Pivot.{Passes, Pruned, blockbound, pivot_bounds, skip, total_top}
 use Rattle.qm_term.specs.Runs.{InRange}
 use Rattle.qm_term.specs.RunScorers.{wand_member}
-use Rattle.qm_term.specs.Stretches.{AreFrom, MovesOn}
 use Rattle.qm_term.proofs.RowRecords.{row_members}
 use Rattle.qm_term.proofs.RowStretch.{cuts_from, from_cuts}
 use Rattle.qm_term.proofs.StretchCuts.{AreCut-cuts, cuts_members, passes_cuts}

@@ -1,17 +1,13 @@
 -- Stretch by stretch the run goes on.
-use Rattle.std.proofs.Common.{◌≡◌, ◌∙◌, ℕ, ℤ, ◌+◌, ◌<◌, ◌≤◌, List, ap, arith, get_or, length, map, of_z, refl, rules, subst, sym, to_z, w64}
+use Rattle.std.proofs.Common.{◌≡◌, ◌∙◌, ℕ, ◌+◌, arith, of_z, refl, rules, subst, to_z, w64}
 use Rattle.std.proofs.lemmas.Int.{to_z-of_z}
 use mir.Val.{SFits}
-use Rattle.std.proofs.lemmas.List.{length-map}
-use Rattle.qm_docset.specs.declared.numbers.TheConstants.{TERMINATED}
 use Rattle.qm_term.specs.Cells.{cells_clear, cuts}
 use Rattle.qm_term.specs.HeadRow.{row_lists}
-use Rattle.qm_term.specs.Heads.{listed}
-use Rattle.qm_term.specs.HitRuns.{MayPrune}
-use Rattle.qm_term.specs.Members.{AreMembers, Member, united}
+use Rattle.qm_term.specs.Members.{AreMembers}
 use Rattle.qm_term.specs.Pivot.{Pruned}
 use Rattle.qm_term.specs.Runs.{InRange}
-use Rattle.qm_term.specs.RunScorers.{ticks_of, wand_member}
+use Rattle.qm_term.specs.RunScorers.{ticks_of}
 use Rattle.qm_term.proofs.RowRecords.{row_members}
 use Rattle.qm_term.proofs.RowStretch.{cuts_from}
 use Rattle.qm_term.proofs.StretchCuts.{cuts_members, held_from}

@@ -1,4 +1,4 @@
-use Rattle.std.proofs.Common.{◌≡◌, ◌<◌, ap, arith, drop, length, map, min}
+use Rattle.std.proofs.Common.{◌≡◌, ◌<◌, arith, drop, length, map}
 use Rattle.qm_docset.specs.declared.numbers.TheConstants.{TERMINATED}
 use Rattle.qm_term.specs.Heads.{listed, lists}
 use Rattle.qm_term.specs.Pivot.{skip}
@@ -6,7 +6,6 @@ use Rattle.qm_term.proofs.RowFront.{skip_none}
 use Rattle.qm_term.proofs.RowRecords.{zeros}
 use Rattle.qm_term.proofs.RowStretch.{end_by, end_next}
 use Rattle.qm_term.proofs.WandBounds.{skip_le_end}
-use Rattle.qm_term.proofs.WandRows.{rest_end}
 use Rattle.qm_term.proofs.wand.stretches.skip_from.Goals as goal
 
 pub loop-k-init : goal.loop-k-init

@@ -1,9 +1,8 @@
-use Rattle.std.proofs.Common.{◌≡◌, ◌∙◌, ◌<◌, ◌≤◌, List, ap, arith, get_or, length, map, set, sym}
+use Rattle.std.proofs.Common.{◌∙◌, ◌<◌, ◌≤◌, ap, arith, get_or, length, map, set, sym}
 use Rattle.std.proofs.lemmas.List.{length-map}
 use Rattle.qm_term.specs.HeadRow.{row_lists}
 use Rattle.qm_term.specs.Heads.{listed, no_member}
-use Rattle.qm_term.specs.Members.{Member}
-use Rattle.qm_term.specs.Pivot.{cut, head}
+use Rattle.qm_term.specs.Pivot.{head}
 use Rattle.qm_term.specs.RunScorers.{wand_member}
 use Rattle.qm_term.proofs.RowMoves.{row_member}
 use Rattle.qm_term.proofs.RowRecords.{doc_at, zeros}

@@ -1,12 +1,12 @@
 -- A part of the list in one block is taken in.
-use Rattle.std.proofs.Common.{◌≡◌, ◌∙◌, ℕ, ◌+◌, ◌<◌, ◌≤◌, List, ap, arith, get_or, length, map, min, subst, sym}
+use Rattle.std.proofs.Common.{◌≡◌, ◌∙◌, ◌<◌, ◌≤◌, List, ap, arith, get_or, length, map, subst, sym}
 use Rattle.qm_term.specs.Cells.{TakesIn, cells_start}
 use Rattle.qm_term.specs.HeadRow.{row_lists}
 use Rattle.qm_term.specs.Heads.{listed, moved_at, no_member}
 use Rattle.qm_term.specs.Members.{Member, bound_at}
 use Rattle.qm_term.specs.Pivot.{cut, head}
 use Rattle.qm_term.specs.RunScorers.{wand_member}
-use Rattle.qm_term.specs.Stretches.{HasCellsFor, IsBoundedTo}
+use Rattle.qm_term.specs.Stretches.{HasCellsFor}
 use Rattle.qm_term.specs.declared.wand.heads.Head.{Head}
 use Rattle.qm_term.proofs.HeadRecords.{any}
 use Rattle.qm_term.proofs.RowRecords.{doc_at, docs_at, zeros}

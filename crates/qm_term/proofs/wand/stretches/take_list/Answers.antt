@@ -1,5 +1,5 @@
 -- Block by block the list is taken in.
-use Rattle.std.proofs.Common.{◌≡◌, ◌∙◌, ℕ, ◌+◌, ◌<◌, ◌≤◌, List, ap, arith, get_or, length, map, set, subst, sym}
+use Rattle.std.proofs.Common.{◌≡◌, ◌∙◌, ℕ, ◌<◌, ◌≤◌, List, ap, arith, get_or, length, map, set, subst, sym}
 use Rattle.std.proofs.lemmas.List.{get_or-set_same, length-map}
 use Rattle.qm_combine.specs.Combiner.{HasRoomFor}
 use Rattle.qm_term.specs.Cells.{TakesIn}

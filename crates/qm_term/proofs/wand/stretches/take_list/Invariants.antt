@@ -1,4 +1,4 @@
-use Rattle.std.proofs.Common.{◌≡◌, ℕ, ◌+◌, ◌-◌, ◌≤◌, get_or, set}
+use Rattle.std.proofs.Common.{◌≡◌, ℕ, ◌-◌, ◌≤◌, get_or, set}
 use Rattle.qm_term.specs.Cells.{TakesIn}
 use Rattle.qm_term.specs.HeadRow.{AreHeads, row_lists}
 use Rattle.qm_term.specs.Heads.{no_member}

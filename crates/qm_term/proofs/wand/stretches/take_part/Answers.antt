@@ -9,7 +9,6 @@ use Rattle.qm_term.specs.Members.{Member}
 use Rattle.qm_term.specs.Pivot.{cut, head}
 use Rattle.qm_term.specs.RunScorers.{IsRunScorer, wand_member}
 use Rattle.qm_term.specs.Stretches.{HasCellsFor, IsBoundedTo}
-use Rattle.qm_term.specs.declared.wand.front.TermScorerWithMaxScore.{TermScorerWithMaxScore}
 use Rattle.qm_term.specs.declared.wand.heads.Head.{Head}
 use Rattle.qm_term.proofs.HeadRecords.{moved_records}
 use Rattle.qm_term.proofs.HeadRows.{lists-set}

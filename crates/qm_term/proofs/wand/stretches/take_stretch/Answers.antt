@@ -1,10 +1,10 @@
 -- The cells are filled and gone over: the run over what they show is one over the lists.
-use Rattle.std.proofs.Common.{◌≡◌, ◌∙◌, ℕ, ◌+◌, ◌-◌, ◌*◌, ◌/◌, ◌<◌, ◌≤◌, List, ap, arith, fold, length, of_z, sym, to_z, w64}
+use Rattle.std.proofs.Common.{◌≡◌, ◌∙◌, ℕ, ◌+◌, ◌≤◌, List, ap, arith, fold, length, of_z, sym, to_z, w64}
 use Rattle.std.proofs.lemmas.Int.{to_z-of_z}
 use Rattle.qm_docset.specs.Entry.{greatest_score}
 use Rattle.qm_term.specs.Cells.{all_shown, cells_clear, cells_start, cuts}
 use Rattle.qm_term.specs.HeadRow.{row_lists}
-use Rattle.qm_term.specs.Members.{AreMembers, Member}
+use Rattle.qm_term.specs.Members.{AreMembers}
 use Rattle.qm_term.specs.Pivot.{total_top}
 use Rattle.qm_term.specs.Runs.{InRange}
 use Rattle.qm_term.specs.declared.wand.cells.Cell.{Cell}
