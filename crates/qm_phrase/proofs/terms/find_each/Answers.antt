@@ -1,5 +1,5 @@
 -- One more member has found its positions.
-use Rattle.std.proofs.Common.{◌≡◌, ◌<◌, All, length, ap, arith, ◌∙◌}
+use Rattle.std.proofs.Common.{◌<◌, length, ap, arith, ◌∙◌}
 use Rattle.std.proofs.lemmas.List.Elements.{All-set}
 use Rattle.qm_combine.proofs.EachMember.{map-set_same}
 use Rattle.qm_docset.specs.Entry.{head_document}
