@@ -138,6 +138,20 @@ module _ {P : Type 0} (D : Ghosts P) where
       All-shifted_each (shifts_in t) (each_of positions (terms_in t)) h.shifts (All-each_of ArePositions positions (terms_in t)
       (subst (λ n. AreInside n (terms_in t)) (sym long) h.inside) (All-head_positions D.valid D.entries ordered t.members.items h.valid))
 
+  -- The same terms where they were.
+
+  pub AreKept-both : (old mid new : TermPlaces P) → AreKept D old mid → AreKept D mid new → AreKept D old new
+  AreKept-both old mid new first second = record {
+    valid = second.valid;
+    terms = second.terms ∙ first.terms;
+    lists = second.lists ∙ first.lists;
+    limits = second.limits ∙ first.limits;
+  }
+
+  pub sets_here-kept : (old new : TermPlaces P) → AreKept D old new → sets_here D new ≡ sets_here D old
+  sets_here-kept old new kept =
+      λ i. shifted_each (map (λ u. u.0) (kept.terms i)) (each_of (map head_positions (kept.lists i)) (kept.terms i))
+
   -- What was looked at.
 
   -- terms whose members were sought at a document

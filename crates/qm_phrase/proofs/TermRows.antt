@@ -1,5 +1,5 @@
 -- The terms of a phrase and their members, one by one.
-use Rattle.std.proofs.Common.{◌≡◌, ℕ, zero, suc, ◌+◌, ◌<◌, List, [], ◌∷◌, All, length, map, take, drop, get_or, set, add-one, refl, ap, sym, ◌∙◌, arith, subst, ◌≤◌}
+use Rattle.std.proofs.Common.{◌≡◌, ℕ, zero, suc, ◌+◌, ◌<◌, List, [], ◌∷◌, All, length, map, take, drop, get_or, set, add-one, refl, ap, sym, ◌∙◌, arith, subst}
 use Rattle.std.specs.Global.{Vec}
 use Rattle.std.proofs.lemmas.List.{get_or-map, length-map}
 use Rattle.std.proofs.lemmas.List.Elements.{All-get_or, All-map}
@@ -7,7 +7,7 @@ use Rattle.qm_docset.specs.ListFacts.{map-map}
 use Rattle.qm_postings.specs.Positions.{shifted}
 use Rattle.qm_phrase.specs.Phrase.{shifted_each}
 use Rattle.qm_phrase.specs.Places.{HasPassed, HavePassed, past}
-use Rattle.qm_phrase.specs.TermRows.{AreInside, each_of, positions_in, rows_left, term_left, term_of, terms_of}
+use Rattle.qm_phrase.specs.TermRows.{AreInside, each_of, positions_in, rows_left, term_of, terms_of}
 use Rattle.qm_phrase.specs.Terms.{begun}
 use Rattle.qm_phrase.specs.declared.term_row.TermRow.{TermRow}
 
@@ -79,11 +79,3 @@ passed_more f place floor (r ∷ rows) (y ∷ ys) zero x d h long so_far rest he
 passed_more f place floor (r ∷ rows) (y ∷ ys) (suc i) x d h long so_far rest here =
     let more = rw add-one at (passed_more f place floor rows ys i x d (omega arith) (omega arith) so_far.1 rest here) in
     rw add-one ((so_far.0, more.0), more.1)
-
--- two terms, and nothing behind them
-pub two_left : (positions : List (Vec ℕ)) (rows : List TermRow) → 2 ≤ length rows → length rows < 3 →
-    rows_left positions rows ≡ term_left positions (get_or rows 0 no_term) ∷ term_left positions (get_or rows 1 no_term) ∷ []
-two_left positions [] some few = absurd (omega arith)
-two_left positions (a ∷ []) some few = absurd (omega arith)
-two_left positions (a ∷ b ∷ []) some few = refl
-two_left positions (a ∷ b ∷ c ∷ rows) some few = absurd (omega arith)

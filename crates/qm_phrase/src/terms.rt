@@ -89,11 +89,32 @@ impl<P: Postings> TermPlaces<P> {
         if self.rows.len() != 2 {
             return None;
         }
+        self.find_places();
+        self.count_both(slop, most)
+    }
+
+    // Lets every member find its positions in the document that all of them stand on.
+    fn find_places(&mut self)
+        requires valid { AreTerms P.DocSet self.old }
+        requires here { AreHere P.DocSet self.old }
+        ensures kept { AreKept P.DocSet self.old self.new }
+        ensures here { AreHere P.DocSet self.new }
+    {
         find_each(&mut self.members);
+    }
+
+    // The number of starts of two terms, or `most` where there are more, where both members lend their positions.
+    fn count_both(&self, slop: u32, most: u32) -> Option<u32>
+        requires valid { AreTerms P.DocSet self.now }
+        requires here { AreHere P.DocSet self.now }
+        requires two { length self.now.rows.items ≡ 2 }
+        ensures { IfSome result (λ count. count ≡ min most (starts slop (sets_here P.DocSet self.now))) }
+    {
         let (first, second) = (&self.rows[0], &self.rows[1]);
-        let ones = self.members[first.member].lent_positions()?;
-        let others = self.members[second.member].lent_positions()?;
-        Some(count_pair(first.row.shift, ones, second.row.shift, others, slop, most))
+        let positions = self.members[first.member].lent_positions()?;
+        let other_positions = self.members[second.member].lent_positions()?;
+        let (shift, other_shift) = (first.row.shift, second.row.shift);
+        Some(count_pair(shift, positions, other_shift, other_positions, slop, most))
     }
 
     /// Looks at one document: answers how many starts it has, or `most` where there are more; or, where it

@@ -6,7 +6,6 @@ use Rattle.qm_phrase.specs.Starts.{starts}
 use Rattle.qm_phrase.specs.TermRows.{AreInside, rows_left, term_left}
 use Rattle.qm_phrase.proofs.PassedPlaces.{All-passed, least_first-passed, starts-passed}
 use Rattle.qm_phrase.proofs.StartSteps.{All-past, counted, greatest_first-past, least_first-past, starts-ended, within}
-use Rattle.qm_phrase.proofs.TermRows.{inside_at}
 use Rattle.qm_phrase.proofs.counting.count_starts.Goals as goal
 use Rattle.qm_phrase.proofs.counting.count_starts.Goals.{then-greatest-least, else-greatest-least}
 
@@ -73,11 +72,3 @@ returns-then-greatest-eq-ALL_PLACES-clause-count c =
     let sets = rows_left c.args.positions.now c.loop-count.rows in
     let none = starts-ended c.args.slop sets (sym c.first_places-least.ensures.greatest ∙ c.if-greatest-eq-ALL_PLACES.true) c.loop-count.invariant.rows in
     omega (arith, none, c.loop-count.invariant.counted, c.loop-count.invariant.within)
-
-pub bounds-positions-first : goal.bounds-positions-first
-bounds-positions-first c =
-    inside_at (length c.args.positions.now) c.args.rows.now 0 c.requires.inside (omega (arith, c.in-len2.len_at_least))
-
-pub bounds-positions-second : goal.bounds-positions-second
-bounds-positions-second c =
-    inside_at (length c.args.positions.now) c.args.rows.now 1 c.requires.inside (omega (arith, c.in-len2.len_at_least))

@@ -7,7 +7,7 @@ use Rattle.qm_phrase.specs.Starts.{starts}
 use Rattle.qm_phrase.specs.TermRows.{rows_left, terms_of}
 use Rattle.qm_phrase.specs.Terms.{terms_in}
 use Rattle.qm_phrase.specs.declared.terms.TermPlaces.{TermPlaces}
-use Rattle.qm_phrase.proofs.TermMoves.{AreTerms-kept, inside-positions, sets-ascend}
+use Rattle.qm_phrase.proofs.TermMoves.{AreKept-both, AreTerms-kept, inside-positions, sets-ascend, sets_here-kept}
 use Rattle.qm_phrase.proofs.terms.TermPlaces.count_here.Goals as goal
 
 pub count_starts-requires-clause-some : goal.count_starts-requires-clause-some
@@ -20,7 +20,8 @@ count_starts-requires-clause-inside g c =
 pub count_starts-requires-clause-rows : goal.count_starts-requires-clause-rows
 count_starts-requires-clause-rows g c =
     rw (c.deref_mut.ensures.value, c.deref.ensures.value)
-    (subst (All (Ascends 0)) (sym c.read_places.ensures.sets) (sets-ascend g.P.DocSet g.met.P.Postings.ordered c.args.self.now c.requires.valid))
+    (subst (All (Ascends 0)) (sym c.read_places.ensures.sets) (sets-ascend g.P.DocSet g.met.P.Postings.ordered c.count_lent.new.self
+    c.count_lent.ensures.kept.valid))
 
 pub returns-clause-count : goal.returns-clause-count
 returns-clause-count g c =
@@ -28,13 +29,14 @@ returns-clause-count g c =
     c.count_starts.ensures.count
     ∙ ap (λ r. min c.args.most (starts c.args.slop (rows_left c.deref.result.now r))) c.deref_mut.ensures.value
     ∙ ap (λ r. min c.args.most (starts c.args.slop (rows_left r read.rows.items))) c.deref.ensures.value
-    ∙ ap (λ r. min c.args.most (starts c.args.slop r)) c.read_places.ensures.sets
+    ∙ ap (λ r. min c.args.most (starts c.args.slop r)) (c.read_places.ensures.sets
+    ∙ sets_here-kept g.P.DocSet c.args.self.now c.count_lent.new.self c.count_lent.ensures.kept)
 
 pub returns-clause-kept : goal.returns-clause-kept
 returns-clause-kept g c =
     let D = g.P.DocSet in
     let read = c.read_places.new.self in
-    let kept = c.read_places.ensures.kept in
+    let kept = AreKept-both D c.args.self.now c.count_lent.new.self read c.count_lent.ensures.kept c.read_places.ensures.kept in
     let new : TermPlaces g.row.P.Denot =
     record { members = read.members; positions = read.positions; rows = with_items read.rows c.count_starts.new.rows } in
     let rows : new.rows.items ≡ c.count_starts.new.rows = whole read.rows.len c.count_starts.new.rows read.rows.items
