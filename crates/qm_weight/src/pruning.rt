@@ -1,8 +1,8 @@
 //! Pruned runs over a scorer of their own, which pass over what they can.
 //!
 //! Why it is so:
-//! - A run goes down through boosts and lone clauses. Past 16 terms it is the plain loop, which is the quicker one
-//!   there.
+//! - A run goes down through boosts and lone clauses. Past 300 terms it is the plain loop, which is the quicker one
+//!   at worst.
 //! - The plain loop ends where no score can pass the threshold; a constant gains no more by another way.
 
 ghost use Rattle.std.specs.Prelude.{◌≡◌, IfErr, IfOk, OnErr};
@@ -74,11 +74,10 @@ pub(crate) fn counted_none() -> WandCount
     WandCount { turns: 0, ticks: 0 }
 }
 
-/// The most clauses of one run that passes over blocks. Each of its turns goes through the heads of all its
-/// terms, and the more there are the less it passes over: of documents in mixed order the plain loop over the
-/// union is as fast for 10 terms, twice as fast for 32, and for thousands the run's time grows with their
-/// square.
-pub(crate) const MOST_TERMS_BY_BLOCKS: usize = 16;
+/// The most clauses of one run that passes over blocks. Up to them it takes some two thirds of the time that the plain
+/// loop over the union takes, or less. But to pass a block it looks at all its terms. Where the bounds of a third of
+/// them only just reach the threshold, it takes twice that time for 300 terms, and three to five times for thousands.
+pub(crate) const MOST_TERMS_BY_BLOCKS: usize = 300;
 
 // The run over the scorers of terms, which passes over blocks. What they list together is the list of the weight's
 // tree at the boost.
