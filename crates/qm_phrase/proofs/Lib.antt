@@ -18,3 +18,4 @@ pub mod SortedNumbers
 pub mod UnitedMembers
 pub mod UnitedLists
 pub mod UnitedOver
+pub mod PairStarts

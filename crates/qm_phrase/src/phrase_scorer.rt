@@ -31,9 +31,10 @@ use std::alloc::Global;
 /// start. With a weight it scores what the weight gives its count at its length id, and else 1.
 ///
 /// The terms are asked for their documents in turn, and positions are read only of documents that all
-/// of them have, once for terms that share their postings. To count the starts of a document costs at
-/// most the number of its places times the number of terms; without a weight the first start is enough.
-/// No call takes memory.
+/// of them have, once for terms that share their postings. The first two terms are counted alone first,
+/// over [the positions that their postings lend](Postings::lent_positions): where these have none,
+/// all have none. To count the starts of a document costs at most the number of its places times
+/// the number of terms; without a weight the first start is enough. No call takes memory.
 #[derive(Drop)]
 pub struct PhraseScorer<'a, P> {
     terms: TermPlaces<P>,

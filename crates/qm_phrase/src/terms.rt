@@ -1,7 +1,7 @@
 //! The terms of a phrase: the postings of each, and beside them buffers for positions. They need not
 //! stand anywhere between two calls.
 
-ghost use Rattle.std.specs.Prelude.{◌≡◌, ℕ, ◌-◌, ◌<◌, ◌≤◌, All, IfOk, IfSome, length, map, min, vec_capacity};
+ghost use Rattle.std.specs.Prelude.{◌≡◌, ℕ, ◌-◌, ◌<◌, ◌≤◌, All, IfOk, IfSome, length, map, min, take, vec_capacity};
 ghost use Rattle.qm_docset.specs.Entry.{head_document, head_positions};
 ghost use Rattle.qm_docset.specs.Lists.{bounds, lists};
 ghost use Rattle.qm_phrase.specs.PhraseTerms.{lists_given, members_of, offsets_of, terms_given};
@@ -78,7 +78,8 @@ impl<P: Postings> TermPlaces<P> {
         count_starts(&mut self.rows, &self.positions, slop, most)
     }
 
-    // The same where there are two terms, whose members lend their positions.
+    // The same, or none, by the first two terms, where their members lend positions: two terms have no more starts,
+    // and where the first two have none, all have none.
     fn count_lent(&mut self, slop: u32, most: u32) -> Option<u32>
         requires valid { AreTerms P.DocSet self.old }
         requires here { AreHere P.DocSet self.old }
@@ -86,11 +87,17 @@ impl<P: Postings> TermPlaces<P> {
         ensures kept { AreKept P.DocSet self.old self.new }
         ensures here { AreHere P.DocSet self.new }
     {
-        if self.rows.len() != 2 {
+        if self.rows.len() < 2 {
             return None;
         }
         self.find_places();
-        self.count_both(slop, most)
+        if self.rows.len() == 2 {
+            return self.count_both(slop, most);
+        }
+        match self.count_both(slop, 1)? {
+            0 => Some(0),
+            _ => None,
+        }
     }
 
     // Lets every member find its positions in the document that all of them stand on.
@@ -103,12 +110,13 @@ impl<P: Postings> TermPlaces<P> {
         find_each(&mut self.members);
     }
 
-    // The number of starts of two terms, or `most` where there are more, where both members lend their positions.
+    // The number of starts of the first two terms alone, or `most` where there are more, where both members lend
+    // their positions.
     fn count_both(&self, slop: u32, most: u32) -> Option<u32>
         requires valid { AreTerms P.DocSet self.now }
         requires here { AreHere P.DocSet self.now }
-        requires two { length self.now.rows.items ≡ 2 }
-        ensures { IfSome result (λ count. count ≡ min most (starts slop (sets_here P.DocSet self.now))) }
+        requires two { 2 ≤ length self.now.rows.items }
+        ensures { IfSome result (λ count. count ≡ min most (starts slop (take 2 (sets_here P.DocSet self.now)))) }
     {
         let (first, second) = (&self.rows[0], &self.rows[1]);
         let positions = self.members[first.member].lent_positions()?;
