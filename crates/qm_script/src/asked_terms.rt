@@ -61,12 +61,14 @@ fn push_asked(
             words,
         } => push_prefix(alloc, words.as_slice(), *max_expansions, segments, terms),
         SpelledQuery::Boolean { clauses, .. } => {
+            // what the clauses before this one ask for is there
             for (_, inner) in clauses {
                 push_asked(alloc, inner, segments, terms)?;
             }
             Ok(())
         }
         SpelledQuery::DisjunctionMax { disjuncts, .. } => {
+            // the same of the queries before this one
             for inner in disjuncts {
                 push_asked(alloc, inner, segments, terms)?;
             }

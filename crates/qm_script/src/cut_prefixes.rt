@@ -25,6 +25,7 @@ pub fn has_cut(query: &SpelledQuery, segments: &[SegmentReader]) -> bool
             words,
         } => is_cut(words.as_slice(), *max_expansions, segments),
         SpelledQuery::Boolean { clauses, .. } => {
+            // none before this one has such a prefix
             for (_, inner) in clauses {
                 if has_cut(inner, segments) {
                     return true;
@@ -33,6 +34,7 @@ pub fn has_cut(query: &SpelledQuery, segments: &[SegmentReader]) -> bool
             false
         }
         SpelledQuery::DisjunctionMax { disjuncts, .. } => {
+            // none before this one has such a prefix
             for inner in disjuncts {
                 if has_cut(inner, segments) {
                     return true;

@@ -59,6 +59,7 @@ impl Lines {
             (λ bs. OnOk result (pending self.new (R.remaining input.new) ≡ Some (drop_through 10 bs))) }
     {
         line.clear();
+        // the line has what came before its end, and nothing behind it was taken
         for _ in 0..u64::MAX {
             if !self.fill(input)? {
                 return Ok(!line.is_empty());
@@ -110,6 +111,7 @@ impl Lines {
         if self.start < self.end {
             return Ok(true);
         }
+        // nothing was read: each read so far was interrupted
         for _ in 0..u64::MAX {
             if self.ended {
                 return Ok(false);

@@ -38,6 +38,7 @@ pub fn build_query(alloc: Global, spelled: &SpelledQuery) -> Result<AnyQuery, Qu
         } => build_phrase_prefix(alloc, *max_expansions, words.as_slice()),
         SpelledQuery::Boolean { minimum, clauses } => {
             let mut built = Vec::with_capacity(alloc, clauses.len())?;
+            // the clauses before this one are built
             for (occur, inner) in clauses {
                 let query = build_query(alloc, inner)?;
                 built.push((*occur, Box::new(alloc, query)?))?;
@@ -57,6 +58,7 @@ pub fn build_query(alloc: Global, spelled: &SpelledQuery) -> Result<AnyQuery, Qu
             disjuncts,
         } => {
             let mut built = Vec::with_capacity(alloc, disjuncts.len())?;
+            // the queries before this one are built
             for inner in disjuncts {
                 let query = build_query(alloc, inner)?;
                 built.push(Box::new(alloc, query)?)?;

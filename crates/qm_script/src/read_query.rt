@@ -116,6 +116,7 @@ fn read_clauses(
     ensures { Reads (λ v. map clause_of v.items) result (words_left words.new) (many_at (clause_at (query_at depth)) count (words_left words.old)) }
 {
     let mut clauses = Vec::new(alloc);
+    // the clauses before this one are read
     for _ in 0..count {
         let clause = read_clause(alloc, words, depth)?;
         clauses.push(clause)?;
@@ -186,6 +187,7 @@ fn read_disjuncts(
     ensures { Reads (λ v. map query_of v.items) result (words_left words.new) (many_at (query_at depth) count (words_left words.old)) }
 {
     let mut disjuncts = Vec::new(alloc);
+    // the queries before this one are read
     for _ in 0..count {
         let query = read_query(alloc, words, depth)?;
         disjuncts.push(query)?;

@@ -139,6 +139,7 @@ fn answer_lines<R: Read, W: Write>(
         return Err(RunError::Memory);
     };
     let mut status = 0;
+    // the lines before this one are answered, and their worst status is known
     for number in 1..u64::MAX {
         // what was answered appears before more input is waited for
         if !lines.has_line() {

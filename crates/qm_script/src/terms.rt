@@ -32,6 +32,7 @@ pub(crate) fn word_terms(alloc: Global, words: &[String]) -> Result<Vec<Term>, Q
     ensures refused { IsOkUnless result QueryError.Memory }
 {
     let mut terms = Vec::with_capacity(alloc, words.len())?;
+    // the words before this one are terms
     for word in words {
         terms.push(word_term(alloc, word.as_str())?)?;
     }

@@ -16,6 +16,7 @@ pub(crate) fn cut_words<'a>(alloc: Global, line: &'a str) -> Result<Vec<&'a str>
     ensures { IfOk result (λ words. map (λ w. w.now) words.items ≡ line_words line.now) }
 {
     let mut words = Vec::with_capacity(alloc, 64)?;
+    // the words of the pieces before this one are there
     for piece in line.split(' ') {
         for word in piece.split('\t') {
             if !word.is_empty() {
@@ -126,6 +127,7 @@ impl<'a> Words<'a> {
         ensures { Reads (λ v. texts v.items) result (words_left self.new) (many_at word_at count (words_left self.old)) }
     {
         let mut texts = Vec::new(alloc);
+        // the words before this one are there
         for _ in 0..count {
             texts.push(self.text(alloc)?)?;
         }
@@ -139,6 +141,7 @@ impl<'a> Words<'a> {
         ensures refused { IsOkUnless result Unparsed.Memory }
     {
         let mut text = String::new(alloc);
+        // the text has the words before this one
         for at in self.at..self.words.len() {
             text.push_str(self.words[at])?;
             text.push(' ')?;
