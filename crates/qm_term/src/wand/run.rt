@@ -115,9 +115,9 @@ impl<'a, C: BoundedBySum> WandRun<'a, C> {
 
 /// Runs over what the scorers have left: calls `callback` for each document that scores above the
 /// threshold, ascending, with what the combiner makes of its scores; its answer is the threshold from
-/// then on. It makes the calls of the plain loop, with the same thresholds, and scores only documents
-/// whose blocks' bounds add up to more than the threshold. It takes memory only before the first call: for a
-/// scorer a kilobyte and a record, and for the documents of a stretch, of which there are at most 4096, a word
+/// then on. It makes the calls of the plain loop, with the same thresholds, and counts as scored only documents
+/// whose blocks' bounds add up to more than the threshold of that moment. It takes memory only before the first call:
+/// for a scorer a kilobyte and a record, and for the documents of a stretch, of which there are at most 4096, a word
 /// and a combiner each.
 ///
 /// It goes by stretches: while the blocks that the scorers are at are bounded together by the threshold, it passes
