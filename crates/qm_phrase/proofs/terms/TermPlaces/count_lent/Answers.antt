@@ -1,5 +1,5 @@
 -- What the first two terms count, where it says what all do.
-use Rattle.std.proofs.Common.{◌≡◌, length, min, take, ap, arith, ◌∙◌}
+use Rattle.std.proofs.Common.{◌≡◌, take, ap, arith}
 use Rattle.qm_phrase.specs.Starts.{starts}
 use Rattle.qm_phrase.specs.Terms.{sets_here}
 use Rattle.qm_phrase.proofs.PairStarts.{starts-front}
