@@ -25,8 +25,8 @@ COMBINERS = ("sum", "sum", "max 0", "max 1", "max 500", "max 1000")
 WEIGHTS = (0, 1, 100, 1000, 10**12, GREATEST // 6)
 # how the documents of a segment follow one another by their lengths
 ORDERS = ("alike", "mixed", "rising")
-# more documents than the longest stretch has
-MANY = 5000
+# more documents than the longest stretch has, and the longest row over them, whose answer a program has room for
+MANY, LONGEST = 5000, 65_000
 
 
 class Run:
@@ -139,4 +139,5 @@ def by_chance(random):
 def over_stretches(given):
     """Runs that go over several stretches of documents, the longest there are among them."""
     order, length = given
-    yield from over_segment(Random(f"{order} {length}"), order, MANY, length)
+    lines = over_segment(Random(f"{order} {length}"), order, MANY, length)
+    yield from (it for it in lines if len(it) < LONGEST)
