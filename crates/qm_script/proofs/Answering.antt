@@ -9,6 +9,7 @@ use Rattle.qm_index.specs.Parts.{segments_of}
 use Rattle.qm_postings.specs.Reading.{Reader}
 use Rattle.qm_postings.specs.Restriction.{restricted}
 use Rattle.qm_postings.specs.Statistics.{Searched}
+use Rattle.qm_query.specs.EnableScoring.{is_enabled}
 use Rattle.qm_query.specs.Query.{Query}
 use Rattle.qm_query.specs.declared.any_query.AnyQuery.{AnyQuery}
 use Rattle.qm_query.specs.declared.enable_scoring.EnableScoring.{EnableScoring}
@@ -17,11 +18,11 @@ use Rattle.qm_schema.specs.Refusals.{refusal_number}
 use Rattle.qm_schema.specs.declared.error.QueryError.{QueryError}
 use Rattle.qm_schema.specs.declared.error.QueryError.TheVariants.{Memory}
 use Rattle.qm_script.specs.AllSegments.{all_listed}
-use Rattle.qm_script.specs.Answers.{AnswersQuery, IsAskedUnder, IsLineRefusal, IsListingAnswer}
+use Rattle.qm_script.specs.Answers.{AnswersQuery, IsAskedUnder, IsLineRefusal, IsListingAnswer, listed_text}
 use Rattle.qm_script.specs.Asked.{Builds, asked}
 use Rattle.qm_script.specs.BestListed.{alive_listed_from, scored_item}
 use Rattle.qm_script.specs.Counts.{alive_count}
-use Rattle.qm_script.specs.Found.{found_above, found_above_in_parts, found_alive, found_best, found_from}
+use Rattle.qm_script.specs.Found.{found_above, found_above_in_parts, found_alive, found_best, found_from, found_matches}
 use Rattle.qm_script.specs.Narrowed.{AreNarrowed, narrowed}
 use Rattle.qm_script.specs.PrefixFree.{all_prefixes}
 use Rattle.qm_script.specs.ProgramNumbers.{ungiven_weight}
@@ -149,12 +150,18 @@ module _ (enable : EnableScoring Searched) (s : Script) (q : language.Query) (qu
   names-all : (are : AreNarrowed q s readers) → AllName own are.wanted (all_segments s)
   names-all are = all-named are.wanted enable q query built (all_segments s) are.asked
 
-  pub parts-same : (scored : Bool) → Serve q s readers → all_listed scored own (segments_of readers) ≡ all_listed scored own (all_segments s)
+  parts-same : (scored : Bool) → Serve q s readers → all_listed scored own (segments_of readers) ≡ all_listed scored own (all_segments s)
   parts-same scored (inl one) = listed-one_part own scored s readers one
   parts-same scored (inr (inl are)) = listed-segments own scored s readers are.searched (all-expanded are)
   parts-same scored (inr (inr are)) =
       listed-one_part own scored (narrowed are.wanted s) readers are.merged
       ∙ ap (all_listed scored own) (narrowed-all are.wanted s) ∙ listed-narrowed own are.wanted (all_segments s) (names-all are) scored
+
+  pub matches-written : (slice : List Reader) (text : List ℕ) (r : Result (Unit {0}) QueryError) → Serve q s readers → slice ≡ readers →
+      OnOk r (IsListing (found_matches enable query (segments_of slice)) text) → OnOk r (text ≡ listed_text enable s query)
+  matches-written slice text r serve same lists =
+      listing-written (found_matches enable query (segments_of slice)) text (listed_text enable s query) r
+      (ap (λ rs. listing_text (found_matches enable query (segments_of rs))) same ∙ ap listing_text (parts-same (is_enabled enable) serve)) lists
 
   -- a pruned run
   pub above-same : (threshold : ℤ) (ended : ℕ) → length (all_segments s) ≡ ended + 1 → Serve q s readers →

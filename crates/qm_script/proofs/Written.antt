@@ -16,6 +16,11 @@ pub on_ok : {T E P : Type 0} (r : Result T E) → (IsOk r → P) → OnOk r P
 on_ok (Ok x) holds = holds refl
 on_ok (Err e) holds = tt
 
+-- what follows where a call succeeds
+pub on_ok_then : {T E P Q : Type 0} (r : Result T E) → OnOk r P → (P → Q) → OnOk r Q
+on_ok_then (Ok x) holds then = then holds
+on_ok_then (Err e) holds then = tt
+
 abbrev pub Out : Type 0
 Out = Formatter (String Global)
 

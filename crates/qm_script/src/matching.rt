@@ -1,6 +1,6 @@
 //! The documents that a query matches in all segments, written one after another.
 
-ghost use Rattle.std.specs.Prelude.{◌≡◌, ◌≤◌, ◌*◌, [], IfErr, IsTrue, OnOk, false, length, map, string_bytes, true};
+ghost use Rattle.std.specs.Prelude.{◌≡◌, ◌≤◌, ◌*◌, ◌+◌, ◌∷◌, [], IfErr, Some, IsTrue, OnOk, false, length, map, string_bytes, true};
 ghost use Rattle.qm_docset.specs.declared.numbers.TheConstants.{TERMINATED};
 ghost use Rattle.qm_query.specs.Query.{query_of};
 ghost use Rattle.qm_script.specs.AllSegments.{all_listed, listed};
@@ -105,7 +105,10 @@ fn list_scored(
     weight.for_each(
         alloc,
         segment,
-        &mut |document, score| listing.add_score(document, score),
+        &mut |document, score|
+            ensures first { listing.exit.now.first ≡ listing.entry.now.first }
+            ensures listed { ListsMore ((listing.entry.now.first + document, Some score) ∷ []) listing.entry.now listing.exit.now }
+        { listing.add_score(document, score) },
     )
 }
 

@@ -29,7 +29,7 @@ returns-in_ok-narrowed-in-Ok-clause-answer c =
     let query = built_query c.in-Ok.query in
     let text = string_bytes c.write_asked-written.new.text in
     let result = c.write_asked-written.result in
-    let kept : state c.build_segments.new.corpus ≡ state c.args.corpus.now =
+    let kept : state c.build_segments.new.self ≡ state c.args.corpus.now =
     λ i. record { documents = c.build_segments.ensures.script i; weights = (c.build_segments.ensures.weights i).weights } in
     let made = subst (λ s. WritesAsked question query s result text) kept c.write_asked-written.ensures in (
       made.enable,

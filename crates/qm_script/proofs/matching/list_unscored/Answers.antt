@@ -1,7 +1,6 @@
 -- What was listed, and the slices that are still to come, are all documents that the weight lists, unless memory was refused.
-use Rattle.std.proofs.Common.{◌≡◌, ◌++◌, [], ℕ, List, append_assoc, append-nil, ap, sym, ◌∙◌, refl, rules, map, subst}
+use Rattle.std.proofs.Common.{◌≡◌, ◌++◌, [], ℕ, List, append_assoc, append-nil, ap, false, sym, ◌∙◌, refl, rules, map, subst}
 use Rattle.std.specs.List.{concat}
-use Rattle.std.proofs.lemmas.Result.{on_ok_weaker}
 use Rattle.qm_script.specs.AllSegments.{listed}
 use Rattle.qm_script.specs.Text.{numbered}
 use Rattle.qm_script.specs.Written.{ListsSoFar}
@@ -12,13 +11,14 @@ use Rattle.qm_weight.specs.Weights.{tree_of}
 use Rattle.qm_weight.specs.CallerFacts.{concat-tree_slices}
 use Rattle.qm_script.proofs.ListedSegments.{documents-listed, plain_item}
 use Rattle.qm_script.proofs.ListingTexts.{listing-append}
+use Rattle.qm_script.proofs.Written.{on_ok_then}
 use Rattle.qm_script.proofs.matching.list_unscored.Goals as goal
 
 pub for_each_no_score-requires : goal.for_each_no_score-requires
 for_each_no_score-requires c = record { allowed = search (rules, MayCallEach-always) }
 
 pub returns-clause-listed : goal.returns-clause-listed
-returns-clause-listed c = on_ok_weaker c.for_each_no_score.result (λ run. λ items is.
+returns-clause-listed c = on_ok_then c.for_each_no_score.result c.for_each_no_score.ensures.calls (λ run. λ items is.
     let n = c.args.listing.now.first in
     let s = c.args.segment.now.segment in
     let tree = tree_of c.args.weight.now in
@@ -34,7 +34,7 @@ returns-clause-listed c = on_ok_weaker c.for_each_no_score.result (λ run. λ it
       (
         so_far.0 ++ slice,
         subst (λ l. ListsSoFar l h.0.now) (ap (λ k. (items ++ numbered n (map plain_item so_far.0)) ++ numbered k (map plain_item slice)) now.1
-        ∙ listing-append plain_item items n so_far.0 slice) more,
+            ∙ listing-append plain_item items n so_far.0 slice) more,
         append_assoc so_far.0 slice (concat left) ∙ so_far.2,
       ),
       first ∙ now.1,
@@ -50,4 +50,4 @@ returns-clause-listed c = on_ok_weaker c.for_each_no_score.result (λ run. λ it
     let all : ListsSoFar (items ++ listed false tree n s) callback.0.now =
     subst (λ l. ListsSoFar (items ++ l) callback.0.now) (documents-listed tree n s done.0 (sym (append-nil done.0) ∙ done.2)) done.1 in
     let same = kept.2 in
-    search (rules, all)) c.for_each_no_score.ensures.calls
+    search (rules, all))

@@ -32,8 +32,8 @@ loop-part-preserved c =
         so_far.0 ++ here,
         λ items is. subst (λ l. ListsSoFar l c.list_run.new.listing)
             (ap (λ n. (items ++ so_far.0) ++ rising threshold (listed true tree n item.segment)) begun ∙ append_assoc items so_far.0 here)
-            (told.called (items ++ so_far.0) (c.begin_segment.ensures.kept (items ++ so_far.0) (so_far.1 items is))),
-        ap (λ t. (so_far.0 ++ here) ++ parts_pruned t tree (first + c.from-next.result) (map (λ r. r.segment) (drop (i + 1) readers))) (same ∙ told.left_is ∙ ap (λ n. threshold_after threshold (rising threshold (listed true tree n item.segment))) begun)
+            (told.run.called (items ++ so_far.0) (c.begin_segment.ensures.kept (items ++ so_far.0) (so_far.1 items is))),
+        ap (λ t. (so_far.0 ++ here) ++ parts_pruned t tree (first + c.from-next.result) (map (λ r. r.segment) (drop (i + 1) readers))) (same ∙ told.run.left_is ∙ ap (λ n. threshold_after threshold (rising threshold (listed true tree n item.segment))) begun)
             ∙ part-next threshold tree readers i item c.loop-part-test.true c.part-item.is so_far.0
             (parts_pruned (to_z w64 (of_z w64 c.args.threshold)) tree c.args.first (map (λ r. r.segment) readers)) first c.from-next.result number so_far.2,
       );

@@ -1,6 +1,7 @@
 -- What was listed, and what the run will still call for, is all that it calls for; the last score that it called for is the
 -- threshold that it leaves.
 use Rattle.std.proofs.Common.{◌≡◌, ◌++◌, ◌∷◌, [], ◌+◌, ℕ, ℤ, List, Option, Some, true, ap, append-nil, append_assoc, map, of_z, pos, refl, rules, subst, sym, to_z, w64, ◌∙◌}
+use mir.Val.{SFits}
 use mir.ValLaws.{to_z-of_z}
 use Rattle.std.proofs.lemmas.Int.{by_lt_z}
 use Rattle.qm_docset.specs.Entry.{Entry}
@@ -26,9 +27,10 @@ returns-clause-run c =
     let tree = tree_of c.args.weight.now in
     let begun = to_z w64 (of_z w64 c.args.threshold) in
     let all = rising begun (numbered n (map entry_item es)) in
+    let same = to_z-of_z w64 c.args.threshold c.ranges.threshold in
     let kept = Plain-keeps _ (λ first bar f left. ((done : List (ℕ × Option ℤ)) × ((items : List (ℕ × Option ℤ)) → ListsSoFar items old →
     ListsSoFar (items ++ done) f.0.now) × (done ++ rising bar (numbered n (map entry_item left)) ≡ all) × (threshold_after begun done ≡ bar))
-    × (f.0.now.first ≡ n) × (f.1.now ≡ bar) × (f.0.ghost_name ≡ first.0.ghost_name) × (f.1.ghost_name ≡ first.1.ghost_name)) _
+    × (f.0.now.first ≡ n) × (f.1.now ≡ bar) × SFits w64 f.1.now × (f.0.ghost_name ≡ first.0.ghost_name) × (f.1.ghost_name ≡ first.1.ghost_name)) _
     (λ bar after f h e left now turn. by_lt_z bar (pos e.score)
     (λ above.
     let made = turn.called above in
@@ -52,8 +54,9 @@ returns-clause-run c =
       ),
       first ∙ now.1,
       stored ∙ sym answer,
-      same ∙ now.3,
-      same_left ∙ now.4,
+      subst (λ z. SFits w64 z) (answer ∙ sym stored) made.0,
+      same ∙ now.4,
+      same_left ∙ now.5,
     ))
     (λ low.
     let kept = turn.same_callback low in
@@ -68,21 +71,28 @@ returns-clause-run c =
       ),
       ap (λ k. k.0.now.first) kept ∙ now.1,
       ap (λ k. k.1.now) kept ∙ now.2 ∙ sym bars,
-      ap (λ k. k.0.ghost_name) kept ∙ now.3,
-      ap (λ k. k.1.ghost_name) kept ∙ now.4,
+      subst (λ k. SFits w64 k.1.now) (sym kept) now.3,
+      ap (λ k. k.0.ghost_name) kept ∙ now.4,
+      ap (λ k. k.1.ghost_name) kept ∙ now.5,
     )))
-    es run.2 _ run.3 _ (([], λ items is. subst (λ t. ListsSoFar t old) (sym (append-nil items)) is, refl, refl), refl, refl, refl, refl) run.4 in
+    es run.2 _ run.3 _ (
+      ([], λ items is. subst (λ t. ListsSoFar t old) (sym (append-nil items)) is, refl, refl),
+      refl,
+      refl,
+      subst (λ z. SFits w64 z) (sym same) c.ranges.threshold,
+      refl,
+      refl,
+    ) run.4 in
     let callback = c.for_each_pruning.new.callback in
     let done = kept.0 in
-    let same = to_z-of_z w64 c.args.threshold c.ranges.threshold in
     let found : done.0 ≡ rising c.args.threshold (listed true tree n s) =
     sym (append-nil done.0) ∙ done.2 ∙ ap (λ t. rising t (numbered n (map entry_item es))) same
     ∙ ap (λ l. rising c.args.threshold (numbered n (map entry_item l))) (run.1.scores c.requires.scoring)
     ∙ ap (rising c.args.threshold) (entries-listed tree n s) in
     let called : (items : List (ℕ × Option ℤ)) → ListsSoFar items old → ListsSoFar (items ++ rising c.args.threshold (listed true tree n s)) callback.0.now =
     λ items is. subst (λ l. ListsSoFar (items ++ l) callback.0.now) found (done.1 items is) in
-    let left : callback.1.now ≡ threshold_after c.args.threshold (rising c.args.threshold (listed true tree n s)) =
-    kept.2 ∙ sym done.3 ∙ ap (λ t. threshold_after t done.0) same ∙ ap (threshold_after c.args.threshold) found in
-    let names = kept.3 in
-    let names_left = kept.4 in
-    ?
+    let left : to_z w64 (of_z w64 callback.1.now) ≡ threshold_after c.args.threshold (rising c.args.threshold (listed true tree n s)) =
+    to_z-of_z w64 callback.1.now kept.3 ∙ kept.2 ∙ sym done.3 ∙ ap (λ t. threshold_after t done.0) same ∙ ap (threshold_after c.args.threshold) found in
+    let names = kept.4 in
+    let names_left = kept.5 in
+    record { called = λ items is. search (rules, called items is); left_is = search (rules, left) }

@@ -23,7 +23,7 @@ loop-segment-preserved c =
       listed = (
         so_far.0 ++ found,
         subst (λ n. ListsSoFar (so_far.0 ++ rising threshold (listed true tree n item.segment)) c.list_run.new.listing) c.begin_segment.ensures.first
-            (c.in_ok-list_run.ensures.called so_far.0 (c.begin_segment.ensures.kept so_far.0 so_far.1)),
+            (c.in_ok-list_run.ensures.run.called so_far.0 (c.begin_segment.ensures.kept so_far.0 so_far.1)),
         pruned-next threshold tree readers i item c.loop-segment-test.true
             c.segment-item.is so_far.0 (all_pruned threshold tree (map (λ r. r.segment) readers)) first c.from-first.result number so_far.2,
       );
