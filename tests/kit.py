@@ -92,12 +92,6 @@ def crates_of(root):
     return known
 
 
-def keeps_proofs():
-    """Whether `rt ci` keeps what it proved for later runs on the machine."""
-    ran = subprocess.run(["rt", "help"], check=False, capture_output=True, text=True)
-    return "is kept beside the kit" in ran.stdout + ran.stderr
-
-
 def version():
     return subprocess.run(["rt", "version"], capture_output=True, text=True, check=True).stdout.strip()
 
