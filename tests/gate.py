@@ -12,14 +12,15 @@ it, at the lowest priority, so that proofs wait for nothing: those whose refusal
 (refused_before.py).
 
 What is played needs programs that are proved, or none: PLAYED says which. Each part begins once these are there, one
-beside the proofs and two behind them, and what it prints stays together. tests/refusal_rows.py has rows of what counts
-as refused. tests/refused_calls.py looks whether each public call has its rows under refused memory, tests/cases.py plays
-the cases, tests/format_runs.py holds two plain readings of docs/FORMAT.md against each other, tests/program_runs.py and
-tests/birch_runs.py run the programs `qm_search` and `birch`, tests/library_runs.py calls the library from C, Rust and
-Python, tests/distributed_runs.py holds it in several processes and hosts, and tests/bench_runs.py runs the bench over a
-few documents. What docs/ has of specs/, of crates.txt and of limits is compared with these, its sentences are looked
-through, a repository of one's own takes a crate, the API pages are made and looked through, the commands that the
-documents show are run, and tests/installed_runs.py installs `birch`.
+beside the proofs, where memory has room for it, and two behind them; what it prints stays together.
+tests/refusal_rows.py has rows of what counts as refused. tests/refused_calls.py looks whether each public call has its
+rows under refused memory, tests/cases.py plays the cases, tests/format_runs.py holds two plain readings of
+docs/FORMAT.md against each other, tests/program_runs.py and tests/birch_runs.py run the programs `qm_search` and
+`birch`, tests/library_runs.py calls the library from C, Rust and Python, tests/distributed_runs.py holds it in several
+processes and hosts, and tests/bench_runs.py runs the bench over a few documents. What docs/ has of specs/, of
+crates.txt and of limits is compared with these, its sentences are looked through, a repository of one's own takes a
+crate, the API pages are made and looked through, the commands that the documents show are run, and
+tests/installed_runs.py installs `birch`.
 
 At last two tables say how many minutes each crate and each stage took, for docs/TESTS.md. The last line counts what
 passed; the exit status is 1 where anything did not. Called by .ci/run.
@@ -94,7 +95,8 @@ PLAYED = [
     ("uses elsewhere", ["using_runs.py"], [PROVED]),
 ]
 PRINTING = threading.Lock()
-# what a proof takes at most, in bytes
+PROCESSORS = len(os.sched_getaffinity(0))
+# what a proof takes at most, and a part of what is played, in bytes
 PROOF = 4_000_000_000
 
 
@@ -215,11 +217,15 @@ def last_crates(known):
     return {*sizes} - {max(sizes, key=sizes.get)}
 
 
+def has_room(parts):
+    """Whether there is memory for so many proofs at once."""
+    return wrong_bodies.free_memory() >= PROOF * parts
+
+
 def how_many():
     """The words before `rt ci` by which it uses all processors, where there is memory for a proof on each: it reckons with
     thrice what one takes, and leaves processors idle beside large crates."""
-    count = len(os.sched_getaffinity(0))
-    return ["env", f"RT_JOBS={count}"] if wrong_bodies.free_memory() >= PROOF * count else []
+    return ["env", f"RT_JOBS={PROCESSORS}"] if has_room(PROCESSORS) else []
 
 
 def main():
@@ -227,11 +233,11 @@ def main():
     # two crates' wrong bodies beside the proofs, which leaves memory for these; and what is played
     with ThreadPoolExecutor(2) as pool, ThreadPoolExecutor(2) as players:
         proofs = Proofs(pool, playing)
-        played = [players.submit(playing.play)]
+        played = [players.submit(playing.play)] if has_room(PROCESSORS + 1) else []
         proofs.run()
         if proofs.stage.is_well:
             playing.tell(PROVED)
-            played.append(players.submit(playing.play))
+            played += [players.submit(playing.play) for _ in range(2 - len(played))]
         else:
             # what is not proved is not built either
             playing.give_up()
