@@ -1,6 +1,6 @@
 //! The words that begin with the letters of one that was asked for so.
 
-use crate::index::{Index, held_in};
+use birch_index::{Index, held_in};
 use qm_schema::{QueryError, Term};
 use std::alloc::Global;
 use std::cmp::Reverse;

@@ -1,10 +1,10 @@
 //! Why a document scores what it does, as it is printed.
 
-use crate::index::Index;
 use crate::searched::{
     begun, build, copied, ends_of, terms_of, weight_of_beginning, whole, with_last,
 };
 use crate::stop::Stop;
+use birch_index::Index;
 use birch_text::{Clause, QueryTree, split_named};
 use birchagain::rarity;
 use qm_parser::Sign;

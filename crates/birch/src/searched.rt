@@ -1,7 +1,7 @@
 //! A query of the library, out of what a person wrote.
 
 use crate::beginnings::{MOST_WORDS, commonest_words};
-use crate::index::Index;
+use birch_index::Index;
 use birch_text::{Clause, QueryTree};
 use birchagain::rarity;
 use qm_parser::Sign;

@@ -1,7 +1,6 @@
 //! A result, as it is printed.
 
-use crate::files::{Source, read_piece};
-use crate::options::Options;
+use birch_index::{Reading, Source, read_piece};
 use birch_text::{Cleaned, EscapedJson, Form, Mark, Snippet, is_steering, snippet_of, text_at};
 use qm_store::DocumentPlace;
 use serde_json::{Value, json};
@@ -34,11 +33,11 @@ pub struct Shown<'a> {
 /// The text of a document, read again; none where its file has changed since it was read.
 pub fn text_of(
     rt: &HostRuntime,
-    options: &Options<'_>,
+    reading: &Reading<'_>,
     file: &Source,
     place: DocumentPlace,
 ) -> io::Result<Option<String>> {
-    let (alloc, form) = (rt.alloc(), options.form);
+    let (alloc, form) = (rt.alloc(), reading.form);
     let (start, len) = (place.first_byte as usize, place.byte_count as usize);
     if let Some(text) = &file.kept {
         let piece = text.as_str().get(start..start.saturating_add(len));
@@ -46,7 +45,7 @@ pub fn text_of(
         return Ok(Some(text));
     }
     let (start, len) = (u64::from(place.first_byte), u64::from(place.byte_count));
-    match read_piece(rt, options, file, start, len)? {
+    match read_piece(rt, reading, file, start, len)? {
         Some(piece) => {
             let text = text_at(alloc, form, file.column, piece.as_str())?;
             Ok(Some(text))

@@ -14,7 +14,7 @@ use crate::kept::reading::{Standing, read_standing};
 use crate::kept::renewed::renewed;
 use crate::kept::staying::Sorted;
 use crate::kept::writing::{free_number, make_folder, write};
-use crate::options::Options;
+use crate::reading::Reading;
 use crate::walk::Found;
 use qm_folder::{Changes, FoundFile, KeptFile, ascend, changes};
 use qm_postings::SegmentReader;
@@ -52,7 +52,7 @@ pub fn changes_of(
 /// then, and how many files were read.
 pub fn bring_up_to_date(
     rt: &HostRuntime,
-    options: &Options<'_>,
+    reading: &Reading<'_>,
     home: &Home,
     files: ToKeep,
     is_anew: bool,
@@ -68,7 +68,7 @@ pub fn bring_up_to_date(
         Some(old) => old,
         None => nothing(rt.alloc(), home)?,
     };
-    let updated = update_locked(rt, options, home, files, old);
+    let updated = update_locked(rt, reading, home, files, old);
     drop(held);
     updated
 }
@@ -85,7 +85,7 @@ fn nothing(alloc: Global, home: &Home) -> Result<Standing, Trouble> {
 // Reads what has changed, and writes what becomes of the index.
 fn update_locked(
     rt: &HostRuntime,
-    options: &Options<'_>,
+    reading: &Reading<'_>,
     home: &Home,
     files: ToKeep,
     old: Standing,
@@ -99,7 +99,7 @@ fn update_locked(
     let changes = changes_of(alloc, &old.catalogue.kept, &keys)?;
     let to_read = files_at(alloc, found, &changes.to_read)?;
     let read = to_read.len();
-    let (readings, gains) = read_changed(rt, options, to_read)?;
+    let (readings, gains) = read_changed(rt, reading, to_read)?;
     if is_as_before(&old, &changes, &gains) {
         return Ok((old, read));
     }
@@ -112,11 +112,11 @@ fn update_locked(
 // Reads these files, and gives what of them is to be kept.
 fn read_changed(
     rt: &HostRuntime,
-    options: &Options<'_>,
+    reading: &Reading<'_>,
     files: Vec<Found>,
 ) -> Result<(Readings, Vec<Option<Gain>>), Trouble> {
-    let mut indexer = Indexer::new(rt.alloc(), options.accents)?;
-    let gains = read_files(rt, options, &mut indexer, files)?;
+    let mut indexer = Indexer::new(rt.alloc(), reading.accents)?;
+    let gains = read_files(rt, reading, &mut indexer, files)?;
     let readings = indexer.finish()?;
     Ok((readings, gains))
 }

@@ -2,7 +2,7 @@
 
 use crate::environment::variable;
 use crate::kept::Trouble;
-use crate::options::Options;
+use crate::reading::Reading;
 use birch_text::{Accents, Form};
 use serde_json::{Value, json};
 use std::alloc::{AllocError, Global};
@@ -33,15 +33,15 @@ impl Home {
 
 /// Where the index of these paths is kept: the folder's name is a digest of what the index is of, so that one is not
 /// taken for another.
-pub fn home_of(rt: &HostRuntime, options: &Options<'_>, paths: &[&str]) -> Result<Home, Trouble> {
+pub fn home_of(rt: &HostRuntime, reading: &Reading<'_>, paths: &[&str]) -> Result<Home, Trouble> {
     if paths.contains(&"-") {
         return Err(Trouble::Stream);
     }
-    let asked = asked_of(rt, options, paths)?;
+    let asked = asked_of(rt, reading, paths)?;
     let mut hasher = DefaultHasher::new();
     hasher.write(asked.as_bytes());
     let digest = hasher.finish();
-    let base = folder_of_all(rt, options)?;
+    let base = folder_of_all(rt, reading)?;
     let folder = format!(in rt.alloc(); "{base}/{digest:016x}")?;
     Ok(Home { folder, asked })
 }
@@ -49,9 +49,9 @@ pub fn home_of(rt: &HostRuntime, options: &Options<'_>, paths: &[&str]) -> Resul
 /// The folder of all indexes from the root on, without links; none where it isn't there.
 pub fn folder_of_indexes(
     rt: &HostRuntime,
-    options: &Options<'_>,
+    reading: &Reading<'_>,
 ) -> Result<Option<String>, AllocError> {
-    let whole = folder_of_all(rt, options).and_then(|folder| whole_path(rt, folder.as_str()));
+    let whole = folder_of_all(rt, reading).and_then(|folder| whole_path(rt, folder.as_str()));
     match whole {
         Ok(folder) => Ok(Some(folder)),
         Err(Trouble::Stopped(_)) => Err(AllocError),
@@ -60,9 +60,9 @@ pub fn folder_of_indexes(
 }
 
 // The folder of all indexes.
-fn folder_of_all(rt: &HostRuntime, options: &Options<'_>) -> Result<String, Trouble> {
+fn folder_of_all(rt: &HostRuntime, reading: &Reading<'_>) -> Result<String, Trouble> {
     let alloc = rt.alloc();
-    if let Some(folder) = options.index_folder {
+    if let Some(folder) = reading.index_folder {
         return Ok(String::from_str(alloc, folder)?);
     }
     if let Some(cache) = variable(rt, "XDG_CACHE_HOME")? {
@@ -78,19 +78,19 @@ fn folder_of_all(rt: &HostRuntime, options: &Options<'_>) -> Result<String, Trou
 }
 
 // What an index is of, as a line of JSON.
-fn asked_of(rt: &HostRuntime, options: &Options<'_>, paths: &[&str]) -> Result<String, Trouble> {
+fn asked_of(rt: &HostRuntime, reading: &Reading<'_>, paths: &[&str]) -> Result<String, Trouble> {
     let alloc = rt.alloc();
-    let (form, part) = form_of(options.form);
+    let (form, part) = form_of(reading.form);
     let mut whole = Vec::with_capacity(alloc, paths.len())?;
     for path in paths {
         let path = whole_path(rt, path)?;
         whole.push(text_value(alloc, path.as_str())?)?;
     }
     let paths = Value::Array(whole);
-    let globs = text_values(alloc, &options.globs)?;
-    let types = text_values(alloc, &options.types)?;
-    let (hidden, ignored, most) = (options.has_hidden, options.has_ignored, options.max_size);
-    let accents = options.accents == Accents::Kept;
+    let globs = text_values(alloc, &reading.globs)?;
+    let types = text_values(alloc, &reading.types)?;
+    let (hidden, ignored, most) = (reading.has_hidden, reading.has_ignored, reading.max_size);
+    let accents = reading.accents == Accents::Kept;
     let asked = json!(in alloc; {
         "way": WAY, "form": form, "part": part, "accents": accents, "hidden": hidden, "ignored": ignored,
         "most": most, "globs": globs, "types": types, "paths": paths

@@ -1,7 +1,7 @@
 //! What stands in files.
 
 use crate::left_out::LeftOut;
-use crate::options::Options;
+use crate::reading::Reading;
 use crate::stamps::stamp_of;
 use birch_text::{Decoded, decode};
 use qm_folder::FileStamp;
@@ -52,17 +52,17 @@ pub enum Contents {
 /// The text of a file.
 pub fn read_text(
     rt: &HostRuntime,
-    options: &Options<'_>,
+    reading: &Reading<'_>,
     path: &str,
 ) -> Result<Contents, AllocError> {
-    let (bytes, stamp) = match read_bytes(rt, path, options.max_size) {
+    let (bytes, stamp) = match read_bytes(rt, path, reading.max_size) {
         Ok(read) => read,
         Err(error) => {
-            options.notes.add_error(rt, options, path, &error)?;
+            reading.notes.add_error(rt, reading, path, &error)?;
             return Ok(Contents::Unread);
         }
     };
-    if bytes.len() as u64 > options.max_size {
+    if bytes.len() as u64 > reading.max_size {
         return Ok(Contents::LeftOut(LeftOut::TooLarge));
     }
     let (text, is_converted) = match decode(rt.alloc(), bytes)? {
@@ -104,13 +104,13 @@ pub fn read_bytes(
 /// isn't a text any more is an error.
 pub fn read_piece(
     rt: &HostRuntime,
-    options: &Options<'_>,
+    reading: &Reading<'_>,
     file: &Source,
     start: u64,
     len: u64,
 ) -> io::Result<Option<String>> {
     if file.is_converted {
-        return converted_piece(rt, options, file, start, len);
+        return converted_piece(rt, reading, file, start, len);
     }
     let mut bytes = Vec::new(rt.alloc());
     let mut opened: File = fs::open(rt, file.path.as_str())?;
@@ -131,13 +131,13 @@ pub fn read_piece(
 // whole alone.
 fn converted_piece(
     rt: &HostRuntime,
-    options: &Options<'_>,
+    reading: &Reading<'_>,
     file: &Source,
     start: u64,
     len: u64,
 ) -> io::Result<Option<String>> {
     let alloc = rt.alloc();
-    let (bytes, stamp) = read_bytes(rt, file.path.as_str(), options.max_size)?;
+    let (bytes, stamp) = read_bytes(rt, file.path.as_str(), reading.max_size)?;
     if stamp != file.stamp {
         return Ok(None);
     }

@@ -1,6 +1,6 @@
 //! What is left out of a search, and how that is told.
 
-use crate::options::Options;
+use crate::reading::Reading;
 use birch_text::Cleaned;
 use std::alloc::AllocError;
 use std::cell::Cell;
@@ -105,14 +105,14 @@ impl Notes {
     pub fn add_error(
         &self,
         rt: &HostRuntime,
-        options: &Options<'_>,
+        reading: &Reading<'_>,
         path: &str,
         error: &io::Error,
     ) -> Result<(), AllocError> {
         if error.kind() == io::ErrorKind::OutOfMemory {
             return Err(AllocError);
         }
-        let is_given = options.paths.iter().any(|given| *given == path);
+        let is_given = reading.paths.iter().any(|given| *given == path);
         if is_given {
             self.has_failed.set(true);
         } else if error.kind() == io::ErrorKind::InvalidFilename {

@@ -3,7 +3,7 @@
 use crate::ignoring::Ignoring;
 use crate::kept::folder_of_indexes;
 use crate::left_out::LeftOut;
-use crate::options::Options;
+use crate::reading::Reading;
 use crate::stamps::stamp_of;
 use birch_text::{Sense, is_of_type};
 use qm_folder::FileStamp;
@@ -36,20 +36,20 @@ pub struct Found {
 /// noted.
 pub fn find_files(
     rt: &HostRuntime,
-    options: &Options<'_>,
+    reading: &Reading<'_>,
     paths: &[&str],
 ) -> Result<Vec<Found>, AllocError> {
-    options.notes.begin();
+    reading.notes.begin();
     let alloc = rt.alloc();
     let mut files = Vec::new(alloc);
-    let mut walk = Walk::new(rt, options, paths)?;
+    let mut walk = Walk::new(rt, reading, paths)?;
     for _ in 0..u64::MAX {
         let Some(next) = walk.next_path() else {
             break;
         };
-        let (stamp, is_stream) = match look(rt, options, &next)? {
+        let (stamp, is_stream) = match look(rt, reading, &next)? {
             At::Folder => {
-                walk.enter(rt, options, &next)?;
+                walk.enter(rt, reading, &next)?;
                 continue;
             }
             At::File(stamp) => (stamp, false),
@@ -130,7 +130,7 @@ struct Walk {
 
 impl Walk {
     // Begins with these paths.
-    fn new(rt: &HostRuntime, options: &Options<'_>, paths: &[&str]) -> Result<Walk, AllocError> {
+    fn new(rt: &HostRuntime, reading: &Reading<'_>, paths: &[&str]) -> Result<Walk, AllocError> {
         let alloc = rt.alloc();
         let mut left = Vec::new(alloc);
         for (number, path) in paths.iter().enumerate().rev() {
@@ -145,7 +145,7 @@ impl Walk {
         Ok(Walk {
             left,
             ignoring: Ignoring::new(alloc),
-            indexes: folder_of_indexes(rt, options)?,
+            indexes: folder_of_indexes(rt, reading)?,
         })
     }
 
@@ -174,22 +174,22 @@ impl Walk {
     fn enter(
         &mut self,
         rt: &HostRuntime,
-        options: &Options<'_>,
+        reading: &Reading<'_>,
         folder: &Waiting,
     ) -> Result<(), AllocError> {
         let path = folder.path.as_str();
         if self.is_of_indexes(rt, path)? {
             return Ok(());
         }
-        let ignored_by = if options.has_ignored {
+        let ignored_by = if reading.has_ignored {
             None
         } else {
-            self.ignoring.enter(rt, options, path, folder.ignored_by)?
+            self.ignoring.enter(rt, reading, path, folder.ignored_by)?
         };
-        let listed = list(rt, options, folder, &self.ignoring, ignored_by);
+        let listed = list(rt, reading, folder, &self.ignoring, ignored_by);
         let mut found = match listed {
             Ok(found) => found,
-            Err(error) => return options.notes.add_error(rt, options, path, &error),
+            Err(error) => return reading.notes.add_error(rt, reading, path, &error),
         };
         found.sort_unstable_by(|one, other| own_name(one.path.as_str()).cmp(own_name(
             other.path.as_str(),
@@ -206,7 +206,7 @@ impl Walk {
 // The files and folders of a folder that are read.
 fn list(
     rt: &HostRuntime,
-    options: &Options<'_>,
+    reading: &Reading<'_>,
     folder: &Waiting,
     ignoring: &Ignoring,
     ignored_by: Option<usize>,
@@ -215,7 +215,7 @@ fn list(
     for entry in fs::read_dir(rt, folder.path.as_str())? {
         match entry {
             Ok(entry) => {
-                let next = wanted(rt, options, folder, entry.file_name())?;
+                let next = wanted(rt, reading, folder, entry.file_name())?;
                 if let Some(next) = next {
                     let is_ignored = ignoring.has(ignored_by, next.path.as_str(), next.is_folder());
                     if !is_ignored {
@@ -223,7 +223,7 @@ fn list(
                     }
                 }
             }
-            Err(error) => not_listed(rt, options, folder, &error)?,
+            Err(error) => not_listed(rt, reading, folder, &error)?,
         }
     }
     Ok(found)
@@ -232,12 +232,12 @@ fn list(
 // Notes a name of a folder that can't be told.
 fn not_listed(
     rt: &HostRuntime,
-    options: &Options<'_>,
+    reading: &Reading<'_>,
     folder: &Waiting,
     error: &io::Error,
 ) -> Result<(), AllocError> {
     let path = joined(rt.alloc(), folder.path.as_str(), "?")?;
-    options.notes.add_error(rt, options, path.as_str(), error)
+    reading.notes.add_error(rt, reading, path.as_str(), error)
 }
 
 impl Waiting {
@@ -252,18 +252,18 @@ impl Waiting {
 // A name in a folder, where it is read but for ignore files.
 fn wanted(
     rt: &HostRuntime,
-    options: &Options<'_>,
+    reading: &Reading<'_>,
     folder: &Waiting,
     name: &str,
 ) -> io::Result<Option<Waiting>> {
-    if name.starts_with('.') && !options.has_hidden {
+    if name.starts_with('.') && !reading.has_hidden {
         return Ok(None);
     }
     let path = joined(rt.alloc(), folder.path.as_str(), name)?;
     let found = match fs::symlink_metadata(rt, path.as_str()) {
         Ok(found) => found,
         Err(error) => {
-            options.notes.add_error(rt, options, path.as_str(), &error)?;
+            reading.notes.add_error(rt, reading, path.as_str(), &error)?;
             return Ok(None);
         }
     };
@@ -273,7 +273,7 @@ fn wanted(
     } else {
         path.as_str().get(folder.prefix..).unwrap_or(name)
     };
-    if !is_asked_for(options, name, below, seen) {
+    if !is_asked_for(reading, name, below, seen) {
         return Ok(None);
     }
     Ok(Some(Waiting {
@@ -285,22 +285,22 @@ fn wanted(
     }))
 }
 
-// Whether a name in a folder, by its path below the one that was given, is a folder or file that the options ask for.
-fn is_asked_for(options: &Options<'_>, name: &str, below: &str, seen: Seen) -> bool {
-    let sense = options.glob_rules.sense_of(below, seen.is_folder);
-    if seen.is_folder || !options.glob_rules.has_plain() {
+// Whether a name in a folder, by its path below the one that was given, is a folder or file that the reading ask for.
+fn is_asked_for(reading: &Reading<'_>, name: &str, below: &str, seen: Seen) -> bool {
+    let sense = reading.glob_rules.sense_of(below, seen.is_folder);
+    if seen.is_folder || !reading.glob_rules.has_plain() {
         if sense == Some(Sense::Turned) {
             return false;
         }
     } else if sense != Some(Sense::Plain) {
         return false;
     }
-    seen.is_folder || (seen.is_file && is_of_types(options, name))
+    seen.is_folder || (seen.is_file && is_of_types(reading, name))
 }
 
 // Whether a file's own name is of one of the kinds, where there are any.
-fn is_of_types(options: &Options<'_>, name: &str) -> bool {
-    options.types.is_empty() || options.types.iter().any(|kind| is_of_type(kind, name))
+fn is_of_types(reading: &Reading<'_>, name: &str) -> bool {
+    reading.types.is_empty() || reading.types.iter().any(|kind| is_of_type(kind, name))
 }
 
 // What stands at a path.
@@ -317,7 +317,7 @@ enum At {
 }
 
 // What stands at a path. What isn't read is noted.
-fn look(rt: &HostRuntime, options: &Options<'_>, next: &Waiting) -> Result<At, AllocError> {
+fn look(rt: &HostRuntime, reading: &Reading<'_>, next: &Waiting) -> Result<At, AllocError> {
     let path = next.path.as_str();
     if path == "-" {
         return Ok(At::Stream);
@@ -327,7 +327,7 @@ fn look(rt: &HostRuntime, options: &Options<'_>, next: &Waiting) -> Result<At, A
         None => match fs::metadata(rt, path) {
             Ok(found) => Seen::of(&found),
             Err(error) => {
-                options.notes.add_error(rt, options, path, &error)?;
+                reading.notes.add_error(rt, reading, path, &error)?;
                 return Ok(At::Nothing);
             }
         },
@@ -335,8 +335,8 @@ fn look(rt: &HostRuntime, options: &Options<'_>, next: &Waiting) -> Result<At, A
     if seen.is_folder {
         return Ok(At::Folder);
     }
-    if seen.stamp.size > options.max_size {
-        options.notes.add(rt, path, LeftOut::TooLarge);
+    if seen.stamp.size > reading.max_size {
+        reading.notes.add(rt, path, LeftOut::TooLarge);
         return Ok(At::Nothing);
     }
     if seen.is_file {

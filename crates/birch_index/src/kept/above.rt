@@ -11,7 +11,7 @@ use crate::kept::opening::{note_again, open};
 use crate::kept::reading::{Standing, is_there, read_standing};
 use crate::kept::updating::{bring_up_to_date, changes_of};
 use crate::kept::using::to_keep;
-use crate::options::{Keeping, Options};
+use crate::reading::{Keeping, Reading};
 use crate::walk::{find_files, joined};
 use qm_folder::{FoundFile, KeptFile};
 use std::alloc::{AllocError, Global};
@@ -31,28 +31,28 @@ struct Above {
 
 /// The index of what is searched, out of one that is kept of a folder above it, as if that had nothing else; none where
 /// there is none that has just these files.
-pub fn index_above(rt: &HostRuntime, options: &Options<'_>) -> Result<Option<Index>, Trouble> {
-    let [path] = options.paths.as_slice() else {
+pub fn index_above(rt: &HostRuntime, reading: &Reading<'_>) -> Result<Option<Index>, Trouble> {
+    let [path] = reading.paths.as_slice() else {
         return Ok(None);
     };
-    let is_asked_for = options.keeping == Keeping::Use || options.keeping == Keeping::Stale;
+    let is_asked_for = reading.keeping == Keeping::Use || reading.keeping == Keeping::Stale;
     // patterns count from what is searched
-    if !is_asked_for || !options.globs.is_empty() || !options.types.is_empty() {
+    if !is_asked_for || !reading.globs.is_empty() || !reading.types.is_empty() {
         return Ok(None);
     }
-    let Some(above) = find_above(rt, options, path)? else {
+    let Some(above) = find_above(rt, reading, path)? else {
         return Ok(None);
     };
-    if options.keeping == Keeping::Stale {
-        return as_it_stands(rt, options, &above);
+    if reading.keeping == Keeping::Stale {
+        return as_it_stands(rt, reading, &above);
     }
-    up_to_date(rt, options, &above, path)
+    up_to_date(rt, reading, &above, path)
 }
 
 // The nearest folder above a path of which an index is kept, where that leaves out nothing on the way.
 fn find_above(
     rt: &HostRuntime,
-    options: &Options<'_>,
+    reading: &Reading<'_>,
     path: &str,
 ) -> Result<Option<Above>, Trouble> {
     let whole = whole_path(rt, path)?;
@@ -62,10 +62,10 @@ fn find_above(
             return Ok(None);
         };
         folder = if upper.is_empty() { "/" } else { upper };
-        if name.is_empty() || is_left_out(rt, options, folder, name)? {
+        if name.is_empty() || is_left_out(rt, reading, folder, name)? {
             return Ok(None);
         }
-        let home = home_of(rt, options, &[folder])?;
+        let home = home_of(rt, reading, &[folder])?;
         if is_there(rt, &home)? {
             return Ok(Some(above_of(rt.alloc(), whole.as_str(), folder, home)?));
         }
@@ -76,14 +76,14 @@ fn find_above(
 // Whether a name in a folder may be left out as the folder is read.
 fn is_left_out(
     rt: &HostRuntime,
-    options: &Options<'_>,
+    reading: &Reading<'_>,
     folder: &str,
     name: &str,
 ) -> Result<bool, AllocError> {
-    if name.starts_with('.') && !options.has_hidden {
+    if name.starts_with('.') && !reading.has_hidden {
         return Ok(true);
     }
-    Ok(!options.has_ignored && has_ignore_file(rt, folder)?)
+    Ok(!reading.has_ignored && has_ignore_file(rt, folder)?)
 }
 
 fn above_of(alloc: Global, whole: &str, folder: &str, home: Home) -> Result<Above, AllocError> {
@@ -99,11 +99,11 @@ fn above_of(alloc: Global, whole: &str, folder: &str, home: Home) -> Result<Abov
 // The index as it stands.
 fn as_it_stands(
     rt: &HostRuntime,
-    options: &Options<'_>,
+    reading: &Reading<'_>,
     above: &Above,
 ) -> Result<Option<Index>, Trouble> {
     match read_standing(rt, &above.home)? {
-        Some(standing) => Ok(Some(open_within(rt, options, above, standing, 0)?)),
+        Some(standing) => Ok(Some(open_within(rt, reading, above, standing, 0)?)),
         None => Ok(None),
     }
 }
@@ -112,13 +112,13 @@ fn as_it_stands(
 // looked at again.
 fn up_to_date(
     rt: &HostRuntime,
-    options: &Options<'_>,
+    reading: &Reading<'_>,
     above: &Above,
     path: &str,
 ) -> Result<Option<Index>, Trouble> {
     let mut read = 0;
-    for reading in 1..=READINGS {
-        let found = find_files(rt, options, &options.paths)?;
+    for turn in 1..=READINGS {
+        let found = find_files(rt, reading, &reading.paths)?;
         if found.iter().any(|file| file.is_stream) {
             return Err(Trouble::Stream);
         }
@@ -127,11 +127,11 @@ fn up_to_date(
             return Ok(None);
         };
         if has_just(rt.alloc(), &standing.catalogue, above, &files)? {
-            return Ok(Some(open_within(rt, options, above, standing, read)?));
+            return Ok(Some(open_within(rt, reading, above, standing, read)?));
         }
         drop(standing);
-        if reading < READINGS {
-            read = update(rt, options, above)?;
+        if turn < READINGS {
+            read = update(rt, reading, above)?;
         }
     }
     Ok(None)
@@ -167,16 +167,16 @@ fn is_within(inner: &[u8], key: &[u8]) -> bool {
 }
 
 // Brings the whole index up to date, and answers how many files were read.
-fn update(rt: &HostRuntime, options: &Options<'_>, above: &Above) -> Result<usize, Trouble> {
-    let files = to_keep(rt, options, &[above.folder.as_str()])?;
-    let (_, read) = bring_up_to_date(rt, options, &above.home, files, false)?;
+fn update(rt: &HostRuntime, reading: &Reading<'_>, above: &Above) -> Result<usize, Trouble> {
+    let files = to_keep(rt, reading, &[above.folder.as_str()])?;
+    let (_, read) = bring_up_to_date(rt, reading, &above.home, files, false)?;
     Ok(read)
 }
 
 // The index as if it had nothing but what is searched.
 fn open_within(
     rt: &HostRuntime,
-    options: &Options<'_>,
+    reading: &Reading<'_>,
     above: &Above,
     standing: Standing,
     read: usize,
@@ -186,12 +186,12 @@ fn open_within(
         catalogue,
     } = standing;
     let (catalogue, others) = within(rt.alloc(), catalogue, &above.inner)?;
-    note_again(rt, options, &catalogue, &[])?;
+    note_again(rt, reading, &catalogue, &[])?;
     let standing = Standing {
         segments,
         catalogue,
     };
-    open(rt, options, &above.home, standing, &others, read)
+    open(rt, reading, &above.home, standing, &others, read)
 }
 
 // What an index of an inner path alone would know, and the files that it wouldn't.

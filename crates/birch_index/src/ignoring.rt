@@ -1,7 +1,7 @@
 //! Ignore files: what they name in their folder and below it is not read.
 
 use crate::files::read_bytes;
-use crate::options::Options;
+use crate::reading::Reading;
 use crate::walk::joined;
 use birch_text::{PathRules, Sense};
 use std::alloc::{AllocError, Global};
@@ -41,7 +41,7 @@ impl Ignoring {
     pub fn enter(
         &mut self,
         rt: &HostRuntime,
-        options: &Options<'_>,
+        reading: &Reading<'_>,
         folder: &str,
         above: Option<usize>,
     ) -> Result<Option<usize>, AllocError> {
@@ -49,7 +49,7 @@ impl Ignoring {
         let mut rules = PathRules::new(alloc);
         for name in NAMES {
             let path = joined(alloc, folder, name)?;
-            add_file(rt, options, path.as_str(), &mut rules)?;
+            add_file(rt, reading, path.as_str(), &mut rules)?;
         }
         if rules.is_empty() {
             return Ok(above);
@@ -96,7 +96,7 @@ pub fn has_ignore_file(rt: &HostRuntime, folder: &str) -> Result<bool, AllocErro
 // Adds the patterns of an ignore file, where there is one.
 fn add_file(
     rt: &HostRuntime,
-    options: &Options<'_>,
+    reading: &Reading<'_>,
     path: &str,
     rules: &mut PathRules,
 ) -> Result<(), AllocError> {
@@ -106,6 +106,6 @@ fn add_file(
             rules.add_lines(rt.alloc(), text.as_str())
         }
         Err(error) if error.kind() == io::ErrorKind::NotFound => Ok(()),
-        Err(error) => options.notes.add_error(rt, options, path, &error),
+        Err(error) => reading.notes.add_error(rt, reading, path, &error),
     }
 }

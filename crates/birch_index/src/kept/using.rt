@@ -10,7 +10,7 @@ use crate::kept::keys::found_files;
 use crate::kept::opening::{note_again, open};
 use crate::kept::reading::{Standing, is_there, read_standing};
 use crate::kept::updating::{ToKeep, bring_up_to_date, changes_of};
-use crate::options::{Keeping, Options};
+use crate::reading::{Keeping, Reading};
 use crate::walk::find_files;
 use anyhow::Result;
 use birch_text::Cleaned;
@@ -32,26 +32,26 @@ pub enum Use {
 
 /// The index that is kept of what is searched, brought up to date. What stands in its way is told, and it is made anew
 /// where that helps.
-pub fn kept_index(rt: &HostRuntime, options: &Options<'_>) -> Result<Use> {
-    let home = match home_of(rt, options, &options.paths) {
+pub fn kept_index(rt: &HostRuntime, reading: &Reading<'_>) -> Result<Use> {
+    let home = match home_of(rt, reading, &reading.paths) {
         Ok(home) => home,
-        Err(trouble) => return without_home(rt, options, trouble),
+        Err(trouble) => return without_home(rt, reading, trouble),
     };
-    match tried(rt, options, &home) {
+    match tried(rt, reading, &home) {
         Ok(Some(index)) => Ok(Use::Kept(index)),
-        Ok(None) => by_one_above(rt, options),
+        Ok(None) => by_one_above(rt, reading),
         // read as if there were no index, which is not asked for
-        Err(Trouble::Stream) if options.keeping != Keeping::Make => Ok(Use::Refused),
-        Err(trouble) => mended(rt, options, &home, trouble),
+        Err(Trouble::Stream) if reading.keeping != Keeping::Make => Ok(Use::Refused),
+        Err(trouble) => mended(rt, reading, &home, trouble),
     }
 }
 
 // The index that is kept of a folder above what is searched, where none is of that itself.
-fn by_one_above(rt: &HostRuntime, options: &Options<'_>) -> Result<Use> {
-    match index_above(rt, options) {
+fn by_one_above(rt: &HostRuntime, reading: &Reading<'_>) -> Result<Use> {
+    match index_above(rt, reading) {
         Ok(Some(index)) => Ok(Use::Kept(index)),
         Ok(None) => {
-            if options.keeping == Keeping::Stale {
+            if reading.keeping == Keeping::Stale {
                 let _ = eprintln!(rt; "birch: no index is kept of these paths");
             }
             Ok(Use::NotThere)
@@ -67,11 +67,11 @@ fn by_one_above(rt: &HostRuntime, options: &Options<'_>) -> Result<Use> {
 }
 
 // What is done where an index has no folder: it is told where one is asked for.
-fn without_home(rt: &HostRuntime, options: &Options<'_>, trouble: Trouble) -> Result<Use> {
+fn without_home(rt: &HostRuntime, reading: &Reading<'_>, trouble: Trouble) -> Result<Use> {
     match trouble {
         Trouble::Stopped(error) => Err(error),
         trouble => {
-            if options.keeping != Keeping::Use {
+            if reading.keeping != Keeping::Use {
                 let what = trouble.what();
                 let _ = eprintln!(rt; "birch: no index is used: {what}");
             }
@@ -82,14 +82,14 @@ fn without_home(rt: &HostRuntime, options: &Options<'_>, trouble: Trouble) -> Re
 
 /// The index of what is searched after trouble with the one that is kept, which is told. One of a folder above is not
 /// made anew: it has more than what is searched.
-pub fn after_trouble(rt: &HostRuntime, options: &Options<'_>, trouble: Trouble) -> Result<Use> {
-    let home = match home_of(rt, options, &options.paths) {
+pub fn after_trouble(rt: &HostRuntime, reading: &Reading<'_>, trouble: Trouble) -> Result<Use> {
+    let home = match home_of(rt, reading, &reading.paths) {
         Ok(home) => home,
-        Err(other) => return without_home(rt, options, other),
+        Err(other) => return without_home(rt, reading, other),
     };
-    let is_own = options.keeping == Keeping::Make || is_there(rt, &home).unwrap_or(true);
+    let is_own = reading.keeping == Keeping::Make || is_there(rt, &home).unwrap_or(true);
     if is_own {
-        mended(rt, options, &home, trouble)
+        mended(rt, reading, &home, trouble)
     } else {
         tell(rt, &home, &trouble, "no index is used");
         Ok(Use::Refused)
@@ -97,10 +97,10 @@ pub fn after_trouble(rt: &HostRuntime, options: &Options<'_>, trouble: Trouble) 
 }
 
 // Tells of trouble, and makes the index anew where that helps.
-fn mended(rt: &HostRuntime, options: &Options<'_>, home: &Home, trouble: Trouble) -> Result<Use> {
+fn mended(rt: &HostRuntime, reading: &Reading<'_>, home: &Home, trouble: Trouble) -> Result<Use> {
     let made = if trouble.is_mended_anew() {
         tell(rt, home, &trouble, "it is made anew");
-        made_anew(rt, options, home)
+        made_anew(rt, reading, home)
     } else {
         Err(trouble)
     };
@@ -121,27 +121,27 @@ fn tell(rt: &HostRuntime, home: &Home, trouble: &Trouble, then: &str) {
 
 // The index that is kept; none where there is none, and none is asked for. Where another run has replaced it meanwhile,
 // and removed its files, it is opened again.
-fn tried(rt: &HostRuntime, options: &Options<'_>, home: &Home) -> Result<Option<Index>, Trouble> {
+fn tried(rt: &HostRuntime, reading: &Reading<'_>, home: &Home) -> Result<Option<Index>, Trouble> {
     for _ in 1..TRIES {
-        match tried_once(rt, options, home) {
+        match tried_once(rt, reading, home) {
             Err(Trouble::Missing) => {}
             done => return done,
         }
     }
-    tried_once(rt, options, home)
+    tried_once(rt, reading, home)
 }
 
 fn tried_once(
     rt: &HostRuntime,
-    options: &Options<'_>,
+    reading: &Reading<'_>,
     home: &Home,
 ) -> Result<Option<Index>, Trouble> {
-    match options.keeping {
-        Keeping::Stale => as_it_stands(rt, options, home),
-        Keeping::Make => Ok(Some(up_to_date(rt, options, home)?)),
+    match reading.keeping {
+        Keeping::Stale => as_it_stands(rt, reading, home),
+        Keeping::Make => Ok(Some(up_to_date(rt, reading, home)?)),
         Keeping::Use | Keeping::Never | Keeping::Forget => {
             if is_there(rt, home)? {
-                Ok(Some(up_to_date(rt, options, home)?))
+                Ok(Some(up_to_date(rt, reading, home)?))
             } else {
                 Ok(None)
             }
@@ -152,62 +152,62 @@ fn tried_once(
 // The index as it stands.
 fn as_it_stands(
     rt: &HostRuntime,
-    options: &Options<'_>,
+    reading: &Reading<'_>,
     home: &Home,
 ) -> Result<Option<Index>, Trouble> {
     let Some(standing) = read_standing(rt, home)? else {
         return Ok(None);
     };
-    note_again(rt, options, &standing.catalogue, &[])?;
-    Ok(Some(open_whole(rt, options, home, standing, 0)?))
+    note_again(rt, reading, &standing.catalogue, &[])?;
+    Ok(Some(open_whole(rt, reading, home, standing, 0)?))
 }
 
 fn open_whole(
     rt: &HostRuntime,
-    options: &Options<'_>,
+    reading: &Reading<'_>,
     home: &Home,
     standing: Standing,
     read: usize,
 ) -> Result<Index, Trouble> {
     let nothing = Gone::new(Vec::new(rt.alloc()));
-    open(rt, options, home, standing, &nothing, read)
+    open(rt, reading, home, standing, &nothing, read)
 }
 
 // The index, brought up to date.
-fn up_to_date(rt: &HostRuntime, options: &Options<'_>, home: &Home) -> Result<Index, Trouble> {
-    let files = to_keep(rt, options, &options.paths)?;
+fn up_to_date(rt: &HostRuntime, reading: &Reading<'_>, home: &Home) -> Result<Index, Trouble> {
+    let files = to_keep(rt, reading, &reading.paths)?;
     if let Some(standing) = read_standing(rt, home)? {
-        if is_unchanged(rt, options, &standing, &files)? {
-            return open_whole(rt, options, home, standing, 0);
+        if is_unchanged(rt, reading, &standing, &files)? {
+            return open_whole(rt, reading, home, standing, 0);
         }
     }
-    let (standing, read) = bring_up_to_date(rt, options, home, files, false)?;
-    open_whole(rt, options, home, standing, read)
+    let (standing, read) = bring_up_to_date(rt, reading, home, files, false)?;
+    open_whole(rt, reading, home, standing, read)
 }
 
 // Whether an index is of these files as they are. What was left out of those that stay is noted again.
 fn is_unchanged(
     rt: &HostRuntime,
-    options: &Options<'_>,
+    reading: &Reading<'_>,
     standing: &Standing,
     files: &ToKeep,
 ) -> Result<bool, Trouble> {
     let changes = changes_of(rt.alloc(), &standing.catalogue.kept, &files.keys)?;
-    note_again(rt, options, &standing.catalogue, &changes.gone)?;
+    note_again(rt, reading, &standing.catalogue, &changes.gone)?;
     Ok(changes.gone.is_empty() && changes.to_read.is_empty())
 }
 
 // The index, made anew of all files.
-fn made_anew(rt: &HostRuntime, options: &Options<'_>, home: &Home) -> Result<Index, Trouble> {
-    let files = to_keep(rt, options, &options.paths)?;
-    let (standing, read) = bring_up_to_date(rt, options, home, files, true)?;
-    open_whole(rt, options, home, standing, read)
+fn made_anew(rt: &HostRuntime, reading: &Reading<'_>, home: &Home) -> Result<Index, Trouble> {
+    let files = to_keep(rt, reading, &reading.paths)?;
+    let (standing, read) = bring_up_to_date(rt, reading, home, files, true)?;
+    open_whole(rt, reading, home, standing, read)
 }
 
 /// The files that are found at these paths, each of which can be read again.
-pub fn to_keep(rt: &HostRuntime, options: &Options<'_>, paths: &[&str]) -> Result<ToKeep, Trouble> {
+pub fn to_keep(rt: &HostRuntime, reading: &Reading<'_>, paths: &[&str]) -> Result<ToKeep, Trouble> {
     let moment = moment(rt)?;
-    let found = find_files(rt, options, paths)?;
+    let found = find_files(rt, reading, paths)?;
     if found.iter().any(|file| file.is_stream) {
         return Err(Trouble::Stream);
     }
@@ -230,7 +230,7 @@ fn moment(rt: &HostRuntime) -> Result<u64, Trouble> {
 }
 
 /// Removes the index that is kept of what would be searched, and answers whether there was one.
-pub fn forget_kept(rt: &HostRuntime, options: &Options<'_>) -> Result<bool, Trouble> {
-    let home = home_of(rt, options, &options.paths)?;
+pub fn forget_kept(rt: &HostRuntime, reading: &Reading<'_>) -> Result<bool, Trouble> {
+    let home = home_of(rt, reading, &reading.paths)?;
     forget(rt, &home)
 }

@@ -11,7 +11,7 @@ use crate::kept::marks::Marks;
 use crate::kept::reading::Standing;
 use crate::kept::segment::{KeptPart, open_part};
 use crate::kept::segments::KeptSegments;
-use crate::options::Options;
+use crate::reading::Reading;
 use qm_folder::KeptFile;
 use qm_store::KeptSegment;
 use std::alloc::Global;
@@ -19,7 +19,7 @@ use std::alloc::Global;
 /// The index as it stands, but for the documents of some files, to bring which up to date so many files were read.
 pub fn open(
     rt: &HostRuntime,
-    options: &Options<'_>,
+    reading: &Reading<'_>,
     home: &Home,
     standing: Standing,
     left_out: &Gone,
@@ -33,7 +33,7 @@ pub fn open(
     let parts = open_parts(rt, home, &segments, left_out)?;
     let tally = tally_of(&catalogue);
     let numbers = numbers_of(alloc, &catalogue)?;
-    let files = sources(alloc, &options.paths, catalogue)?;
+    let files = sources(alloc, &reading.paths, catalogue)?;
     let kept = KeptSegments::new(alloc, parts, &numbers, tally, read)?;
     Ok(Index::of_kept(alloc, kept, files, tally)?)
 }
@@ -116,7 +116,7 @@ fn source(
 /// Notes again what was left out of files when they were read, but for those at these places.
 pub fn note_again(
     rt: &HostRuntime,
-    options: &Options<'_>,
+    reading: &Reading<'_>,
     catalogue: &Catalogue,
     gone: &[usize],
 ) -> Result<(), Trouble> {
@@ -127,8 +127,8 @@ pub fn note_again(
             continue;
         }
         if let Some(why) = known.left_out {
-            let path = shown_path(rt.alloc(), &options.paths, &kept.path)?;
-            options.notes.add(rt, path.as_str(), why);
+            let path = shown_path(rt.alloc(), &reading.paths, &kept.path)?;
+            reading.notes.add(rt, path.as_str(), why);
         }
     }
     Ok(())

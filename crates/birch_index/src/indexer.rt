@@ -4,7 +4,7 @@ use crate::files::{Contents, Source, Text, read_text};
 use crate::index::{Fields, Index, Tally, schema};
 use crate::left_out::LeftOut;
 use crate::lengths::length_id;
-use crate::options::Options;
+use crate::reading::Reading;
 use crate::walk::{Found, find_files, own_name};
 use anyhow::Result;
 use birch_text::{
@@ -192,7 +192,7 @@ impl Indexer {
     pub fn add_file(
         &mut self,
         rt: &HostRuntime,
-        options: &Options<'_>,
+        reading: &Reading<'_>,
         path: String,
         text: Text,
     ) -> Result<Gain> {
@@ -202,8 +202,8 @@ impl Indexer {
             is_converted,
             stamp,
         } = text;
-        let Some(column) = column_of(alloc, options.form, text.as_str())? else {
-            return Ok(left_out(rt, options, path.as_str(), LeftOut::NoColumn));
+        let Some(column) = column_of(alloc, reading.form, text.as_str())? else {
+            return Ok(left_out(rt, reading, path.as_str(), LeftOut::NoColumn));
         };
         let before = self.tally;
         self.tally.bytes = self.tally.bytes.saturating_add(text.len() as u64);
@@ -219,8 +219,8 @@ impl Indexer {
             stamp,
         })?;
         self.left_out = 0;
-        add_passages(alloc, options.form, text.as_str(), self)?;
-        let left_out = self.note_left_out(rt, options);
+        add_passages(alloc, reading.form, text.as_str(), self)?;
+        let left_out = self.note_left_out(rt, reading);
         if stamp.is_none() {
             self.keep(text);
         }
@@ -242,7 +242,7 @@ impl Indexer {
     }
 
     // Notes which rows of the last file are no documents.
-    fn note_left_out(&self, rt: &HostRuntime, options: &Options<'_>) -> Option<LeftOut> {
+    fn note_left_out(&self, rt: &HostRuntime, reading: &Reading<'_>) -> Option<LeftOut> {
         if self.left_out == 0 {
             return None;
         }
@@ -251,7 +251,7 @@ impl Indexer {
             count: self.left_out,
         };
         if let Some(file) = self.files.last() {
-            options.notes.add(rt, file.path.as_str(), rows);
+            reading.notes.add(rt, file.path.as_str(), rows);
         }
         Some(rows)
     }
@@ -384,8 +384,8 @@ fn column_of(alloc: Global, form: Form<'_>, text: &str) -> Result<Option<usize>>
 }
 
 // What a file gives that is left out, which is noted.
-fn left_out(rt: &HostRuntime, options: &Options<'_>, path: &str, why: LeftOut) -> Gain {
-    options.notes.add(rt, path, why);
+fn left_out(rt: &HostRuntime, reading: &Reading<'_>, path: &str, why: LeftOut) -> Gain {
+    reading.notes.add(rt, path, why);
     Gain {
         is_taken: false,
         documents: 0,
@@ -397,10 +397,10 @@ fn left_out(rt: &HostRuntime, options: &Options<'_>, path: &str, why: LeftOut) -
 }
 
 /// Reads all files of the paths.
-pub fn read_all(rt: &HostRuntime, options: &Options<'_>) -> Result<Index> {
-    let files = find_files(rt, options, &options.paths)?;
-    let mut indexer = Indexer::new(rt.alloc(), options.accents)?;
-    read_files(rt, options, &mut indexer, files)?;
+pub fn read_all(rt: &HostRuntime, reading: &Reading<'_>) -> Result<Index> {
+    let files = find_files(rt, reading, &reading.paths)?;
+    let mut indexer = Indexer::new(rt.alloc(), reading.accents)?;
+    read_files(rt, reading, &mut indexer, files)?;
     let readings = indexer.finish()?;
     Ok(readings.into_index(rt.alloc())?)
 }
@@ -408,7 +408,7 @@ pub fn read_all(rt: &HostRuntime, options: &Options<'_>) -> Result<Index> {
 /// Takes in these files, and gives what each of them gave; none where it can't be read, which is noted.
 pub fn read_files(
     rt: &HostRuntime,
-    options: &Options<'_>,
+    reading: &Reading<'_>,
     indexer: &mut Indexer,
     files: Vec<Found>,
 ) -> Result<Vec<Option<Gain>>> {
@@ -420,8 +420,8 @@ pub fn read_files(
     for file in files {
         indexer.expect_bytes(left);
         left = left.saturating_sub(file.stamp.size);
-        gains.push(read_file(rt, options, indexer, file)?)?;
-        if options.has_progress {
+        gains.push(read_file(rt, reading, indexer, file)?)?;
+        if reading.has_progress {
             told = tell(rt, indexer, told, left);
         }
     }
@@ -431,13 +431,13 @@ pub fn read_files(
 // Takes in one file.
 fn read_file(
     rt: &HostRuntime,
-    options: &Options<'_>,
+    reading: &Reading<'_>,
     indexer: &mut Indexer,
     file: Found,
 ) -> Result<Option<Gain>> {
-    let gain = match read_text(rt, options, file.path.as_str())? {
-        Contents::Text(text) => indexer.add_file(rt, options, file.path, text)?,
-        Contents::LeftOut(why) => left_out(rt, options, file.path.as_str(), why),
+    let gain = match read_text(rt, reading, file.path.as_str())? {
+        Contents::Text(text) => indexer.add_file(rt, reading, file.path, text)?,
+        Contents::LeftOut(why) => left_out(rt, reading, file.path.as_str(), why),
         Contents::Unread => return Ok(None),
     };
     Ok(Some(gain))
