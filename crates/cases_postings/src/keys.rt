@@ -20,6 +20,34 @@ impl KeyRows {
             pairs: HashMap::new(alloc),
         }
     }
+
+    // `insert_field FIELD OCCUR`.
+    fn insert_field(&mut self, words: &[&str]) -> Result<(), Fault> {
+        let field = Field::from_field_id(read_number(word(words, 1))?);
+        self.fields.insert(field, read_occur(word(words, 2))?)?;
+        Ok(())
+    }
+
+    // `field FIELD`.
+    fn write_field(&self, words: &[&str], text: &mut String) -> Result<(), Fault> {
+        let field = Field::from_field_id(read_number(word(words, 1))?);
+        Ok(text.push_str(occur_name(self.fields.get(&field).copied()))?)
+    }
+
+    // `insert_pair OCCUR OPTION NUMBER`.
+    fn insert_pair(&mut self, words: &[&str]) -> Result<(), Fault> {
+        let pair = read_pair(words)?;
+        self.pairs.insert(pair, read_number(word(words, 3))?)?;
+        Ok(())
+    }
+
+    // `pair OCCUR OPTION`.
+    fn write_pair(&self, words: &[&str], text: &mut String) -> Result<(), Fault> {
+        match self.pairs.get(&read_pair(words)?) {
+            Some(number) => Ok(write!(text, "{number}")?),
+            None => Ok(text.push_str("none")?),
+        }
+    }
 }
 
 impl Asker for KeyRows {
@@ -31,31 +59,18 @@ impl Asker for KeyRows {
         text: &mut String,
     ) -> Result<(), Fault> {
         let words = words_of(alloc, call)?;
-        let (first, second, third) = (word(&words, 1), word(&words, 2), word(&words, 3));
         match word(&words, 0) {
-            "insert_field" => {
-                let field = Field::from_field_id(read_number(first)?);
-                self.fields.insert(field, read_occur(second)?)?;
-            }
-            "field" => {
-                let field = Field::from_field_id(read_number(first)?);
-                text.push_str(occur_name(self.fields.get(&field).copied()))?;
-            }
-            "insert_pair" => {
-                let pair = (read_occur(first)?, read_option(second)?);
-                self.pairs.insert(pair, read_number(third)?)?;
-            }
-            "pair" => {
-                let pair = (read_occur(first)?, read_option(second)?);
-                match self.pairs.get(&pair) {
-                    Some(number) => write!(text, "{number}")?,
-                    None => text.push_str("none")?,
-                }
-            }
-            _ => return Err(Fault::NotUnderstood),
+            "insert_field" => self.insert_field(&words),
+            "field" => self.write_field(&words, text),
+            "insert_pair" => self.insert_pair(&words),
+            "pair" => self.write_pair(&words, text),
+            _ => Err(Fault::NotUnderstood),
         }
-        Ok(())
     }
+}
+
+fn read_pair(words: &[&str]) -> Result<(Occur, IndexRecordOption), Fault> {
+    Ok((read_occur(word(words, 1))?, read_option(word(words, 2))?))
 }
 
 fn read_occur(name: &str) -> Result<Occur, Fault> {

@@ -71,10 +71,23 @@ fn search(alloc: Global) -> Result<Vec<(&'static str, Found)>, QueryError> {
     let segment = segment_of(alloc, &schema.build(), body, &TEXTS)?;
     let fox = Term::from_field_text(alloc, body, "fox")?;
     let lazy = Term::from_field_text(alloc, body, "lazy")?;
+    answers(alloc, &segment, &fox, &lazy)
+}
+
+/// Answers the queries over two terms of a segment.
+fn answers(
+    alloc: Global,
+    segment: &SegmentReader,
+    fox: &Term,
+    lazy: &Term,
+) -> Result<Vec<(&'static str, Found)>, QueryError> {
     let weight = Bm25Weight::new(1000, norms())?;
-    let both = both(alloc, &segment, &fox, &lazy, &weight)?.unwrap_or(Vec::new(alloc));
-    let either = either(alloc, &segment, &fox, &lazy, &weight)?;
-    Ok(vec![in alloc; ("fox and lazy", both), ("fox or lazy, without 1", either)]?)
+    let mut answers = Vec::with_capacity(alloc, 2)?;
+    let both = both(alloc, segment, fox, lazy, &weight)?.unwrap_or(Vec::new(alloc));
+    answers.push(("fox and lazy", both))?;
+    let either = either(alloc, segment, fox, lazy, &weight)?;
+    answers.push(("fox or lazy, without 1", either))?;
+    Ok(answers)
 }
 
 /// A segment of documents with one field, of these texts.
