@@ -69,23 +69,22 @@ fn search(alloc: Global) -> Result<Vec<(&'static str, Found)>, QueryError> {
     let mut schema = Schema::builder(alloc);
     let body = schema.add_text_field("body", Some(OPTION), true)?;
     let segment = segment_of(alloc, &schema.build(), body, &TEXTS)?;
-    let fox = Term::from_field_text(alloc, body, "fox")?;
-    let lazy = Term::from_field_text(alloc, body, "lazy")?;
-    answers(alloc, &segment, &fox, &lazy)
+    answers(alloc, &segment, body)
 }
 
-/// Answers the queries over two terms of a segment.
+/// Answers the queries over a segment.
 fn answers(
     alloc: Global,
     segment: &SegmentReader,
-    fox: &Term,
-    lazy: &Term,
+    body: Field,
 ) -> Result<Vec<(&'static str, Found)>, QueryError> {
+    let fox = Term::from_field_text(alloc, body, "fox")?;
+    let lazy = Term::from_field_text(alloc, body, "lazy")?;
     let weight = Bm25Weight::new(1000, norms())?;
     let mut answers = Vec::with_capacity(alloc, 2)?;
-    let both = both(alloc, segment, fox, lazy, &weight)?.unwrap_or(Vec::new(alloc));
+    let both = both(alloc, segment, &fox, &lazy, &weight)?.unwrap_or(Vec::new(alloc));
     answers.push(("fox and lazy", both))?;
-    let either = either(alloc, segment, fox, lazy, &weight)?;
+    let either = either(alloc, segment, &fox, &lazy, &weight)?;
     answers.push(("fox or lazy, without 1", either))?;
     Ok(answers)
 }
