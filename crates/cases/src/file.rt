@@ -56,31 +56,44 @@ fn play_head<P: Player>(
     }
     let row = read_row(line, head);
     let words = words_of(alloc, row.call)?;
-    let (words, memory) = if row.is_refused {
-        (words.as_slice(), Memory::Refused(1))
-    } else if row.call.starts_with("takes no memory ") {
-        (behind(&words, 3), Memory::None)
+    play_words(alloc, player, &row, &words, rows, report)
+}
+
+// Plays a block of these words; without any it is none.
+fn play_words<P: Player>(
+    alloc: Global,
+    player: &mut P,
+    head: &Row<'_>,
+    words: &[&str],
+    rows: &[Row<'_>],
+    report: &mut Report,
+) -> Result<(), Fault> {
+    let (words, memory) = if head.is_refused {
+        (words, Memory::Refused(1))
+    } else if head.call.starts_with("takes no memory ") {
+        (behind(words, 3), Memory::None)
     } else {
-        (words.as_slice(), Memory::Ample)
+        (words, Memory::Ample)
     };
+    if words.is_empty() && rows.is_empty() {
+        return Ok(());
+    }
+    let line = head.line;
+    if memory == Memory::None && !is_heard(alloc) {
+        report.wrong(line, "no refusal of memory is heard")?;
+    }
     let block = Block {
         line,
         words,
         rows,
         memory,
     };
-    if words.is_empty() && rows.is_empty() {
-        return Ok(());
-    }
-    if memory == Memory::None && !is_heard(alloc) {
-        report.wrong(line, "no refusal of memory is heard")?;
-    }
-    let played = if is_repeated(block.words, rows) {
-        play_expanded(alloc, player, block, row.is_refused, report)
+    let played = if is_repeated(words, rows) {
+        play_expanded(alloc, player, block, head.is_refused, report)
     } else {
-        play_block(alloc, player, block, row.is_refused, report)
+        play_block(alloc, player, block, head.is_refused, report)
     };
-    end(&row, rows.len(), played, report)
+    end(head, rows.len(), played, report)
 }
 
 // Plays a block whose words, or some of whose rows, are repeated.
