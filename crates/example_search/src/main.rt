@@ -80,11 +80,21 @@ fn answers(
 ) -> Result<Vec<(&'static str, Found)>, QueryError> {
     let fox = Term::from_field_text(alloc, body, "fox")?;
     let lazy = Term::from_field_text(alloc, body, "lazy")?;
+    answers_of(alloc, segment, &fox, &lazy)
+}
+
+/// The same, of these terms.
+fn answers_of(
+    alloc: Global,
+    segment: &SegmentReader,
+    fox: &Term,
+    lazy: &Term,
+) -> Result<Vec<(&'static str, Found)>, QueryError> {
     let weight = Bm25Weight::new(1000, norms())?;
     let mut answers = Vec::with_capacity(alloc, 2)?;
-    let both = both(alloc, segment, &fox, &lazy, &weight)?.unwrap_or(Vec::new(alloc));
+    let both = both(alloc, segment, fox, lazy, &weight)?.unwrap_or(Vec::new(alloc));
     answers.push(("fox and lazy", both))?;
-    let either = either(alloc, segment, &fox, &lazy, &weight)?;
+    let either = either(alloc, segment, fox, lazy, &weight)?;
     answers.push(("fox or lazy, without 1", either))?;
     Ok(answers)
 }
