@@ -1,13 +1,12 @@
 -- A pruned run whose calls answer their scores, and several of them over the segments of a script, of which
 -- the open one may be in parts.
 use Rattle.std.proofs.Common.{◌≡◌, ℕ, ℤ, ◌+◌, ◌-◌, ◌<ℤ◌, ◌≤ℤ◌, Bool, true, false, if◌then◌else◌, int_lt, List, [], ◌∷◌, ◌++◌, Option, None, Some, length, map}
-use Rattle.std.proofs.Common.{take, drop, get_or, pos, refl, ap, sym, ◌∙◌, arith, append-nil, append_assoc, length-append, add-zero, zero-add, zero, suc}
-use Rattle.std.proofs.Common.{unwrap_or, ◌<◌}
-use Rattle.std.specs.List.{flat_map, slice_get}
+use Rattle.std.proofs.Common.{take, drop, get_or, pos, refl, ap, sym, ◌∙◌, arith, append-nil, append_assoc, length-append, add-zero, zero-add}
+use Rattle.std.proofs.Common.{◌<◌}
+use Rattle.std.specs.List.{flat_map}
 use Rattle.std.proofs.Math.Seq.{drop-append_seam, take-append_seam, take-length}
 use Rattle.std.proofs.lemmas.Int.{ints}
-use Rattle.std.proofs.lemmas.List.{length-drop, map-append}
-use Rattle.std.proofs.lemmas.Option.{none-some, slice_get-get_or, slice_get_within}
+use Rattle.std.proofs.lemmas.List.{length-drop}
 use Rattle.qm_docset.specs.Gather.{scored}
 use Rattle.qm_postings.specs.Segment.{Segment}
 use Rattle.qm_index.specs.Indexed.{AreSearched, all_segments}
@@ -19,7 +18,6 @@ use Rattle.qm_script.specs.Pruned.{all_pruned, entry_item, parts_pruned, pruned_
 use Rattle.qm_script.specs.ScriptSegments.{Script}
 use Rattle.qm_script.specs.Text.{numbered}
 use Rattle.qm_weight.specs.Tree.{Tree, list, matching, score}
-use Rattle.qm_script.proofs.ListedSegments.{pair_item}
 use Rattle.qm_script.proofs.OverParts.{row-next}
 use Rattle.qm_script.proofs.Ranges.{map-map}
 
@@ -45,19 +43,6 @@ rising-passed threshold score d left low =
     ap (λ b. if b then (d, Some score) ∷ rising score left else rising threshold left) (sym (not_above threshold score low))
 
 -- ---- numbers over all segments
-
-numbered-if : (first : ℕ) (b : Bool) (n : ℕ) (score : ℤ) (some none : List (ℕ × Option ℤ)) →
-    numbered first (if b then (n, Some score) ∷ some else none) ≡ (if b then (first + n, Some score) ∷ numbered first some else numbered first none)
-numbered-if first true n score some none = refl
-numbered-if first false n score some none = refl
-
-pub numbered-rising : (first : ℕ) (threshold : ℤ) (items : List (ℕ × Option ℤ)) →
-    numbered first (rising threshold items) ≡ rising threshold (numbered first items)
-numbered-rising first threshold [] = refl
-numbered-rising first threshold ((n, None) ∷ items) = numbered-rising first threshold items
-numbered-rising first threshold ((n, Some score) ∷ items) =
-    numbered-if first (int_lt threshold score) n score (rising score items) (rising threshold items)
-    ∙ (λ i. if int_lt threshold score then (first + n, Some score) ∷ numbered-rising first score items i else numbered-rising first threshold items i)
 
 pub entries-listed : (tree : Tree) (first : ℕ) (s : Segment) → numbered first (map entry_item (list tree 1 s)) ≡ listed true tree first s
 entries-listed tree first s =

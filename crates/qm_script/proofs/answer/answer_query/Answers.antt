@@ -1,4 +1,4 @@
-use Rattle.std.proofs.Common.{◌≡◌, ◌⊎◌, ap, subst, string_bytes}
+use Rattle.std.proofs.Common.{◌≡◌, ◌⊎◌, subst, string_bytes}
 use Rattle.qm_query.specs.Query.{query_of as built_query}
 use Rattle.qm_schema.specs.declared.error.QueryError.TheVariants.{Memory}
 use Rattle.qm_script.specs.Answers.{FitsAsked, WritesAsked, asked_text}

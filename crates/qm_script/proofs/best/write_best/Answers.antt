@@ -1,4 +1,4 @@
-use Rattle.std.proofs.Common.{◌≡◌, ◌<◌, ◌∙◌, [], All, ap, length, map, string_bytes, subst, sym, rules}
+use Rattle.std.proofs.Common.{◌≡◌, ◌<◌, ◌∙◌, [], All, ap, length, map, subst, sym}
 use Rattle.qm_query.specs.Query.{query_of}
 use Rattle.qm_query.specs.Searches.{scoring_by}
 use Rattle.qm_query.specs.TopDocs.{alive_matches_from, score_first}

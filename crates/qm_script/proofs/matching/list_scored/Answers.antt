@@ -1,5 +1,5 @@
 -- What was listed, and what the run still calls with, is all that the weight lists, unless memory was refused.
-use Rattle.std.proofs.Common.{◌≡◌, ◌+◌, ◌++◌, ◌∷◌, [], ℕ, ℤ, List, Option, Some, false, true, append_assoc, append-nil, ap, sym, ◌∙◌, refl, rules, map, pos, subst}
+use Rattle.std.proofs.Common.{◌≡◌, ◌+◌, ◌++◌, ◌∷◌, [], ℕ, ℤ, List, Option, Some, true, append_assoc, append-nil, ap, sym, ◌∙◌, refl, rules, map, pos, subst}
 use Rattle.qm_docset.specs.Entry.{Entry}
 use Rattle.qm_script.specs.AllSegments.{listed}
 use Rattle.qm_script.specs.Pruned.{entry_item}

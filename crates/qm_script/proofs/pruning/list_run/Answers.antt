@@ -4,7 +4,6 @@ use Rattle.std.proofs.Common.{◌≡◌, ◌++◌, ◌∷◌, [], ◌+◌, ℕ, 
 use mir.Val.{SFits}
 use mir.ValLaws.{to_z-of_z}
 use Rattle.std.proofs.lemmas.Int.{by_lt_z}
-use Rattle.qm_docset.specs.Entry.{Entry}
 use Rattle.qm_term.specs.RunsFacts.{MayPrune-always, Plain-keeps}
 use Rattle.qm_script.specs.AllSegments.{listed}
 use Rattle.qm_script.specs.Pruned.{entry_item, rising, threshold_after}
