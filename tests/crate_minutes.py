@@ -46,6 +46,7 @@ class CrateMinutes(threading.Thread):
             return None
         if said[2] == "proved":
             self.took[said[1]] = now - self.begun.get(said[1], now)
+            self.kept.discard(said[1])
         elif said[1] not in self.took:
             self.kept.add(said[1])
         return said[1]

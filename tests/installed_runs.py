@@ -25,7 +25,7 @@ from program_runs.report import Report
 ROOT = os.path.realpath(os.path.join(os.path.dirname(os.path.abspath(__file__)), ".."))
 BUILT = f"{ROOT}/crates/birch/out/birch"
 # no run takes so many seconds
-LIMIT = 60
+LIMIT = 300
 # stands for tests/unproved.py: notes that it was called, and takes a while, or fails where a file says so
 BUILDER = """import os, shutil, sys, time
 open("builds", "a").write(" ".join(sys.argv[1:]) + "\\n")

@@ -1,8 +1,6 @@
 //! The answer to one query.
 
 use crate::explain::{Explained, write_explanation};
-use crate::index::Index;
-use crate::left_out::note;
 use crate::listing::{Hit, Listing};
 use crate::options::Options;
 use crate::searched::{Searched, build};
@@ -10,6 +8,7 @@ use crate::shown::{Shown, line_of, shown_part, text_of, write_json, write_plain}
 use crate::stats::{Stopwatch, tell_found, tell_scored};
 use crate::stop::Stop;
 use anyhow::anyhow;
+use birch_index::{Index, note};
 use birch_text::{Clause, Cleaned, Fault, Marker, QueryFault, QueryTree, Scope, read_query};
 use qm_postings::DocAddress;
 use qm_query::{Query, TopDocs};
@@ -26,7 +25,12 @@ pub fn understand(
     options: &Options<'_>,
     text: &str,
 ) -> Result<Option<QueryTree>, Stop> {
-    match read_query(rt.alloc(), options.accents, options.form.fields(), text) {
+    match read_query(
+        rt.alloc(),
+        options.reading.accents,
+        options.reading.form.fields(),
+        text,
+    ) {
         Ok(tree) => Ok(Some(tree)),
         Err(QueryFault::Memory) => Err(Stop::from(AllocError)),
         Err(QueryFault::NotUnderstood { fault, place }) => {
@@ -43,6 +47,7 @@ fn explain_fault(rt: &HostRuntime, text: &str, fault: Fault, place: usize) {
     let _ = eprintln!(rt; "birch: {fault}");
     let _ = eprintln!(rt; "  {text}");
     let _ = eprint!(rt; "  ");
+    // as many spaces are written as there were turns
     for _ in 0..letters {
         let _ = eprint!(rt; " ");
     }
@@ -83,6 +88,7 @@ pub fn answer<W: Write>(
 
 // Tells which fields that are asked for no document has.
 fn note_unknown(rt: &HostRuntime, index: &Index, clauses: &[&Clause]) -> Result<(), QueryError> {
+    // the fields before this one that no document has are told of
     for clause in clauses {
         if let Scope::Field(name) = &clause.scope {
             let any = index.fields.term(rt.alloc(), clause, "")?;
@@ -174,6 +180,7 @@ impl<'a, 'o> Asked<'a, 'o> {
     // Enters documents in their order, and answers whether no others are wanted. All is looked for before the first
     // result is written, so that where this can't be told an answer can still be found in another way.
     fn enter(&self, listing: &mut Listing, found: &[(i64, DocAddress)]) -> Result<bool, Stop> {
+        // the documents before this one are in the listing, and none was behind its end
         for (score, address) in found {
             if listing.is_behind(*score) {
                 return Ok(true);
@@ -207,7 +214,8 @@ impl<'a, 'o> Asked<'a, 'o> {
 
     // Writes all results but the first, which are skipped.
     fn list<W: Write>(&self, hits: Vec<Hit>, out: &mut W) -> Result<(), Stop> {
-        let marker = Marker::new(self.rt.alloc(), self.options.accents, self.clauses)?;
+        let marker = Marker::new(self.rt.alloc(), self.options.reading.accents, self.clauses)?;
+        // the documents before this one are written, but for those to be skipped
         for (before, hit) in hits.into_iter().enumerate() {
             if before >= self.options.skipped {
                 self.write(&marker, before.saturating_add(1), hit, out)?;
@@ -250,7 +258,13 @@ impl<'a, 'o> Asked<'a, 'o> {
         let text = self.text_read(text, place)?;
         let marks = marker.marks(self.rt.alloc(), text.as_str())?;
         let snippet = shown_part(text.as_str(), &marks);
-        let line = line_of(self.options.form, place, text.as_str(), &marks, snippet);
+        let line = line_of(
+            self.options.reading.form,
+            place,
+            text.as_str(),
+            &marks,
+            snippet,
+        );
         Ok(Some(Shown {
             path: file.path.as_str(),
             line,
@@ -277,7 +291,7 @@ impl<'a, 'o> Asked<'a, 'o> {
             return Ok(nothing);
         };
         let path = file.path.as_str();
-        match text_of(self.rt, self.options, file, place) {
+        match text_of(self.rt, &self.options.reading, file, place) {
             Ok(Some(text)) => return Ok(text),
             Ok(None) => note(self.rt, path, "has changed since it was read"),
             Err(error) if error.kind() == io::ErrorKind::OutOfMemory => {
@@ -307,7 +321,7 @@ impl<'a, 'o> Asked<'a, 'o> {
             index: self.index,
             address: hit.address,
         };
-        let marker = Marker::new(alloc, self.options.accents, self.clauses)?;
+        let marker = Marker::new(alloc, self.options.reading.accents, self.clauses)?;
         self.write(&marker, number, hit, out)?;
         let Searched { query, statistics } = self.searched;
         let explanation = explained.explanation(query, statistics)?;

@@ -1,6 +1,6 @@
 //! The words that begin with the letters of one that was asked for so.
 
-use crate::index::{Index, held_in};
+use birch_index::{Index, held_in};
 use qm_schema::{QueryError, Term};
 use std::alloc::Global;
 use std::cmp::Reverse;
@@ -17,12 +17,14 @@ pub fn commonest_words(
     beginning: &Term,
 ) -> Result<Vec<Term>, QueryError> {
     let mut counted = Vec::new(alloc);
+    // the words before this one are there, each beside how many documents hold it
     for word in count_words(alloc, index, beginning)? {
         counted.push(word)?;
     }
     counted.sort_by_key(|word| Reverse(word.1))?;
     counted.truncate(MOST_WORDS);
     let mut words = Vec::with_capacity(alloc, counted.len())?;
+    // the words before this one are there
     for (word, _) in counted {
         words.push(word)?;
     }
@@ -37,10 +39,12 @@ fn count_words(
 ) -> Result<BTreeMap<Term, u64>, QueryError> {
     let letters = beginning.serialized_value_bytes();
     let mut counts = BTreeMap::new(alloc);
+    // the words of the segments before this one are counted
     for segment in index.searcher.segment_readers() {
         let range = segment
             .inverted_index(beginning.field())
             .term_range(letters, None);
+        // and those of this segment before this word
         for (word, _) in range {
             if !word.serialized_value_bytes().starts_with(letters) {
                 break;

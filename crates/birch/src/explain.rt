@@ -1,10 +1,10 @@
 //! Why a document scores what it does, as it is printed.
 
-use crate::index::Index;
 use crate::searched::{
     begun, build, copied, ends_of, terms_of, weight_of_beginning, whole, with_last,
 };
 use crate::stop::Stop;
+use birch_index::Index;
 use birch_text::{Clause, QueryTree, split_named};
 use birchagain::rarity;
 use qm_parser::Sign;
@@ -24,11 +24,13 @@ pub fn write_explanation<W: Write>(
     explanation: &Explanation,
 ) -> io::Result<()> {
     let mut left = vec![in alloc; (1usize, explanation)]?;
+    // what was taken off is written, and what it has below it waits, the first on top
     for _ in 0..u64::MAX {
         let Some((depth, part)) = left.pop() else {
             return Ok(());
         };
         write_part(out, depth, part)?;
+        // the details behind this one wait
         for detail in part.details().iter().rev() {
             left.push((depth.saturating_add(1), detail))?;
         }
@@ -37,6 +39,7 @@ pub fn write_explanation<W: Write>(
 }
 
 fn write_part<W: Write>(out: &mut W, depth: usize, part: &Explanation) -> io::Result<()> {
+    // as many steps are written as there were turns
     for _ in 0..depth {
         out.write_all(b"    ")?;
     }
@@ -95,6 +98,7 @@ impl<'a> Explained<'a> {
                 if !self.is_found_by(&build(self.alloc, self.index, tree)?.query)? {
                     return Ok(());
                 }
+                // the parts before this one are written, but for those that must not match
                 for (sign, part) in parts {
                     if *sign != Sign::MustNot {
                         self.write_weights(out, part)?;
@@ -124,6 +128,7 @@ impl<'a> Explained<'a> {
         }
         let (weight, held) = weight_of_beginning(self.alloc, self.index, &query)?;
         let documents = self.index.tally.documents;
+        // the terms before this one are written
         for term in &terms {
             write_word(out, term)?;
             writeln!(
@@ -140,6 +145,7 @@ impl<'a> Explained<'a> {
         let terms = terms_of(alloc, self.index, clause)?;
         let (full, words) = ends_of(alloc, self.index, &terms)?;
         let mut written = full;
+        // the words before this one with which something is found are written
         for word in &words {
             let query = whole(alloc, with_last(alloc, full, word)?, 0)?;
             if self.is_found_by(&query)? {
@@ -153,6 +159,7 @@ impl<'a> Explained<'a> {
     }
 
     fn write_terms<W: Write>(&self, out: &mut W, terms: &[Term]) -> Result<(), Stop> {
+        // the terms before this one are written
         for term in terms {
             self.write_term(out, term)?;
         }

@@ -4,24 +4,14 @@
 
 mod answer;
 mod beginnings;
-mod environment;
 mod explain;
-mod files;
-mod ignoring;
-mod index;
-mod indexer;
-mod kept;
-mod left_out;
-mod lengths;
 mod listing;
 mod options;
 mod run;
 mod searched;
 mod shown;
-mod stamps;
 mod stats;
 mod stop;
-mod walk;
 
 use anyhow::Error;
 use birch_text::Cleaned;

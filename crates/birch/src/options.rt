@@ -1,8 +1,8 @@
 //! What the command is asked for.
 
-use crate::left_out::Notes;
 use crate::listing::Unit;
 use anyhow::{Error, Result, anyhow, bail};
+use birch_index::{Keeping, Notes, Reading};
 use birch_text::{Accents, FILE_TYPES, Form, PathRules, PatternError};
 use clap::{Arg, ArgAction, ArgMatches, Command, value_parser};
 use std::alloc::{AllocError, Global};
@@ -26,16 +26,12 @@ Status: 0 if something was found, 1 if nothing was, 2 after an error.";
 /// What the command is asked for.
 #[derive(Drop)]
 pub struct Options<'a> {
+    /// What is read, and how.
+    pub reading: Reading<'a>,
     /// What is searched for; none where queries are read.
     pub query: Option<&'a str>,
-    /// What is searched.
-    pub paths: Vec<&'a str>,
     /// Where queries are read, a line each.
     pub queries: Option<&'a str>,
-    /// What of a file is a document.
-    pub form: Form<'a>,
-    /// Whether accents count in words.
-    pub accents: Accents,
     /// Which documents are one result together.
     pub unit: Unit,
     /// How many results are listed.
@@ -50,43 +46,8 @@ pub struct Options<'a> {
     pub explained: Option<usize>,
     /// Whether numbers and times are wanted.
     pub has_stats: bool,
-    /// Whether names that begin with a dot are read.
-    pub has_hidden: bool,
-    /// Whether files are read that ignore files name.
-    pub has_ignored: bool,
-    /// Patterns of the paths that are read, and with a `!` of those that aren't.
-    pub globs: Vec<&'a str>,
-    /// The same ones.
-    pub glob_rules: PathRules,
-    /// Kinds of files of which one is read; none where any is.
-    pub types: Vec<&'a str>,
-    /// How many bytes a file may have.
-    pub max_size: u64,
-    /// What is left out.
-    pub notes: Notes,
     /// When found words are coloured.
     pub color: Color,
-    /// Whether it is told how far the reading is.
-    pub has_progress: bool,
-    /// What becomes of an index that is kept of the paths.
-    pub keeping: Keeping,
-    /// The folder of all indexes that are kept; none for the one of the user's cache.
-    pub index_folder: Option<&'a str>,
-}
-
-/// What becomes of an index that is kept of the paths.
-#[derive(Clone, Copy, Debug, PartialEq, Eq)]
-pub enum Keeping {
-    /// It is brought up to date and used, where there is one.
-    Use,
-    /// It is made, or brought up to date.
-    Make,
-    /// It is used as it stands, and no file is looked at.
-    Stale,
-    /// It is not used.
-    Never,
-    /// It is removed.
-    Forget,
 }
 
 /// When found words are coloured.
@@ -379,15 +340,9 @@ pub fn read_options<'a>(alloc: Global, matches: &ArgMatches<'a>) -> Result<Optio
     } else {
         None
     };
-    let paths = paths(alloc, matches, if has_query { None } else { first })?;
-    let globs = texts(alloc, matches, "glob")?;
-    let has_hidden = matches.get_flag("hidden");
     Ok(Options {
         query,
-        paths,
         queries,
-        form: form(matches),
-        accents: accents(matches),
         unit: unit(matches),
         limit: matches.get_one::<u32>("limit").unwrap_or(10) as usize,
         skipped: matches.get_one::<u32>("skip").unwrap_or(0) as usize,
@@ -395,6 +350,23 @@ pub fn read_options<'a>(alloc: Global, matches: &ArgMatches<'a>) -> Result<Optio
         is_json: matches.get_flag("json"),
         explained: explained(matches)?,
         has_stats: matches.get_flag("stats"),
+        color: color_of(matches.get_str("color").unwrap_or("auto")),
+        reading: reading(alloc, matches, if has_query { None } else { first })?,
+    })
+}
+
+// What is read, and how; the first word is a path too where it is no query.
+fn reading<'a>(
+    alloc: Global,
+    matches: &ArgMatches<'a>,
+    first: Option<&'a str>,
+) -> Result<Reading<'a>> {
+    let globs = texts(alloc, matches, "glob")?;
+    let has_hidden = matches.get_flag("hidden");
+    Ok(Reading {
+        paths: paths(alloc, matches, first)?,
+        form: form(matches),
+        accents: accents(matches),
         has_hidden,
         has_ignored: has_hidden || matches.get_flag("no-ignore"),
         glob_rules: glob_rules(alloc, &globs)?,
@@ -402,9 +374,8 @@ pub fn read_options<'a>(alloc: Global, matches: &ArgMatches<'a>) -> Result<Optio
         types: texts(alloc, matches, "type")?,
         max_size: size(matches.get_str("max-size").unwrap_or(DEFAULT_SIZE))?,
         notes: Notes::new(matches.get_flag("notes")),
-        color: color_of(matches.get_str("color").unwrap_or("auto")),
         has_progress: matches.get_flag("progress"),
-        keeping,
+        keeping: keeping_of(matches),
         index_folder: matches.get_str("index-dir"),
     })
 }
@@ -419,6 +390,7 @@ fn paths<'a>(
     if let Some(path) = first {
         paths.push(path)?;
     }
+    // the paths before this one are there
     for path in matches.get_strs("PATH").unwrap_or(&[]) {
         paths.push(*path)?;
     }
@@ -495,6 +467,7 @@ fn texts<'a>(
     name: &str,
 ) -> Result<Vec<&'a str>, AllocError> {
     let mut texts = Vec::new(alloc);
+    // the texts before this one are there
     for text in matches.get_strs(name).unwrap_or(&[]) {
         texts.push(*text)?;
     }
@@ -504,6 +477,7 @@ fn texts<'a>(
 // The patterns of paths.
 fn glob_rules(alloc: Global, globs: &[&str]) -> Result<PathRules> {
     let mut rules = PathRules::new(alloc);
+    // the patterns before this one are among the rules
     for glob in globs {
         match rules.add_with_braces(alloc, glob) {
             Ok(()) => {}

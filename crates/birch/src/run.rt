@@ -1,14 +1,14 @@
 //! A run of the command.
 
 use crate::answer::{answer, understand};
-use crate::environment::variable;
-use crate::index::Index;
-use crate::indexer::read_all;
-use crate::kept::{Trouble, Use, after_trouble, forget_kept, kept_index};
-use crate::options::{Color, Keeping, Options, command, read_options};
+use crate::options::{Color, Options, command, read_options};
 use crate::stats::{Stopwatch, tell_read};
 use crate::stop::Stop;
 use anyhow::anyhow;
+use birch_index::{
+    Index, Keeping, Reading, Trouble, Use, after_trouble, forget_kept, kept_index, read_all,
+    variable,
+};
 use birch_text::{Cleaned, EscapedJson, QueryTree};
 use serde_json::{Value, json};
 use std::alloc::{AllocError, Global};
@@ -56,12 +56,12 @@ fn words_of_command(rt: &HostRuntime) -> Result<Vec<String>, Stop> {
 
 // Does what is asked for, and gives the exit status: an error where a path of the command line couldn't be read.
 fn search(rt: &HostRuntime, options: &Options<'_>) -> Result<u8, Stop> {
-    let status = match options.keeping {
+    let status = match options.reading.keeping {
         Keeping::Forget => forget(rt, options)?,
         Keeping::Make if options.queries.is_none() => keep(rt, options)?,
         _ => answer_all(rt, options)?,
     };
-    Ok(if options.notes.has_failed() {
+    Ok(if options.reading.notes.has_failed() {
         FAILED
     } else {
         status
@@ -70,7 +70,7 @@ fn search(rt: &HostRuntime, options: &Options<'_>) -> Result<u8, Stop> {
 
 // Removes the index that is kept.
 fn forget(rt: &HostRuntime, options: &Options<'_>) -> Result<u8, Stop> {
-    if forget_kept(rt, options)? {
+    if forget_kept(rt, &options.reading)? {
         Ok(0)
     } else {
         let _ = eprintln!(rt; "birch: no index is kept of these paths");
@@ -81,9 +81,9 @@ fn forget(rt: &HostRuntime, options: &Options<'_>) -> Result<u8, Stop> {
 // Makes an index, or brings it up to date.
 fn keep(rt: &HostRuntime, options: &Options<'_>) -> Result<u8, Stop> {
     let watch = Stopwatch::start(rt)?;
-    match kept_index(rt, options)? {
+    match kept_index(rt, &options.reading)? {
         Use::Kept(index) => {
-            options.notes.tell(rt);
+            options.reading.notes.tell(rt);
             if options.has_stats {
                 tell_read(rt, &index, watch)?;
             }
@@ -104,8 +104,8 @@ fn answer_all(rt: &HostRuntime, options: &Options<'_>) -> Result<u8, Stop> {
         },
     };
     let watch = Stopwatch::start(rt)?;
-    let index = index_of(rt, options)?;
-    options.notes.tell(rt);
+    let index = index_of(rt, &options.reading)?;
+    options.reading.notes.tell(rt);
     if options.has_stats {
         tell_read(rt, &index, watch)?;
     }
@@ -122,15 +122,15 @@ fn answer_all(rt: &HostRuntime, options: &Options<'_>) -> Result<u8, Stop> {
 }
 
 // The index of what is searched: the one that is kept, where there is one, and else one of all files, read now.
-fn index_of(rt: &HostRuntime, options: &Options<'_>) -> Result<Index, Stop> {
-    if options.keeping == Keeping::Never {
-        return Ok(read_all(rt, options)?);
+fn index_of(rt: &HostRuntime, reading: &Reading<'_>) -> Result<Index, Stop> {
+    if reading.keeping == Keeping::Never {
+        return Ok(read_all(rt, reading)?);
     }
-    match kept_index(rt, options)? {
+    match kept_index(rt, reading)? {
         Use::Kept(index) => Ok(index),
-        Use::Refused => Ok(read_all(rt, options)?),
+        Use::Refused => Ok(read_all(rt, reading)?),
         Use::NotThere => {
-            let index = read_all(rt, options)?;
+            let index = read_all(rt, reading)?;
             hint(rt, index.tally.bytes);
             Ok(index)
         }
@@ -199,21 +199,22 @@ impl<'a, 'o, W: Write + Drop> Session<'a, 'o, W> {
     // Answers one query, and gives how many results there are. Where the index that is kept turns out to be damaged,
     // another takes its place, at last one of all files, read now.
     fn answer(&mut self, tree: &QueryTree) -> Result<usize, Stop> {
+        // each turn so far met an index that was replaced or damaged, and mended that
         for _ in 0..MOST_MENDED {
             match self.answer_once(tree) {
                 Err(Stop::Kept(trouble)) => self.mend(trouble)?,
                 found => return found,
             }
         }
-        self.index = read_all(self.rt, self.options)?;
+        self.index = read_all(self.rt, &self.options.reading)?;
         self.answer_once(tree)
     }
 
     // Has another index take the place of the one that is kept.
     fn mend(&mut self, trouble: Trouble) -> Result<(), Stop> {
-        self.index = match after_trouble(self.rt, self.options, trouble)? {
+        self.index = match after_trouble(self.rt, &self.options.reading, trouble)? {
             Use::Kept(index) => index,
-            Use::NotThere | Use::Refused => read_all(self.rt, self.options)?,
+            Use::NotThere | Use::Refused => read_all(self.rt, &self.options.reading)?,
         };
         Ok(())
     }
@@ -234,6 +235,7 @@ impl<'a, 'o, W: Write + Drop> Session<'a, 'o, W> {
     fn answer_lines<R: BufRead>(&mut self, input: &mut R) -> Result<u8, Stop> {
         let mut line = Vec::new(self.rt.alloc());
         let mut status = NOTHING_FOUND;
+        // the lines before this one are answered, and their statuses joined
         for _ in 0..u64::MAX {
             line.clear();
             if input.read_until(b'\n', &mut line)? == 0 {

@@ -1,7 +1,7 @@
 //! A query of the library, out of what a person wrote.
 
 use crate::beginnings::{MOST_WORDS, commonest_words};
-use crate::index::Index;
+use birch_index::Index;
 use birch_text::{Clause, QueryTree};
 use birchagain::rarity;
 use qm_parser::Sign;
@@ -42,6 +42,7 @@ fn query_of(
         QueryTree::Clause(clause) => leaf(alloc, index, statistics, clause),
         QueryTree::Several(parts) => {
             let mut built = Vec::new(alloc);
+            // the parts before this one are built
             for (sign, part) in parts {
                 let query = query_of(alloc, index, statistics, part)?;
                 built.push((occur_of(*sign), Box::new(alloc, query)?))?;
@@ -92,6 +93,7 @@ fn leaf(
 /// The terms of a clause, in its order.
 pub fn terms_of(alloc: Global, index: &Index, clause: &Clause) -> Result<Vec<Term>, QueryError> {
     let mut terms = Vec::with_capacity(alloc, clause.words.len())?;
+    // the words before this one are terms
     for word in &clause.words {
         terms.push(index.fields.term(alloc, clause, word.as_str())?)?;
     }
@@ -105,6 +107,7 @@ fn weigh_all(
     statistics: &mut Searcher,
     terms: &[Term],
 ) -> Result<(), QueryError> {
+    // the terms before this one are weighed
     for term in terms {
         index.weigh(alloc, statistics, term)?;
     }
@@ -166,6 +169,7 @@ fn begun_phrase(
     weigh_all(alloc, index, statistics, full)?;
     weigh_all(alloc, index, statistics, &words)?;
     let mut disjuncts = Vec::with_capacity(alloc, words.len())?;
+    // the phrases that end with the words before this one are there
     for word in &words {
         let phrase = whole(alloc, with_last(alloc, full, word)?, 0)?;
         disjuncts.push(Box::new(alloc, phrase)?)?;
@@ -192,6 +196,7 @@ pub fn ends_of<'a>(
 /// A copy of these terms.
 pub fn copied(alloc: Global, terms: &[Term]) -> Result<Vec<Term>, QueryError> {
     let mut copies = Vec::with_capacity(alloc, terms.len())?;
+    // the terms before this one are copied
     for term in terms {
         copies.push(term.clone(alloc)?)?;
     }

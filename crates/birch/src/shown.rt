@@ -1,7 +1,6 @@
 //! A result, as it is printed.
 
-use crate::files::{Source, read_piece};
-use crate::options::Options;
+use birch_index::{Reading, Source, read_piece};
 use birch_text::{Cleaned, EscapedJson, Form, Mark, Snippet, is_steering, snippet_of, text_at};
 use qm_store::DocumentPlace;
 use serde_json::{Value, json};
@@ -34,11 +33,11 @@ pub struct Shown<'a> {
 /// The text of a document, read again; none where its file has changed since it was read.
 pub fn text_of(
     rt: &HostRuntime,
-    options: &Options<'_>,
+    reading: &Reading<'_>,
     file: &Source,
     place: DocumentPlace,
 ) -> io::Result<Option<String>> {
-    let (alloc, form) = (rt.alloc(), options.form);
+    let (alloc, form) = (rt.alloc(), reading.form);
     let (start, len) = (place.first_byte as usize, place.byte_count as usize);
     if let Some(text) = &file.kept {
         let piece = text.as_str().get(start..start.saturating_add(len));
@@ -46,7 +45,7 @@ pub fn text_of(
         return Ok(Some(text));
     }
     let (start, len) = (u64::from(place.first_byte), u64::from(place.byte_count));
-    match read_piece(rt, options, file, start, len)? {
+    match read_piece(rt, reading, file, start, len)? {
         Some(piece) => {
             let text = text_at(alloc, form, file.column, piece.as_str())?;
             Ok(Some(text))
@@ -126,6 +125,7 @@ fn write_snippet<W: Write>(out: &mut W, shown: &Shown<'_>, is_coloured: bool) ->
     } = shown.snippet;
     let mut at = start;
     out.write_all(if start == 0 { b"    " } else { b"    .. " })?;
+    // the text up to `at` is written, with the marks before this one
     for mark in &shown.marks {
         if mark.start < at || mark.end > stop {
             continue;
@@ -144,6 +144,7 @@ fn write_snippet<W: Write>(out: &mut W, shown: &Shown<'_>, is_coloured: bool) ->
 // steer a terminal as a question mark.
 fn write_flow<W: Write>(out: &mut W, text: &str) -> io::Result<()> {
     let mut in_space = false;
+    // the letters before this one are written, and one space for each run of them
     for letter in text.chars() {
         if letter.is_whitespace() {
             if !in_space {
@@ -189,6 +190,7 @@ fn json_marks(alloc: Global, text: &str, marks: &[Mark]) -> Result<Value, AllocE
     let mut pairs = Vec::with_capacity(alloc, marks.len())?;
     let mut letters: u64 = 0;
     let mut at = 0;
+    // the marks before this one are there; `letters` stand before `at`, where the last of them ends
     for mark in marks {
         letters = letters.saturating_add(letters_of(text, at, mark.start));
         let length = letters_of(text, mark.start, mark.end);

@@ -1,6 +1,6 @@
 //! What was read and found, and how long it took, as it is told on standard error.
 
-use crate::index::Index;
+use birch_index::Index;
 use std::io;
 use std::time::{CpuClock, Duration};
 

@@ -1,7 +1,7 @@
 //! Why a run ends early.
 
-use crate::kept::Trouble;
 use anyhow::{Error, anyhow};
+use birch_index::Trouble;
 use qm_schema::QueryError;
 use std::alloc::{AllocError, AllocFailed};
 use std::io;

@@ -19,6 +19,7 @@ pub struct Cleaned<'a>(pub &'a str);
 
 impl<'a> fmt::Display for Cleaned<'a> {
     fn fmt<W: fmt::Write>(&self, f: &mut fmt::Formatter<W>) -> fmt::Result {
+        // the letters before this one are written
         for letter in self.0.chars() {
             let shown = match letter {
                 '\t' => ' ',
@@ -38,6 +39,7 @@ pub struct EscapedJson<'a>(pub &'a str);
 
 impl<'a> fmt::Display for EscapedJson<'a> {
     fn fmt<W: fmt::Write>(&self, f: &mut fmt::Formatter<W>) -> fmt::Result {
+        // the letters before this one are written
         for letter in self.0.chars() {
             if is_steering(letter) {
                 let number = u32::from(letter);

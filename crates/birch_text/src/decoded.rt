@@ -32,6 +32,7 @@ pub fn decode(alloc: Global, bytes: Vec<u8>) -> Result<Decoded, AllocError> {
 // single last byte, is U+FFFD.
 fn of_pairs(alloc: Global, bytes: &[u8], is_low_first: bool) -> Result<Decoded, AllocError> {
     let mut numbers = Vec::with_capacity(alloc, bytes.len() / 2 + 1)?;
+    // the pairs before this one are numbers
     for pair in bytes.chunks(2) {
         let number = match pair {
             [low, high] if is_low_first => u16::from_le_bytes([*low, *high]),

@@ -12,6 +12,7 @@ pub fn is_glob_match(pattern: &str, path: &str) -> bool {
         star: None,
         folders: None,
     };
+    // the path fits exactly where what is left of it fits what is left of the pattern, or what is kept of a star
     for _ in 0..u64::MAX {
         match at.next() {
             Next::On(next) => at = next,
@@ -149,6 +150,7 @@ fn class(pattern: &str, letter: char) -> Option<(bool, &str)> {
     let inner = inner.unwrap_or(pattern);
     let mut left = inner;
     let mut is_in = false;
+    // whether the letter is in one of the ranges before those that are left
     for turn in 0..inner.len() {
         let mut letters = left.chars();
         let first = letters.next()?;

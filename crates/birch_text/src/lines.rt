@@ -10,6 +10,7 @@ use memchr::memchr;
 pub fn add_lines<P: Passages>(text: &str, passages: &mut P) -> Result<()> {
     let mut start: usize = 0;
     let mut line: u32 = 1;
+    // the lines before this one are added
     for _ in 0..u64::MAX {
         let whole = line_at(text, start);
         if whole.is_empty() {
@@ -50,6 +51,7 @@ pub fn add_paragraphs<P: Passages>(text: &str, passages: &mut P) -> Result<()> {
     let mut open: Option<Open> = None;
     let mut start: usize = 0;
     let mut line: u32 = 1;
+    // the paragraphs that ended before this line are added, and the one that it goes on with is open
     for _ in 0..u64::MAX {
         let whole = line_at(text, start);
         if whole.is_empty() {

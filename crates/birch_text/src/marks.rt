@@ -40,6 +40,7 @@ impl<'a> Marker<'a> {
             words: Vec::new(alloc),
             beginnings: Vec::new(alloc),
         };
+        // the words of the clauses before this one are wanted
         for clause in clauses {
             match clause.scope {
                 Scope::FileName => {}
@@ -52,6 +53,7 @@ impl<'a> Marker<'a> {
 
     // Adds the words of one clause.
     fn add(&mut self, clause: &'a Clause) -> Result<(), AllocError> {
+        // the words before this one are wanted
         for word in &clause.words {
             self.words.push(word.as_str())?;
         }
@@ -85,8 +87,10 @@ impl<'a> Marker<'a> {
         let mut marks = Vec::new(alloc);
         let mut reader = WordReader::new(alloc, self.accents);
         let mut folded = String::new(alloc);
+        // what is wanted of the words before this one is marked
         for (first, word) in text.unicode_word_indices() {
             let mut start = first;
+            // and of the pieces of the word that end before `start`
             for part in word.split_inclusive(is_between) {
                 let piece = part.trim_end_matches(is_between);
                 reader.fold(&mut folded, piece)?;

@@ -28,6 +28,7 @@ pub fn named_word(alloc: Global, name: &str, word: &str) -> Result<String, Alloc
 pub fn add_named_words(named: &mut String, name: &str, words: &str) -> Result<(), AllocError> {
     push_name(named, name)?;
     named.push(' ')?;
+    // the words before this one are there, each behind the name
     for word in words.split_terminator(' ') {
         push_name(named, name)?;
         named.push_str(word)?;
@@ -43,6 +44,7 @@ pub fn split_named(named: &str) -> Option<(&str, &str)> {
 
 // Adds the name of a field and what stands behind it. A space in it is an underscore, as it is asked for.
 fn push_name(named: &mut String, name: &str) -> Result<(), AllocError> {
+    // the letters before this one are there, with a `_` for those that a name can't have
     for letter in name.chars() {
         if letter.is_whitespace() || letter == BEHIND_NAME {
             named.push('_')?;

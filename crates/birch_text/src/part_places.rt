@@ -36,6 +36,7 @@ pub(crate) fn part_places(alloc: Global, query: &str) -> Result<Vec<usize>, Allo
         places: Vec::new(alloc),
     };
     let mut is_escaped = false;
+    // the letters before this one are read, and a `\` right before it is known
     for (place, letter) in query.char_indices() {
         if is_escaped {
             is_escaped = false;

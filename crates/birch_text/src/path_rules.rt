@@ -75,6 +75,7 @@ impl PathRules {
     ///
     /// Refused for want of memory alone.
     pub fn add_lines(&mut self, alloc: Global, text: &str) -> Result<(), AllocError> {
+        // the patterns of the lines before this one are among the rules
         for line in text.lines() {
             let pattern = without_end(line);
             if !pattern.is_empty() && !pattern.starts_with('#') {
@@ -90,6 +91,7 @@ impl PathRules {
     pub fn add_with_braces(&mut self, alloc: Global, pattern: &str) -> Result<(), PatternError> {
         let mut open = Vec::new(alloc);
         open.push(String::from_str(alloc, pattern)?)?;
+        // as many patterns are taken as there were turns, and the rules and those left stand for what was given
         for _ in 0..MOST_PATTERNS {
             let Some(next) = open.pop() else {
                 return Ok(());
@@ -165,6 +167,7 @@ struct Braces {
 fn first_braces(pattern: &str) -> Option<Braces> {
     let mut open: Option<usize> = None;
     let mut depth: usize = 0;
+    // how deep the braces are before this byte, once one is open
     for (at, byte) in pattern.as_bytes().iter().enumerate() {
         match open {
             None if *byte == b'{' => open = Some(at),
@@ -187,6 +190,7 @@ fn push_alternatives(
     let behind = pattern.get(braces.close.saturating_add(1)..).unwrap_or("");
     let mut start = braces.open.saturating_add(1);
     let mut depth: usize = 0;
+    // the alternatives that end before this byte are there, and the next begins at `start`
     for (at, byte) in pattern.as_bytes().iter().enumerate() {
         if at <= braces.open || at > braces.close {
             continue;

@@ -111,6 +111,7 @@ impl<'a> QueryReader<'a> {
             ParsedQuery::Boolean(clauses) => {
                 let mut parts = Vec::new(self.alloc);
                 let mut is_only_not = true;
+                // the clauses before this one are parts
                 for (sign, clause) in clauses {
                     is_only_not = is_only_not && *sign == Sign::MustNot;
                     parts.push((*sign, self.tree(clause, around)?))?;

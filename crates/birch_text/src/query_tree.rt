@@ -53,6 +53,7 @@ fn push_clauses<'a>(
             Ok(())
         }
         QueryTree::Several(parts) => {
+            // the clauses of the parts before this one are there
             for (sign, part) in parts {
                 if has_forbidden || *sign != Sign::MustNot {
                     push_clauses(part, has_forbidden, clauses)?;

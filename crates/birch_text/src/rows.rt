@@ -71,6 +71,7 @@ pub(crate) fn add_csv_rows<P: Passages>(alloc: Global, text: &str, passages: &mu
     }
     let mut record = StringRecord::new(alloc);
     let mut places = RowPlaces::new(text);
+    // the rows before this one are added, or left out
     for _ in 0..u64::MAX {
         let from = reader.position().byte();
         let found = reader.read_record(&mut record);
@@ -95,6 +96,7 @@ fn csv_row(
     record: &StringRecord,
 ) -> Result<Row, AllocError> {
     let mut row = Row::new(alloc);
+    // the fields before this one are in the row
     for (column, field) in record.iter().enumerate() {
         let name = match head {
             Some(head) => head.get(column).unwrap_or(""),
@@ -137,6 +139,7 @@ pub(crate) fn add_json_rows<P: Passages>(
 ) -> Result<()> {
     let mut start: usize = 0;
     let mut line: u32 = 1;
+    // the lines before this one are added
     for _ in 0..u64::MAX {
         let whole = line_at(text, start);
         if whole.is_empty() {
@@ -210,6 +213,7 @@ fn push_members<'a>(
     members: &'a Map<String, Value>,
 ) -> Result<(), AllocError> {
     let first = left.len();
+    // the members before this one wait, each with its path
     for (key, member) in members {
         let mut inner = String::from_str(alloc, path)?;
         if !path.is_empty() {
@@ -230,6 +234,7 @@ fn push_items<'a>(
     items: &'a [Value],
 ) -> Result<(), AllocError> {
     let first = left.len();
+    // the items before this one wait
     for item in items {
         left.push((String::from_str(alloc, path)?, item))?;
     }

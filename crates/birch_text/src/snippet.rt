@@ -36,6 +36,7 @@ fn densest(marks: &[Mark], room: usize) -> usize {
     let mut best = 0;
     let mut most = 0;
     let mut first = 0;
+    // of the marks before this one, no more stand within the room than from the best on
     for (number, mark) in marks.iter().enumerate() {
         first = first_within(marks, first, mark.end.saturating_sub(room));
         let together = number.saturating_sub(first);
@@ -82,6 +83,7 @@ fn word_end(text: &str, at: usize) -> usize {
 
 // The first byte from there on where a letter begins.
 fn boundary(text: &str, from: usize) -> usize {
+    // no letter begins from there to before this place
     for at in from..text.len() {
         if text.is_char_boundary(at) {
             return at;

@@ -29,6 +29,7 @@ pub(crate) fn add_csv<P: Passages>(
         bail!("no column is called {column}");
     };
     let mut places = RowPlaces::new(text);
+    // the rows before this one are added, or left out
     for turn in 0..u64::MAX {
         let from = reader.position().byte();
         let found = reader.read_record(&mut row);
@@ -89,6 +90,7 @@ pub(crate) fn add_json<P: Passages>(
 ) -> Result<()> {
     let mut start: usize = 0;
     let mut line: u32 = 1;
+    // the lines before this one are added
     for _ in 0..u64::MAX {
         let whole = line_at(text, start);
         if whole.is_empty() {

@@ -58,7 +58,9 @@ impl WordReader {
         self.lowered.push_str(text)?;
         self.lowered.make_ascii_lowercase();
         let mut count: u32 = 0;
+        // the pieces of the words before this one are there, so many
         for word in self.lowered.as_str().unicode_words() {
+            // and those of the pieces before this one
             for piece in word.split(is_between) {
                 if is_word(piece) {
                     words.push_str(piece)?;
@@ -73,7 +75,9 @@ impl WordReader {
     // Adds the words of a text of any letters.
     fn add_folded(&mut self, words: &mut String, text: &str) -> Result<u32, AllocError> {
         let mut count: u32 = 0;
+        // the pieces of the words before this one are there, so many
         for word in text.unicode_words() {
+            // and those of the pieces before this one
             for piece in word.split(is_between) {
                 count = count.saturating_add(self.add_piece(words, piece)?);
             }
@@ -108,6 +112,7 @@ impl WordReader {
         if !word.is_ascii() {
             return self.push_other(folded, word);
         }
+        // the letters before this one are there in lower case
         for letter in word.chars() {
             folded.push(letter.to_ascii_lowercase())?;
         }
@@ -118,12 +123,14 @@ impl WordReader {
     // marks are one character.
     fn push_other(&mut self, folded: &mut String, word: &str) -> Result<(), AllocError> {
         self.letters.clear();
+        // the letters before this one are there, folded
         for letter in word.chars().default_case_fold() {
             self.letters.push(letter)?;
         }
         self.apart.clear();
         extend_nfd(&mut self.apart, self.letters.as_slice())?;
         self.letters.clear();
+        // the letters before this one are there, without accents that don't count
         for letter in &self.apart {
             if self.accents == Accents::Kept || !is_accent(*letter) {
                 self.letters.push(*letter)?;
@@ -131,6 +138,7 @@ impl WordReader {
         }
         self.apart.clear();
         extend_nfc(&mut self.apart, self.letters.as_slice())?;
+        // the letters before this one are added
         for letter in &self.apart {
             folded.push(*letter)?;
         }
@@ -149,6 +157,7 @@ pub(crate) fn push_words(
 ) -> Result<(), AllocError> {
     let mut joined = String::new(alloc);
     reader.add_words(&mut joined, text)?;
+    // the words before this one are added
     for word in joined.as_str().split_terminator(' ') {
         words.push(String::from_str(alloc, word)?)?;
     }

@@ -38,6 +38,7 @@ fn norms() -> [u32; 256]
     ensures words { result ≡ range_with_len 0 256 }
 {
     let mut norms = [0; 256];
+    // each id before this one has itself as its norm
     for id in 0..256 {
         norms[id] = id as u32;
     }

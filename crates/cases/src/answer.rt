@@ -83,6 +83,7 @@ fn write_documents(
     count: usize,
     text: &mut String,
 ) -> Result<(), AllocError> {
+    // the documents before this one are written, and are at most so many
     for (number, doc) in buffer.iter().enumerate() {
         if number >= count {
             return Ok(());

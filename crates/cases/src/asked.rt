@@ -35,6 +35,7 @@ pub fn play_asked<A: Asker>(
     report: &mut Report,
 ) -> Result<(), Fault> {
     let mut memory = Memory::Ample;
+    // the rows before this one are played, and `memory` is what they allow
     for row in rows {
         if let Some(allowed) = read_allowed(row.call) {
             report.compare(
@@ -94,6 +95,7 @@ fn play_refused<A: Asker>(
     row: &Row<'_>,
     report: &mut Report,
 ) -> Result<(), Fault> {
+    // each call so far was refused for want of memory, and said nothing before
     for number in 1..MOST_REQUESTS {
         let answer = asker.ask(alloc, row.call, Memory::Refused(number), &mut report.got);
         end_refusals(alloc);

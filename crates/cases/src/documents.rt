@@ -8,6 +8,7 @@ use std::alloc::Global;
 /// The numbers that words spell: `7`, `0..500`, or `0..500/3`, the multiples of 3 among them.
 pub fn read_documents(alloc: Global, words: &[&str]) -> Result<Vec<DocId>, Fault> {
     let mut documents = Vec::with_capacity(alloc, words.len())?;
+    // the numbers that the words before this one spell are there
     for word in words {
         match word.split_once("..") {
             Some((first, rest)) => add_range(first, rest, &mut documents)?,
@@ -32,6 +33,7 @@ fn add_range(first: &str, rest: &str, documents: &mut Vec<DocId>) -> Result<(), 
     ) else {
         return Err(Fault::NotUnderstood);
     };
+    // of the numbers before this one the multiples of the step are there
     for doc in first..end {
         if step > 0 && doc % step == 0 {
             documents.push(doc)?;

@@ -139,6 +139,7 @@ fn play_refused<P: Player>(
     block: Block<'_>,
     report: &mut Report,
 ) -> Result<(), Fault> {
+    // with each request before this one refused, the block was refused for want of memory
     for number in 1..MOST_REQUESTS {
         let memory = Memory::Refused(number);
         let played = play_once(alloc, player, Block { memory, ..block }, report);

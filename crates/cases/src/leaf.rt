@@ -193,6 +193,7 @@ pub fn read_leaves<'a>(
     if words.is_empty() {
         return Ok(leaves);
     }
+    // the leaves of the parts before this one are there, and all of them are placed
     for part in words.split(|word| *word == ";") {
         let is_first = leaves.is_empty();
         leaves.push(read_leaf(alloc, part, is_first, moves)?)?;

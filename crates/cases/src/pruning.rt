@@ -60,6 +60,7 @@ pub fn replies_of(alloc: Global, call: &str) -> Result<Vec<Reply>, Fault> {
 
 fn read_replies(alloc: Global, words: &[&str]) -> Result<Vec<Reply>, Fault> {
     let mut replies = Vec::new(alloc);
+    // the answers that the words before this one spell are there
     for word in words {
         replies.push(read_reply(word)?)?;
     }

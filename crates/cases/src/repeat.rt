@@ -8,6 +8,7 @@ use std::alloc::Global;
 /// `repeat A..B ( .. )` once for each number, which takes the place of `#`.
 pub fn expand(alloc: Global, words: &[&str]) -> Result<String, Fault> {
     let mut line = String::new(alloc);
+    // the line has the words of the parts before this one, the repeated ones as often as is said
     for part in words.split(|word| *word == "repeat") {
         if line.as_str().is_empty() {
             add_words(part, "#", &mut line)?;
@@ -28,6 +29,7 @@ fn add_repeated(alloc: Global, words: &[&str], line: &mut String) -> Result<(), 
     let (first, end) = read_range(range)?;
     let mut inside = Vec::new(alloc);
     let mut is_inside = true;
+    // of the words before this one those in parentheses are inside, and those behind them in the line
     for word in rest {
         if *word == ")" {
             add_times(alloc, inside.as_slice(), first, end, line)?;
@@ -51,6 +53,7 @@ fn add_times(
     end: u32,
     line: &mut String,
 ) -> Result<(), Fault> {
+    // the line has the words once for each number before this one
     for number in first..end {
         let number = format!(in alloc; "{number}")?;
         add_words(words, number.as_str(), line)?;
@@ -60,6 +63,7 @@ fn add_times(
 
 // Adds words, with another one in place of `#`.
 fn add_words(words: &[&str], number: &str, line: &mut String) -> Result<(), Fault> {
+    // the words before this one are in the line, with the number in place of `#`
     for word in words {
         add_word(if *word == "#" { number } else { word }, line)?;
     }
@@ -86,6 +90,7 @@ fn read_range(word: &str) -> Result<(u32, u32), Fault> {
 /// each number, which takes the place of every `#` in it.
 pub fn spell_rows(alloc: Global, rows: &[Row<'_>]) -> Result<String, Fault> {
     let mut text = String::new(alloc);
+    // the rows before this one are in the text, a repeated one once for each of its numbers
     for row in rows {
         match row.call.strip_prefix("repeat ") {
             Some(call) => spell_times(alloc, row, call, &mut text)?,
@@ -99,6 +104,7 @@ pub fn spell_rows(alloc: Global, rows: &[Row<'_>]) -> Result<String, Fault> {
 fn spell_times(alloc: Global, row: &Row<'_>, call: &str, text: &mut String) -> Result<(), Fault> {
     let (range, call) = call.split_once(' ').ok_or(Fault::NotUnderstood)?;
     let (first, end) = read_range(range)?;
+    // the text has the row once for each number before this one
     for number in first..end {
         let number = format!(in alloc; "{number}")?;
         spell_row(row, call, number.as_str(), text)?;
@@ -119,6 +125,7 @@ fn spell_row(row: &Row<'_>, call: &str, number: &str, text: &mut String) -> Resu
 // Adds a text, in which a number takes the place of `#`.
 fn add_replaced(spelled: &str, number: &str, text: &mut String) -> Result<(), Fault> {
     let mut is_first = true;
+    // the text has the parts before this one, with the number between two
     for part in spelled.split('#') {
         if !is_first {
             text.push_str(number)?;
@@ -132,6 +139,7 @@ fn add_replaced(spelled: &str, number: &str, text: &mut String) -> Result<(), Fa
 /// The rows of such a text.
 pub fn read_rows<'a>(alloc: Global, text: &'a str) -> Result<Vec<Row<'a>>, Fault> {
     let mut rows = Vec::new(alloc);
+    // the rows of the lines before this one are there
     for line in text.lines() {
         let (number, row) = line.split_once(' ').ok_or(Fault::NotUnderstood)?;
         let number = number.parse().map_err(|_| Fault::NotUnderstood)?;
@@ -142,11 +150,13 @@ pub fn read_rows<'a>(alloc: Global, text: &'a str) -> Result<Vec<Row<'a>>, Fault
 
 /// Whether a block with these words and rows repeats anything.
 pub fn is_repeated(words: &[&str], rows: &[Row<'_>]) -> bool {
+    // no word before this one repeats others
     for word in words {
         if *word == "repeat" {
             return true;
         }
     }
+    // no row before this one is repeated
     for row in rows {
         if row.call.starts_with("repeat ") {
             return true;

@@ -8,6 +8,7 @@ use std::alloc::{AllocError, Global};
 /// The words of a line, which is cut at spaces.
 pub fn words_of<'a>(alloc: Global, line: &'a str) -> Result<Vec<&'a str>, AllocError> {
     let mut words = Vec::with_capacity(alloc, 16)?;
+    // the words before this one are there
     for word in line.split_whitespace() {
         words.push(word)?;
     }

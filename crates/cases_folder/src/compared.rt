@@ -69,6 +69,7 @@ impl Compared {
 }
 
 fn write_places(places: &[usize], text: &mut String) -> Result<(), AllocError> {
+    // the places before this one are written
     for place in places {
         write_space(text)?;
         write!(text, "{place}")?;

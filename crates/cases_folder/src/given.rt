@@ -28,6 +28,7 @@ impl GivenChange {
             gone: Vec::new(alloc),
         };
         let mut part = 0u32;
+        // the change has what the words before this one say, and `part` of these are `;`
         for word in behind(words, 1) {
             if *word == ";" {
                 part = part.saturating_add(1);
@@ -85,9 +86,11 @@ impl GivenChange {
             contents.push(manifest.to_vec(alloc)?)?;
         }
         add_content(alloc, &mut contents, self.manifest.as_slice())?;
+        // each new file before this one has its bytes there, and the front half of them
         for file in &self.files {
             add_content(alloc, &mut contents, file.bytes.as_slice())?;
         }
+        // the bytes of the old files before this one are there too
         for file in &self.before {
             contents.push(file.bytes.to_vec(alloc)?)?;
         }
@@ -104,6 +107,7 @@ fn add_content(alloc: Global, contents: &mut Vec<Vec<u8>>, bytes: &[u8]) -> Resu
 
 // The bytes of the file of a name.
 fn found<'a>(files: &'a [NewFile], name: &str) -> Option<&'a [u8]> {
+    // no file before this one has the name
     for file in files {
         if file.name.as_str() == name {
             return Some(file.bytes.as_slice());

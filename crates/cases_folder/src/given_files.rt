@@ -20,6 +20,7 @@ impl GivenFiles {
             found: Vec::new(alloc),
         };
         let mut is_kept = true;
+        // the files of the words before this one are there, kept ones up to the `;` and found ones behind it
         for word in behind(words, 1) {
             if *word == ";" {
                 is_kept = false;
@@ -60,6 +61,7 @@ fn read_found(alloc: Global, word: &str) -> Result<FoundFile, Fault> {
 fn read_path(alloc: Global, spelled: &str) -> Result<Vec<u8>, Fault> {
     let mut path = Vec::new(alloc);
     let mut is_byte = false;
+    // the path has what the parts before this one spell, and `is_byte` says whether this one is a byte
     for part in spelled.split('%') {
         if is_byte {
             let byte = u8::from_str_radix(part, 16).map_err(|_| Fault::NotUnderstood)?;
@@ -75,6 +77,7 @@ fn read_path(alloc: Global, spelled: &str) -> Result<Vec<u8>, Fault> {
 // The stamp of `SIZE:BYTES_CHANGED:CHANGED:INODE`.
 fn read_stamp(alloc: Global, spelled: &str) -> Result<FileStamp, Fault> {
     let mut numbers: Vec<u64> = Vec::new(alloc);
+    // the numbers of the parts before this one are there
     for part in spelled.split(':') {
         numbers.push(part.parse().map_err(|_| Fault::NotUnderstood)?)?;
     }

@@ -29,6 +29,7 @@ impl Left {
 
     /// Writes them.
     pub fn write(self, text: &mut String) -> Result<(), AllocError> {
+        // those before this one are written, as far as they are there
         for (is_there, word) in [
             (self.before, "before"),
             (self.after, "after"),
@@ -75,6 +76,7 @@ pub fn left_of(
         neither: false,
     };
     add_left(alloc, folder, change, &contents, None, &mut left)?;
+    // the indexes without a manifest and with those before this one are there, where a crash may leave them
     for manifest in &contents {
         add_left(
             alloc,
@@ -102,6 +104,7 @@ fn add_left(
     }
     let which = change.manifest_of(manifest);
     let mut may_be = true;
+    // `may_be` says whether a crash may leave all names before this one as they are wanted
     for name in &GivenChange::names(alloc, manifest)? {
         let wanted = change.content(which, name);
         may_be = may_be && folder.may_leave(name, wanted);
@@ -123,6 +126,7 @@ fn may_leave_other(
     if wanted.is_some() && folder.may_leave(name, None) {
         return true;
     }
+    // of the contents before this one a crash may leave none but the wanted one
     for content in contents {
         let content = Some(content.as_slice());
         if content != wanted && folder.may_leave(name, content) {
@@ -141,6 +145,7 @@ pub fn seen_in<F: Folder>(
     let manifest = folder.read(alloc, MANIFEST)?;
     let manifest = bytes_of(&manifest);
     let which = change.manifest_of(manifest);
+    // the names before this one stand for what they do in that index
     for name in &GivenChange::names(alloc, manifest)? {
         let content = folder.read(alloc, name)?;
         if bytes_of(&content) != change.content(which, name) {
@@ -178,6 +183,7 @@ pub fn write_names<F: Folder>(
         Err(error) => return Err(fault_of(error)),
     };
     names.sort_unstable();
+    // the names before this one are written
     for name in &names {
         write_space(text)?;
         text.push_str(name.as_str())?;

@@ -20,6 +20,7 @@ impl GivenNames {
             gone: Vec::new(alloc),
         };
         let mut is_new = true;
+        // the names of the words before this one are there, new ones up to the `;` and gone ones behind it
         for word in behind(words, 1) {
             if *word == ";" {
                 is_new = false;

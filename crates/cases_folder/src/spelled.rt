@@ -8,6 +8,7 @@ pub fn named(alloc: Global, manifest: &[u8]) -> Result<Vec<&str>, AllocError> {
     let Ok(text) = str::from_utf8(manifest) else {
         return Ok(names);
     };
+    // the names before this one are there, but for empty ones
     for name in text.split(',') {
         if !name.is_empty() {
             names.push(name)?;

@@ -33,6 +33,7 @@ fn read_set(alloc: Global, max_value: u32, words: &[&str]) -> Result<BitSet, Fau
 /// Adds numbers to a set; whether each is below the set's greatest one.
 pub fn add_all(set: &mut BitSet, numbers: &[u32]) -> bool {
     let mut are_below = true;
+    // the numbers before this one that the set has room for are in it, and it is known whether all are
     for number in numbers {
         if *number < set.max_value() {
             set.insert(*number);
@@ -49,6 +50,7 @@ fn alive_of(alloc: Global, segments: &[SegmentReader]) -> Result<AliveBitSet, Fa
     };
     let max_doc = segment.max_doc();
     let mut set = BitSet::with_max_value(alloc, max_doc)?;
+    // the set has those of the documents before this one that are alive
     for doc in 0..max_doc {
         let is_alive = match segment.alive_bitset() {
             Some(alive) => alive.is_alive(doc),

@@ -23,6 +23,7 @@ pub fn read_segments(
 ) -> Result<Vec<SegmentReader>, Fault> {
     let block_len = read_block_len(alloc, rows)?;
     let mut segments = Vec::new(alloc);
+    // the segments of the parts before this one are there
     for part in rows.split(|row| row.call == "segment") {
         segments.push(read_segment(alloc, schema, block_len, part, report)?)?;
     }
@@ -58,6 +59,7 @@ fn fill_segment(
     segment: &mut SegmentBuilder,
     rows: &[Row<'_>],
 ) -> Result<(), Fault> {
+    // the segment has the documents of the rows before this one
     for row in rows {
         match first_word(row.call) {
             "doc" => add_row(alloc, schema, segment, row, rows)?,
@@ -88,6 +90,7 @@ fn check_deletions(
     rows: &[Row<'_>],
     report: &mut Report,
 ) -> Result<(), Fault> {
+    // the rows before this one that delete a document that is not there are reported
     for row in rows {
         if first_word(row.call) == "delete" {
             let words = words_of(alloc, row.call)?;
@@ -125,6 +128,7 @@ fn put_document(segment: &mut SegmentBuilder, document: PlainDoc) -> Result<DocI
 
 fn is_deleted(alloc: Global, doc: DocId, rows: &[Row<'_>]) -> Result<bool, Fault> {
     let name = format!(in alloc; "delete {doc}")?;
+    // no row before this one deletes the document
     for row in rows {
         if row.call == name.as_str() {
             return Ok(true);
@@ -157,6 +161,7 @@ fn add_texts(
     document: &mut PlainDoc,
     words: &[&str],
 ) -> Result<(), Fault> {
+    // the document has the texts of the parts before this one
     for part in words.split(|word| *word == ";") {
         let Some(name) = word(part, 0).strip_suffix(':') else {
             return Err(Fault::NotUnderstood);
@@ -174,6 +179,7 @@ fn add_text(
     words: &[&str],
 ) -> Result<(), Fault> {
     let mut text = String::new(alloc);
+    // the text has the words before this one, with a space behind each
     for word in words {
         text.push_str(word)?;
         text.push(' ')?;
@@ -191,6 +197,7 @@ fn add_documents(
 ) -> Result<(), Fault> {
     let words = words_of(alloc, row.call)?;
     let count = number(&words, 1).ok_or(Fault::NotUnderstood)?;
+    // the documents of the numbers before this one are in the segment
     for doc in 0..count {
         let document = document_at(alloc, behind(&words, 2), doc)?;
         add_document(alloc, segment, document, rows)?;
@@ -206,6 +213,7 @@ fn document_at(alloc: Global, words: &[&str], doc: DocId) -> Result<PlainDoc, Fa
 
 fn words_at<'a>(alloc: Global, words: &[&'a str], doc: DocId) -> Result<Vec<&'a str>, Fault> {
     let mut chosen = Vec::new(alloc);
+    // of the words before this one those that stand in the document are chosen
     for word in words {
         match word.split_once('/') {
             None => chosen.push(*word)?,

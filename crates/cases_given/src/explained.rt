@@ -48,6 +48,7 @@ pub fn write_values(
     if !are_details {
         return Ok(write!(text, "{}", explanation.value())?);
     }
+    // the values of the details before this one are written
     for detail in explanation.details() {
         write_space(text)?;
         write!(text, "{}", detail.value())?;

@@ -15,6 +15,7 @@ pub struct Form<'a> {
 
 /// Whether the words have the word.
 pub fn has_word(words: &[&str], wanted: &str) -> bool {
+    // no word before this one is the wanted one
     for word in words {
         if *word == wanted {
             return true;

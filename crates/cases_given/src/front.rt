@@ -52,6 +52,7 @@ pub fn take_clauses<T: Drop>(
     count: u32,
 ) -> Result<Vec<Clause<T>>, Fault> {
     let mut taken = Vec::new(alloc);
+    // as many clauses are taken, in order, as there were turns
     for _ in 0..count {
         match made.pop() {
             Some(clause) => taken.push(clause)?,

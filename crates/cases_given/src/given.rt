@@ -34,6 +34,7 @@ pub fn read_world(alloc: Global, rows: &[Row<'_>], report: &mut Report) -> Resul
 
 // Reports rows that say nothing.
 fn check_names(rows: &[Row<'_>], report: &mut Report) -> Result<(), Fault> {
+    // the rows before this one that say nothing are reported
     for row in rows {
         if !is_name(first_word(row.call)) || !row.wanted.is_empty() {
             report.wrong(row.line, "not understood")?;
@@ -69,6 +70,7 @@ pub fn first_word<'a>(call: &'a str) -> &'a str {
 
 /// The words of the first row of a name, from its name on; none where there is no such row.
 pub fn row_of<'a>(alloc: Global, rows: &[Row<'a>], name: &str) -> Result<Vec<&'a str>, Fault> {
+    // no row before this one has the name
     for row in rows {
         if first_word(row.call) == name {
             return Ok(words_of(alloc, row.call)?);
@@ -158,6 +160,7 @@ fn read_norms(alloc: Global, rows: &[Row<'_>]) -> Result<[u32; 256], Fault> {
     }
     let mut norms = [0; 256];
     let mut last = 0;
+    // the length ids before this one have their norms, of which `last` is the last
     for (id, norm) in norms.iter_mut().enumerate() {
         last = number(&words, id.saturating_add(1)).unwrap_or(last);
         *norm = last;

@@ -30,6 +30,7 @@ impl<'a> Listing<'a> {
 
     /// Documents.
     pub fn add_documents(&mut self, docs: &[DocId]) {
+        // the documents before this one are written, as far as the text has room
         for doc in docs {
             let _ = write_next(self.text, *doc);
         }
@@ -54,6 +55,7 @@ fn write_wanted(text: &mut String, term: &Term, is_wanted: bool) -> Result<(), A
 /// Writes the text of a term.
 pub fn write_term(text: &mut String, term: &Term) -> Result<(), AllocError> {
     write_space(text)?;
+    // the bytes of the term before this one are written
     for byte in term.serialized_value_bytes() {
         text.push(char::from(*byte))?;
     }

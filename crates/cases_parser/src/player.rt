@@ -89,6 +89,7 @@ fn repeat(alloc: Global, form: &str, typed: &str) -> Result<String, Fault> {
 }
 
 fn push_times(times: u32, part: &str, text: &mut String) -> Result<(), AllocError> {
+    // the part stands behind the text as often as there were turns
     for _ in 0..times {
         text.push_str(part)?;
     }

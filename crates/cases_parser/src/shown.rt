@@ -22,6 +22,7 @@ pub fn show_tree(tree: &ParsedQuery, text: &mut String) -> Result<(), AllocError
         }
         ParsedQuery::Boolean(clauses) => {
             text.push('(')?;
+            // the clauses before this one are written, each behind its sign
             for (sign, clause) in clauses {
                 text.push_str(shown_sign(*sign))?;
                 show_tree(clause, text)?;

@@ -7,6 +7,7 @@ use std::alloc::{AllocError, Global};
 pub fn read_text(alloc: Global, spelled: &str) -> Result<String, Fault> {
     let mut bytes = Vec::new(alloc);
     let mut is_first = true;
+    // the bytes of the parts before this one are there
     for part in spelled.split('%') {
         let rest = if is_first {
             part
@@ -28,6 +29,7 @@ pub fn read_text(alloc: Global, spelled: &str) -> Result<String, Fault> {
 /// `'` and `=`; each other one is a `%` with two digits.
 pub fn show_text(shown: &str, text: &mut String) -> Result<(), AllocError> {
     text.push('\'')?;
+    // the bytes before this one are written, each as itself or as a `%` with two digits
     for byte in shown.as_bytes() {
         if (*byte == b' ' || byte.is_ascii_graphic()) && !matches!(*byte, b'%' | b'\'' | b'=') {
             text.push(char::from(*byte))?;

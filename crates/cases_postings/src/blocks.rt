@@ -11,7 +11,7 @@ use cases::{
 };
 use qm_docset::{DocId, TERMINATED};
 use qm_postings::SegmentPostings;
-use qm_term::{TermScorer, WandCount, block_wand_single_scorer};
+use qm_term::{Norms, TermScorer, WandCount, block_wand_single_scorer};
 use std::alloc::Global;
 
 /// The target of `seek_block T`.
@@ -79,9 +79,9 @@ fn seek_block(
 
 /// Makes a call of the blocks of a term's scorer, or the run over it, and writes what it answered; `None`
 /// where it is none.
-pub fn ask_scored_blocks(
+pub fn ask_scored_blocks<N: Norms>(
     alloc: Global,
-    scorer: &mut TermScorer<'_>,
+    scorer: &mut TermScorer<'_, N>,
     call: &str,
     memory: Memory,
     text: &mut String,
@@ -101,15 +101,15 @@ pub fn ask_scored_blocks(
     }
 }
 
-fn write_score_bound(scorer: &TermScorer<'_>, text: &mut String) -> Result<(), Fault>
+fn write_score_bound<N: Norms>(scorer: &TermScorer<'_, N>, text: &mut String) -> Result<(), Fault>
     requires { IsTermScorer scorer.now }
 {
     Ok(write!(text, "{}", scorer.block_max_score())?)
 }
 
-fn seek_scored_block(
+fn seek_scored_block<N: Norms>(
     alloc: Global,
-    scorer: &mut TermScorer<'_>,
+    scorer: &mut TermScorer<'_, N>,
     target: &str,
     memory: Memory,
 ) -> Result<(), Fault>
@@ -125,9 +125,9 @@ fn seek_scored_block(
 
 // The run over what a copy of the scorer has left, by `CALL T` or `CALL T answers A..`: what it counted. Its
 // calls are written behind the text.
-fn run_single(
+fn run_single<N: Norms>(
     alloc: Global,
-    scorer: &TermScorer<'_>,
+    scorer: &TermScorer<'_, N>,
     call: &str,
     memory: Memory,
     text: &mut String,
@@ -154,9 +154,9 @@ fn run_single(
 }
 
 // The calls of that run.
-fn write_calls(
+fn write_calls<N: Norms>(
     alloc: Global,
-    scorer: &TermScorer<'_>,
+    scorer: &TermScorer<'_, N>,
     call: &str,
     memory: Memory,
     text: &mut String,
@@ -169,9 +169,9 @@ fn write_calls(
 
 // Whether the run of `TICKS TURNS T ..` scores at most so many documents, and at least one for each call, in at
 // most so many turns.
-fn write_bounded(
+fn write_bounded<N: Norms>(
     alloc: Global,
-    scorer: &TermScorer<'_>,
+    scorer: &TermScorer<'_, N>,
     bounds: &str,
     memory: Memory,
     text: &mut String,
@@ -191,9 +191,9 @@ fn write_bounded(
 }
 
 // How many documents that run scores, and how many turns it takes.
-fn write_counted(
+fn write_counted<N: Norms>(
     alloc: Global,
-    scorer: &TermScorer<'_>,
+    scorer: &TermScorer<'_, N>,
     call: &str,
     memory: Memory,
     text: &mut String,

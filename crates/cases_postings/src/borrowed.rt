@@ -8,12 +8,12 @@ use crate::bench::Bench;
 use crate::making::play_owned;
 use crate::ranked::write_scores;
 use crate::spelled::{cut, read_boosted, read_field, read_option, read_rising_norms, read_term};
-use crate::weight_rows::{WeightRows, read_pair};
+use crate::weight_rows::WeightRows;
 use cases::{Asker, Block, Fault, Memory, Report, Row, end_refusals, play_asked, word, words_of};
 use qm_docset::DocSet;
 use qm_postings::SegmentReader;
 use qm_schema::{IndexRecordOption, Term};
-use qm_term::{BorrowedTermScorer, BorrowedWeight};
+use qm_term::{Bm25Weight, TermScorer};
 use std::alloc::Global;
 
 /// Plays `borrowedweight WEIGHT NORMS`.
@@ -32,11 +32,14 @@ pub fn play_weight(
 fn play_rows<'b>(
     alloc: Global,
     bench: &'b Bench,
-    weight: BorrowedWeight<'b>,
+    weight: Bm25Weight<&'b [u32; 256]>,
     rows: &[Row<'_>],
     report: &mut Report,
 ) -> Result<(), Fault> {
-    let mut asker = BorrowedRows { bench, weight };
+    let mut asker = BorrowedRows {
+        bench,
+        of_weight: WeightRows { weight },
+    };
     play_asked(alloc, &mut asker, rows, report)
 }
 
@@ -64,12 +67,12 @@ fn make_weight<'n>(
     spelled: &str,
     norms: &'n [u32; 256],
     memory: Memory,
-) -> Result<BorrowedWeight<'n>, Fault>
+) -> Result<Bm25Weight<&'n [u32; 256]>, Fault>
     requires { IsNonDecreasing norms.now }
 {
     let (weight, boost) = read_boosted(spelled)?;
     memory.begin(alloc);
-    let made = BorrowedWeight::new(weight, boost, norms);
+    let made = Bm25Weight::borrowing(weight, boost, norms);
     end_refusals(alloc);
     Ok(made?)
 }
@@ -80,13 +83,13 @@ fn scorer_of<'b>(
     segment: &'b SegmentReader,
     term: &Term,
     option: IndexRecordOption,
-    weight: BorrowedWeight<'b>,
+    weight: Bm25Weight<&'b [u32; 256]>,
     memory: Memory,
-) -> Option<BorrowedTermScorer<'b>>
-    ensures { IfSome result (IsPlaced ⟦<BorrowedTermScorer<'b> as DocSet>⟧) }
+) -> Option<TermScorer<'b, &'b [u32; 256]>>
+    ensures { IfSome result (IsPlaced ⟦<TermScorer<'b, &'b [u32; 256]> as DocSet>⟧) }
 {
     memory.begin(alloc);
-    let found = BorrowedTermScorer::for_term(segment, term, option, weight);
+    let found = TermScorer::for_term(segment, term, option, &weight);
     end_refusals(alloc);
     found
 }
@@ -95,7 +98,7 @@ fn scorer_of<'b>(
 #[derive(Drop)]
 pub struct BorrowedRows<'b> {
     bench: &'b Bench,
-    weight: BorrowedWeight<'b>,
+    of_weight: WeightRows<&'b [u32; 256]>,
 }
 
 impl<'b> Asker for BorrowedRows<'b> {
@@ -108,39 +111,17 @@ impl<'b> Asker for BorrowedRows<'b> {
     ) -> Result<(), Fault> {
         let (name, rest) = cut(call);
         match name {
-            "score" => ask_score(alloc, &self.weight, call, memory, text),
-            "max_score" => {
-                memory.begin(alloc);
-                let most = self.weight.max_score();
-                end_refusals(alloc);
-                Ok(write!(text, "{most}")?)
-            }
-            "owned" => ask_owned(alloc, &self.weight, rest, memory, text),
-            "lists" => write_list(alloc, self.bench, self.weight, rest, memory, text),
-            _ => Err(Fault::NotUnderstood),
+            "owned" => ask_owned(alloc, &self.of_weight.weight, rest, memory, text),
+            "lists" => write_list(alloc, self.bench, self.of_weight.weight, rest, memory, text),
+            _ => self.of_weight.ask(alloc, call, memory, text),
         }
     }
-}
-
-// `score ID FREQUENCY`.
-fn ask_score(
-    alloc: Global,
-    weight: &BorrowedWeight<'_>,
-    call: &str,
-    memory: Memory,
-    text: &mut String,
-) -> Result<(), Fault> {
-    let (id, frequency) = read_pair(&words_of(alloc, call)?)?;
-    memory.begin(alloc);
-    let score = weight.score(id, frequency);
-    end_refusals(alloc);
-    Ok(write!(text, "{score}")?)
 }
 
 // A call of the weight that has a copy of the norms.
 fn ask_owned(
     alloc: Global,
-    weight: &BorrowedWeight<'_>,
+    weight: &Bm25Weight<&[u32; 256]>,
     call: &str,
     memory: Memory,
     text: &mut String,
@@ -156,7 +137,7 @@ fn ask_owned(
 fn write_list(
     alloc: Global,
     bench: &Bench,
-    weight: BorrowedWeight<'_>,
+    weight: Bm25Weight<&[u32; 256]>,
     spelled: &str,
     memory: Memory,
     text: &mut String,
@@ -172,8 +153,8 @@ fn write_list(
 }
 
 // Writes all documents that a scorer has, each with its score.
-fn write_all<'b>(scorer: BorrowedTermScorer<'b>, text: &mut String) -> Result<(), Fault>
-    requires { IsPlaced ⟦<BorrowedTermScorer<'b> as DocSet>⟧ scorer }
+fn write_all<'b>(scorer: TermScorer<'b, &'b [u32; 256]>, text: &mut String) -> Result<(), Fault>
+    requires { IsPlaced ⟦<TermScorer<'b, &'b [u32; 256]> as DocSet>⟧ scorer }
 {
     let mut scorer = scorer;
     Ok(write_scores(&mut scorer, text)?)

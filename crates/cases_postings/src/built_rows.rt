@@ -15,6 +15,7 @@ pub fn built_again(
     lengths: Vec<Vec<u8>>,
 ) -> Result<SegmentReader, RowsError> {
     let mut rows = RowsBuilder::new(alloc);
+    // the rows at the places before this one are put together anew
     for place in 0..segment.row_count() {
         match push_row(alloc, &mut rows, &segment.row(place)) {
             Ok(()) => {}

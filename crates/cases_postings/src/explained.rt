@@ -12,6 +12,7 @@ pub fn write_explanation(explanation: &Explanation, text: &mut String) -> Result
     if explanation.description().is_empty() {
         text.push_str(" without a description")?;
     }
+    // the details before this one are written, each with its value
     for detail in explanation.details() {
         let (description, value) = (detail.description(), detail.value());
         write!(text, " {description} {value}")?;

@@ -52,6 +52,7 @@ fn make_segment(
 
 // The length of a block, by the row `blocks N`.
 fn block_len(rows: &[Row<'_>]) -> Result<u32, Fault> {
+    // no row before this one says how long a block is
     for row in rows {
         let (name, rest) = cut(row.call);
         if name == "blocks" {
@@ -85,6 +86,7 @@ pub fn is_alive(segment: &SegmentReader, doc: DocId) -> bool {
 /// A segment of so many documents that hold nothing.
 pub fn empty_documents(alloc: Global, schema: &Schema, count: u32) -> Result<SegmentReader, Fault> {
     let mut builder = SegmentBuilder::new(alloc, schema, BLOCK_LEN)?;
+    // as many documents that hold nothing are added as there were turns
     for _ in 0..count {
         builder.add_document(PlainDoc::new(alloc))?;
     }

@@ -9,6 +9,7 @@ use std::alloc::Global;
 /// The document that `PART ; PART ..` spell: `NAME: WORDS` is a text, the others are as of [`add_part`].
 pub fn read_given(alloc: Global, schema: &Schema, spelled: &str) -> Result<GivenDocument, Fault> {
     let mut texts = Vec::new(alloc);
+    // the texts of the parts before this one are there, each with its field
     for part in spelled.split(';') {
         if let Some((name, words)) = part.split_once(':') {
             let field = read_field(schema, name.trim())?;
@@ -27,6 +28,7 @@ fn add_parts(
     document: &mut GivenDocument,
     spelled: &str,
 ) -> Result<(), Fault> {
+    // the document has the terms and the length ids of the parts before this one
     for part in spelled.split(';') {
         if !part.contains(':') {
             add_part(alloc, schema, document, part.trim(), Memory::Ample)?;

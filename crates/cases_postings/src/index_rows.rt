@@ -89,6 +89,7 @@ impl<'s> IndexRows<'s> {
     fn add_each(&mut self, alloc: Global, spelled: &str, text: &mut String) -> Result<(), Fault> {
         let (count, texts) = cut(spelled);
         let mut most = 0;
+        // `most` is how many parts the open segment had at most behind the documents so far
         for _ in 0..read_number(count)? {
             self.add(alloc, texts, Memory::Ample)?;
             self.refresh(alloc, Memory::Ample)?;
@@ -337,6 +338,7 @@ fn write_number(searcher: &Searcher, words: &[&str], text: &mut String) -> Resul
 
 // Writes how many documents each segment has.
 fn write_lengths(readers: &[SegmentReader], text: &mut String) -> Result<(), AllocError> {
+    // how many documents the segments before this one have is written
     for reader in readers {
         write_space(text)?;
         write!(text, "{}", reader.max_doc())?;
@@ -347,6 +349,7 @@ fn write_lengths(readers: &[SegmentReader], text: &mut String) -> Result<(), All
 // Writes the alive documents of all segments, by their numbers over all of them.
 fn write_all_alive(readers: &[SegmentReader], text: &mut String) -> Result<(), AllocError> {
     let mut first: u64 = 0;
+    // those of the segments before this one are written, and this one's numbers begin at `first`
     for reader in readers {
         write_alive(reader, first, text)?;
         first = first.saturating_add(u64::from(reader.max_doc()));
@@ -363,6 +366,7 @@ fn write_all_postings(
     text: &mut String,
 ) -> Result<(), Fault> {
     let mut first: u64 = 0;
+    // the postings in the segments before this one are written, and this one's numbers begin at `first`
     for reader in readers {
         if let Some(postings) = postings_of(reader, term, option) {
             write_postings(alloc, postings, first, text)?;
@@ -382,6 +386,7 @@ fn write_all_phrases(
 ) -> Result<(), Fault> {
     let slop = read_number(word(words, 1))?;
     let mut first: u64 = 0;
+    // the phrase's documents in the segments before this one are written, and this one's begin at `first`
     for reader in readers {
         write_phrase(alloc, reader, behind(words, 2), slop, first, text)?;
         first = first.saturating_add(u64::from(reader.max_doc()));

@@ -68,6 +68,7 @@ impl<'s> Maker<'s> {
     // The document of these texts.
     fn read_whole(&self, alloc: Global, spelled: &str) -> Result<PlainDoc, Fault> {
         let mut document = PlainDoc::new(alloc);
+        // the document has the texts before this one
         for (field, text) in read_texts(alloc, self.schema, spelled)? {
             document.add_text(field, text.as_str())?;
         }
@@ -77,6 +78,7 @@ impl<'s> Maker<'s> {
     // So many documents of the same texts: `N TEXTS`. Writes the number of the last one.
     fn add_alike(&mut self, alloc: Global, spelled: &str, text: &mut String) -> Result<(), Fault> {
         let (count, texts) = cut(spelled);
+        // as many such documents are added as there were turns, and the text is the number of the last one
         for _ in 0..read_number(count)? {
             text.clear();
             let document = self.read_whole(alloc, texts)?;
@@ -174,6 +176,7 @@ impl<'s> Asker for Maker<'s> {
 
 fn numbers_text(alloc: Global, count: u32, terms: u32) -> Result<String, AllocError> {
     let mut text = String::new(alloc);
+    // what is left of each number before this one stands in the text
     for number in 0..count {
         write!(text, "{} ", number % terms.max(1))?;
     }

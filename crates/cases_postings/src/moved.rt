@@ -203,6 +203,7 @@ fn write_filled(
     count: usize,
     text: &mut String,
 ) -> Result<(), AllocError> {
+    // the documents of the buffer before this one are written
     for doc in buffer.iter().take(count) {
         write_space(text)?;
         write_document(*doc, text)?;

@@ -197,6 +197,7 @@ pub fn write_list<P: Postings>(
 
 // Writes numbers with `,` between two.
 fn write_joined(numbers: &[u32], text: &mut String) -> Result<(), AllocError> {
+    // the numbers before this one are written, with `,` between two
     for (place, number) in numbers.iter().enumerate() {
         if place > 0 {
             text.push(',')?;
@@ -208,6 +209,7 @@ fn write_joined(numbers: &[u32], text: &mut String) -> Result<(), AllocError> {
 
 /// Writes numbers with a space between two.
 pub fn write_numbers(numbers: &[u32], text: &mut String) -> Result<(), AllocError> {
+    // the numbers before this one are written, with a space between two
     for number in numbers {
         write_space(text)?;
         write!(text, "{number}")?;

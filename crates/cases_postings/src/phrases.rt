@@ -220,6 +220,7 @@ fn read_union(alloc: Global, spelled: &str) -> Result<SimpleUnion<OwnPostings>, 
     ensures { IfOk result (IsPlaced ⟦<SimpleUnion<OwnPostings> as DocSet>⟧) }
 {
     let mut words = Vec::new(alloc);
+    // the members before this one are among the words
     for member in spelled.split('+') {
         words.push(member)?;
     }

@@ -92,6 +92,7 @@ fn weigh(
     memory: Memory,
 ) -> Result<Bm25Weight, Fault> {
     let mut terms = Vec::new(alloc);
+    // the terms of the words before this one are there
     for spelled in words {
         terms.push(read_term(alloc, Field::from_field_id(0), spelled)?)?;
     }

@@ -14,7 +14,7 @@ use qm_combine::Scorer;
 use qm_docset::{DocSet, TERMINATED};
 use qm_phrase::{PhrasePrefixScorer, PhraseScorer};
 use qm_postings::Postings;
-use qm_term::{BorrowedTermScorer, TermScorer};
+use qm_term::{Norms, TermScorer};
 use std::alloc::{AllocError, Global};
 
 // The calls of any scorer.
@@ -66,7 +66,7 @@ pub fn write_scores<S: Scorer>(scorer: &mut S, text: &mut String) -> Result<(), 
     Ok(())
 }
 
-impl<'a> Played for TermScorer<'a> {
+impl<'a, N: Norms> Played for TermScorer<'a, N> {
     fn ask(
         &mut self,
         alloc: Global,
@@ -94,9 +94,9 @@ impl<'a> Played for TermScorer<'a> {
 }
 
 // The calls of a copy, which stands where it was made.
-fn ask_copy(
+fn ask_copy<N: Norms>(
     alloc: Global,
-    scorer: &TermScorer<'_>,
+    scorer: &TermScorer<'_, N>,
     call: &str,
     memory: Memory,
     text: &mut String,
@@ -111,9 +111,9 @@ fn ask_copy(
 }
 
 // The calls of a term scorer that ask for a document.
-fn ask_term(
+fn ask_term<N: Norms>(
     alloc: Global,
-    scorer: &TermScorer<'_>,
+    scorer: &TermScorer<'_, N>,
     call: &str,
     memory: Memory,
     text: &mut String,
@@ -130,18 +130,6 @@ fn ask_term(
             end_refusals(alloc);
             Ok(write_explanation(&explanation?, text)?)
         }
-    }
-}
-
-impl<'a> Played for BorrowedTermScorer<'a> {
-    fn ask(
-        &mut self,
-        alloc: Global,
-        call: &str,
-        memory: Memory,
-        text: &mut String,
-    ) -> Result<(), Fault> {
-        ask_scorer(alloc, self, call, memory, text)
     }
 }
 

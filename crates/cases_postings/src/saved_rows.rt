@@ -104,6 +104,7 @@ fn write_names(names: &[String], text: &mut String) -> Result<(), AllocError> {
     if names.is_empty() {
         return text.push_str("-");
     }
+    // the names before this one are written
     for name in names {
         write_space(text)?;
         text.push_str(name.as_str())?;
@@ -162,6 +163,7 @@ fn settled_copy(alloc: Global, folder: &mut MemoryFolder) -> Result<MemoryFolder
 fn files_of(alloc: Global, folder: &mut MemoryFolder) -> Result<Vec<NewFile>, FolderError> {
     let names = folder.list(alloc)?;
     let mut files = Vec::new(alloc);
+    // the files of the names before this one are there, but for a manifest, staged or not
     for name in &names {
         if name.as_str() == MANIFEST || name.as_str() == STAGED {
             continue;

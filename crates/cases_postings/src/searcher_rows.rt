@@ -53,7 +53,9 @@ fn read_segments(
         Some((counts, times)) => (counts, read_number(times)?),
         None => (spelled, 1),
     };
+    // each turn before this one made a segment for each of the counts
     for _ in 0..times {
+        // this turn's segments for the counts before this one are there too
         for count in read_numbers(alloc, counts)? {
             segments.push(empty_documents(alloc, schema, count)?)?;
         }
@@ -83,6 +85,7 @@ pub fn weigh(
     memory: Memory,
 ) -> Result<Score, Fault> {
     let mut terms = Vec::new(alloc);
+    // the terms of the words before this one are there
     for spelled in words {
         terms.push(read_term(alloc, Field::from_field_id(0), spelled)?)?;
     }

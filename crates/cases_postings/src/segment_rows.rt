@@ -94,6 +94,7 @@ pub fn write_alive(
     first: u64,
     text: &mut String,
 ) -> Result<(), AllocError> {
+    // of the documents before this one those that are alive are written
     for doc in 0..segment.max_doc() {
         if is_alive(segment, doc) {
             write_space(text)?;
@@ -148,6 +149,7 @@ fn write_range(
         Some(to.as_slice())
     };
     memory.begin(alloc);
+    // the terms before this one are written, each with how many documents hold it
     for (term, info) in bench.segment.inverted_index(field).term_range(&from, end) {
         write_space(text)?;
         write_bytes(term.serialized_value_bytes(), text)?;

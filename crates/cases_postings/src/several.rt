@@ -49,6 +49,7 @@ impl<'b> SeveralRows<'b> {
         let mut parts = Vec::new(alloc);
         let mut groups = words.split(|word| *word == ";");
         let tie_breaker = read_tie_breaker(groups.next().unwrap_or(&[]))?;
+        // the parts that the groups before this one spell are there
         for group in groups {
             parts.push(read_part(alloc, group)?)?;
         }
@@ -182,6 +183,7 @@ fn read_part(alloc: Global, words: &[&str]) -> Result<Part, Fault> {
 fn read_place(name: &str, words: &[&str]) -> Result<DocId, Fault>
     ensures { IfOk result (λ place. place ≤ TERMINATED) }
 {
+    // no pair before this one has the name
     for pair in behind(words, 3).chunks(2) {
         if word(pair, 0) == name {
             return target_of(word(pair, 1));

@@ -23,6 +23,7 @@ pub fn cut<'a>(text: &'a str) -> (&'a str, &'a str) {
 pub fn read_numbers(alloc: Global, word: &str) -> Result<Vec<DocId>, Fault> {
     let mut parts = Vec::new(alloc);
     if !word.is_empty() {
+        // the parts before this one are there
         for part in word.split(',') {
             parts.push(part)?;
         }
@@ -41,6 +42,7 @@ pub fn read_text(alloc: Global, spelled: &str) -> Result<String, AllocError> {
         text.push_str(spelled)?;
         return Ok(text);
     };
+    // the text is the part as often as there were turns
     for _ in 0..times.parse::<u32>().unwrap_or(0) {
         text.push_str(part)?;
     }
@@ -74,6 +76,7 @@ pub fn read_texts(
     spelled: &str,
 ) -> Result<Vec<(Field, String)>, Fault> {
     let mut texts = Vec::new(alloc);
+    // the texts of the parts before this one are there, each with its field
     for part in spelled.split(';') {
         let (field, words) = match part.split_once(':') {
             Some((name, words)) => (read_field(schema, name.trim())?, words.trim()),
@@ -91,6 +94,7 @@ pub fn read_bytes(alloc: Global, spelled: &str) -> Result<Vec<u8>, Fault> {
         return Ok(bytes);
     }
     let mut is_first = true;
+    // the bytes of the parts before this one are there
     for part in spelled.split("\\x") {
         if is_first {
             bytes.extend_from_slice(part.as_bytes())?;
@@ -110,6 +114,7 @@ pub fn write_bytes(bytes: &[u8], text: &mut String) -> Result<(), AllocError> {
     if bytes.is_empty() {
         return text.push_str("\"\"");
     }
+    // the bytes before this one are written, each as itself or as `\x` with two digits
     for byte in bytes {
         if byte.is_ascii_graphic() {
             text.push(char::from(*byte))?;
@@ -141,6 +146,7 @@ pub fn read_norms(spelled: &str) -> Result<[u32; 256], Fault> {
         return Ok(same_norms());
     }
     let mut norms = [0; 256];
+    // the norms are those that the parts before this one give, and 0 where none does
     for part in spelled.split(',') {
         match part.split_once(':') {
             None => norms = [read_number(part)?; 256],

@@ -49,6 +49,7 @@ pub fn play_stored(
 
 fn empty_columns(alloc: Global, count: u32) -> Result<Vec<Vec<u8>>, AllocError> {
     let mut columns = Vec::new(alloc);
+    // there are as many empty columns as there were turns
     for _ in 0..count {
         columns.push(Vec::new(alloc))?;
     }
@@ -60,6 +61,7 @@ impl<'s> StoredMaker<'s> {
     fn set_column(&mut self, alloc: Global, spelled: &str) -> Result<(), Fault> {
         let (name, numbers) = cut(spelled);
         let mut ids = Vec::new(alloc);
+        // the numbers before this one are there, as length ids
         for number in read_numbers(alloc, numbers)? {
             ids.push(u8::try_from(number).map_err(|_| Fault::NotUnderstood)?)?;
         }
@@ -91,6 +93,7 @@ impl<'s> StoredMaker<'s> {
     // Makes a segment of copies of the rows.
     fn make(&mut self, alloc: Global, memory: Memory, text: &mut String) -> Result<(), Fault> {
         let mut rows = Vec::new(alloc);
+        // the rows before this one are copied
         for row in &self.rows {
             rows.push(copy_row(alloc, row)?)?;
         }
@@ -153,6 +156,7 @@ fn copy_of(alloc: Global, numbers: &[u32]) -> Result<Vec<u32>, AllocError> {
 
 fn copy_columns(alloc: Global, columns: &[Vec<u8>]) -> Result<Vec<Vec<u8>>, AllocError> {
     let mut copies = Vec::with_capacity(alloc, columns.len())?;
+    // the columns before this one are copied
     for column in columns {
         let mut copy = Vec::with_capacity(alloc, column.len())?;
         copy.extend_from_slice(column)?;
@@ -208,6 +212,7 @@ fn write_rows(
     memory: Memory,
     text: &mut String,
 ) -> Result<(), Fault> {
+    // the rows at the places before this one are written
     for place in 0..segment.row_count() {
         memory.begin(alloc);
         let row = segment.row(place);
@@ -231,6 +236,7 @@ fn write_row(alloc: Global, row: TermRowRef<'_>, text: &mut String) -> Result<()
 
 fn write_joined(numbers: &[u32], text: &mut String) -> Result<(), AllocError> {
     let mut is_first = true;
+    // the numbers before this one are written, with `,` between two
     for number in numbers {
         if !is_first {
             text.push(',')?;
@@ -252,6 +258,7 @@ fn write_column(
     memory.begin(alloc);
     let ids = segment.length_ids(field);
     end_refusals(alloc);
+    // the length ids before this one are written
     for id in ids {
         write_space(text)?;
         write!(text, "{id}")?;
@@ -287,6 +294,7 @@ fn push_copies(
     segment: &SegmentReader,
     rows: &mut Vec<TermRow>,
 ) -> Result<(), QueryError> {
+    // the rows at the places before this one are copied
     for place in 0..segment.row_count() {
         rows.push(segment.row(place).copy(alloc)?)?;
     }
@@ -346,6 +354,7 @@ fn set_made(
 // How many postings all rows have, each put together anew. Where requests for memory are refused, they are those of these.
 fn pieces(alloc: Global, segment: &SegmentReader, memory: Memory) -> Result<usize, Fault> {
     let mut count: usize = 0;
+    // the rows at the places before this one are put together anew, and have `count` postings
     for place in 0..segment.row_count() {
         memory.begin(alloc);
         let row = row_again(alloc, &segment.row(place));
@@ -357,6 +366,7 @@ fn pieces(alloc: Global, segment: &SegmentReader, memory: Memory) -> Result<usiz
 
 fn all_columns(alloc: Global, segment: &SegmentReader) -> Result<Vec<Vec<u8>>, AllocError> {
     let mut columns = Vec::new(alloc);
+    // the columns of the fields before this one are copied
     for field in 0..segment.schema().field_count() {
         let ids = segment.length_ids(Field::from_field_id(field));
         let mut column = Vec::with_capacity(alloc, ids.len())?;

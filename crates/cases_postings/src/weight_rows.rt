@@ -3,13 +3,13 @@
 use crate::explained::write_explanation;
 use crate::spelled::read_norms;
 use cases::{Asker, Fault, Memory, end_refusals, number, score, word, words_of};
-use qm_term::Bm25Weight;
+use qm_term::{Bm25Weight, Norms};
 use std::alloc::Global;
 
 /// Rows on a weight.
 #[derive(Drop)]
-pub struct WeightRows {
-    pub weight: Bm25Weight,
+pub struct WeightRows<N: Norms = [u32; 256]> {
+    pub weight: Bm25Weight<N>,
 }
 
 /// The weight that the words `WEIGHT NORMS` spell. Some requests for memory are refused as it is made.
@@ -24,8 +24,8 @@ pub fn make_weight(alloc: Global, words: &[&str], memory: Memory) -> Result<Bm25
     Ok(made?)
 }
 
-/// The length id and the frequency that stand behind the first word.
-pub fn read_pair(words: &[&str]) -> Result<(u8, u32), Fault> {
+// The length id and the frequency that stand behind the first word.
+fn read_pair(words: &[&str]) -> Result<(u8, u32), Fault> {
     let id = word(words, 1)
         .parse::<u8>()
         .map_err(|_| Fault::NotUnderstood)?;
@@ -33,9 +33,14 @@ pub fn read_pair(words: &[&str]) -> Result<(u8, u32), Fault> {
     Ok((id, frequency))
 }
 
-impl WeightRows {
+impl<N: Norms> WeightRows<N> {
     // The weight under the boost that the second word spells.
-    fn boosted(&self, alloc: Global, words: &[&str], memory: Memory) -> Result<Bm25Weight, Fault> {
+    fn boosted(
+        &self,
+        alloc: Global,
+        words: &[&str],
+        memory: Memory,
+    ) -> Result<Bm25Weight<N>, Fault> {
         let Some(boost) = score(words, 1) else {
             return Err(Fault::NotUnderstood);
         };
@@ -60,7 +65,7 @@ impl WeightRows {
     }
 }
 
-impl Asker for WeightRows {
+impl<N: Norms> Asker for WeightRows<N> {
     fn ask(
         &mut self,
         alloc: Global,
@@ -77,7 +82,12 @@ impl Asker for WeightRows {
                 end_refusals(alloc);
                 Ok(write!(text, "{score}")?)
             }
-            "max_score" => Ok(write!(text, "{}", self.weight.max_score())?),
+            "max_score" => {
+                memory.begin(alloc);
+                let most = self.weight.max_score();
+                end_refusals(alloc);
+                Ok(write!(text, "{most}")?)
+            }
             "boost" => Ok(write!(text, "{}", self.weight.boost())?),
             "boosted" => {
                 let boosted = self.boosted(alloc, &words, memory)?;

@@ -45,6 +45,7 @@ pub fn write_named<Q: Query>(alloc: Global, query: &Q, memory: Memory, text: &mu
 }
 
 fn write_signs(query: &BooleanQuery, text: &mut String) -> Result<(), Fault> {
+    // the signs of the clauses before this one are written
     for clause in query.clauses() {
         write_space(text)?;
         text.push(match clause.0 {
@@ -81,6 +82,7 @@ fn phrase_terms(alloc: Global, query: &AnyQuery) -> Option<Result<Vec<Term>, Que
 }
 
 fn write_terms(terms: &[Term], text: &mut String) -> Result<(), Fault> {
+    // the terms before this one are written
     for term in terms {
         write_term(text, term)?;
     }

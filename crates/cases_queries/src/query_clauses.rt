@@ -84,6 +84,7 @@ fn take_queries(
     count: u32,
 ) -> Result<Vec<Box<AnyQuery>>, Fault> {
     let mut taken = Vec::new(alloc);
+    // as many clauses are taken as there were turns
     for _ in 0..count {
         taken.push(take_clause(clauses)?)?;
     }

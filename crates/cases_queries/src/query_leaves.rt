@@ -44,6 +44,7 @@ fn are_counted(words: &[&str], at: usize, count: usize) -> bool {
 // The terms of words.
 fn read_terms(alloc: Global, schema: &Schema, words: &[&str]) -> Result<Vec<Term>, Fault> {
     let mut terms = Vec::new(alloc);
+    // the terms of the words before this one are there
     for word in words {
         terms.push(read_term(alloc, schema, word)?)?;
     }

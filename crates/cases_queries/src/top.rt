@@ -46,6 +46,7 @@ pub fn write_top_scored<Q: Query>(
 }
 
 fn write_found(found: &[(Score, DocAddress)], text: &mut String) -> Result<(), Fault> {
+    // the documents before this one are written, each with its segment and its score
     for (score, address) in found {
         write_space(text)?;
         write!(text, "{}/{}:{score}", address.segment_ord, address.doc_id)?;

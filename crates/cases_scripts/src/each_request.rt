@@ -118,6 +118,7 @@ impl Seen {
         write_part(self.has_memory, "refused Memory", text)?;
         write_part(self.has_write, "refused Write", text)?;
         write_part(!self.lines.is_empty(), "refused 13 in lines", text)?;
+        // the numbers of the refused lines before this one are written
         for line in &self.lines {
             write!(text, " {line}")?;
         }

@@ -15,6 +15,7 @@ pub fn cut<'a>(text: &'a str) -> (&'a str, &'a str) {
 /// be among them.
 pub fn read_bytes(spelled: &str, bytes: &mut Vec<u8>) -> Result<(), Fault> {
     let mut is_first = true;
+    // the bytes of the parts before this one are there
     for part in spelled.split("\\x") {
         let rest = if is_first {
             part
@@ -37,6 +38,7 @@ pub fn show_bytes(bytes: &[u8], text: &mut String) -> Result<(), AllocError> {
     if bytes.is_empty() {
         return text.push_str("nothing");
     }
+    // the bytes before this one are written, each end of a line as `\n`
     for byte in bytes {
         if *byte == b'\n' {
             text.push_str("\\n")?;

@@ -13,6 +13,7 @@ use std::alloc::Global;
 pub fn read_wanted(alloc: Global, words: &[&str]) -> Result<(Vec<Term>, Vec<Term>), Fault> {
     let mut terms = Vec::new(alloc);
     let mut beginnings = Vec::new(alloc);
+    // the terms and the beginnings of the words before this one are there
     for word in words {
         match word.strip_suffix('*') {
             Some(front) => beginnings.push(read_term(alloc, front)?)?,
@@ -117,10 +118,12 @@ fn write_list(wanted: &[Wanted], text: &mut String) -> Result<(), Fault> {
     if wanted.is_empty() {
         return Ok(text.push('-')?);
     }
+    // the terms and the beginnings before this one are written
     for one in wanted {
         write_space(text)?;
         write!(text, "{}", one.term.field().field_id())?;
         text.push(':')?;
+        // the bytes of the term before this one are written
         for byte in one.term.serialized_value_bytes() {
             text.push(char::from(*byte))?;
         }

@@ -69,6 +69,7 @@ impl GivenDeletions {
 // Writes the numbers of the deleted documents.
 fn write_deleted(alloc: Global, segment: &SegmentReader, text: &mut String) -> Result<(), Fault> {
     let mut numbers = Vec::new(alloc);
+    // of the documents before this one those that are deleted are there
     for doc in 0..segment.max_doc() {
         let is_alive = match segment.alive_bitset() {
             Some(alive) => alive.is_alive(doc),

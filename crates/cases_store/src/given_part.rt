@@ -64,6 +64,7 @@ impl GivenPart {
     fn add_field(&mut self, alloc: Global, words: &[&str]) -> Result<(), Fault> {
         let spelled = word(words, 2);
         let mut ids = Vec::new(alloc);
+        // the length ids before this one are there
         for id in read_numbers(alloc, if spelled.is_empty() { "-" } else { spelled })? {
             ids.push(u8::try_from(id).map_err(|_| Fault::NotUnderstood)?)?;
         }
@@ -112,6 +113,7 @@ impl GivenPart {
         segment: SegmentReader,
     ) -> Result<SegmentReader, Fault> {
         let mut segment = segment;
+        // the documents before this one are in the segment, and deleted
         for doc in &self.deleted {
             if *doc >= segment.max_doc() {
                 return Err(Fault::NotAllowed);
@@ -137,6 +139,7 @@ impl GivenPart {
 
     fn columns(&self, alloc: Global) -> Result<Vec<Vec<u8>>, AllocError> {
         let mut columns = Vec::new(alloc);
+        // the columns of the fields before this one are copied
         for field in &self.fields {
             let mut column = Vec::with_capacity(alloc, field.ids.len())?;
             column.extend_from_slice(&field.ids)?;
@@ -147,6 +150,7 @@ impl GivenPart {
 
     fn copied_rows(&self, alloc: Global) -> Result<Vec<TermRow>, Fault> {
         let mut rows = Vec::new(alloc);
+        // the rows before this one are copied
         for row in &self.rows {
             rows.push(copy_of(alloc, row)?)?;
         }

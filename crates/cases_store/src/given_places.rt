@@ -104,6 +104,7 @@ impl<'r> GivenPlaces<'r> {
         let Some(count) = number(words, 1) else {
             return Err(Fault::NotUnderstood);
         };
+        // the places of the numbers before this one are added
         for number in 0..count {
             self.places.push(DocumentPlace {
                 file: number,

@@ -30,6 +30,7 @@ impl GivenRows {
         };
         let schema = read_schema(alloc, word(words, 2))?;
         let mut lengths = Vec::new(alloc);
+        // as many fields have an empty column as there were turns
         for _ in 0..schema.field_count() {
             lengths.push(Vec::new(alloc))?;
         }
@@ -47,6 +48,7 @@ impl GivenRows {
     // The length ids of a field, by the words `column FIELD NUMBERS`.
     fn set_column(&mut self, alloc: Global, words: &[&str]) -> Result<(), Fault> {
         let mut ids = Vec::new(alloc);
+        // the length ids before this one are there
         for id in read_numbers(alloc, word(words, 2))? {
             ids.push(u8::try_from(id).map_err(|_| Fault::NotUnderstood)?)?;
         }

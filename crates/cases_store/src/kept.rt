@@ -14,6 +14,7 @@ pub fn read_schema(alloc: Global, spelled: &str) -> Result<Schema, Fault> {
     let mut maker = SchemaMaker::new(alloc);
     // fields are added as long as there are parts
     if spelled != "-" {
+        // the schema has the fields of the parts before this one
         for part in spelled.split(',') {
             maker.add(alloc, part)?;
         }

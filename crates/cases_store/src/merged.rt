@@ -134,6 +134,7 @@ fn ask_made(
 
 /// Writes all rows: the field's number, the term's text, the documents, the frequencies and the positions of each.
 pub fn write_rows(alloc: Global, made: &SegmentReader, text: &mut String) -> Result<(), Fault> {
+    // the rows at the places before this one are written
     for place in 0..made.row_count() {
         write_space(text)?;
         write_row(alloc, made.row(place), text)?;
@@ -144,6 +145,7 @@ pub fn write_rows(alloc: Global, made: &SegmentReader, text: &mut String) -> Res
 fn write_row(alloc: Global, row: TermRowRef<'_>, text: &mut String) -> Result<(), Fault> {
     write!(text, "{}", row.term().field().field_id())?;
     text.push(':')?;
+    // the bytes of the term before this one are written
     for byte in row.term().serialized_value_bytes() {
         text.push(char::from(*byte))?;
     }
@@ -157,6 +159,7 @@ fn write_row(alloc: Global, row: TermRowRef<'_>, text: &mut String) -> Result<()
 
 // The length ids of a field.
 fn write_column(made: &SegmentReader, field: Field, text: &mut String) -> Result<(), Fault> {
+    // the length ids before this one are written
     for id in made.length_ids(field) {
         write_space(text)?;
         write!(text, "{id}")?;
@@ -166,6 +169,7 @@ fn write_column(made: &SegmentReader, field: Field, text: &mut String) -> Result
 
 // The documents that were not deleted.
 fn write_alive(made: &SegmentReader, text: &mut String) -> Result<(), Fault> {
+    // of the documents before this one those that were not deleted are written
     for doc in 0..made.max_doc() {
         let is_alive = match made.alive_bitset() {
             Some(alive) => alive.is_alive(doc),

@@ -23,6 +23,7 @@ pub fn read_text(spelled: &str) -> &str {
 pub fn read_numbers(alloc: Global, spelled: &str) -> Result<Vec<u32>, Fault> {
     let mut parts = Vec::new(alloc);
     if spelled != "-" {
+        // the parts before this one are there
         for part in spelled.split(',') {
             parts.push(part)?;
         }
@@ -33,6 +34,7 @@ pub fn read_numbers(alloc: Global, spelled: &str) -> Result<Vec<u32>, Fault> {
 /// The bytes that a text spells, each by two hexadecimal digits, and none for `-`.
 pub fn read_bytes(alloc: Global, spelled: &str) -> Result<Vec<u8>, Fault> {
     let mut words = Vec::new(alloc);
+    // the words before this one are there
     for word in spelled.split_whitespace() {
         words.push(word)?;
     }
@@ -45,6 +47,7 @@ pub fn bytes_of(alloc: Global, words: &[&str]) -> Result<Vec<u8>, Fault> {
     if words.first() == Some(&"-") {
         return Ok(bytes);
     }
+    // the bytes of the words before this one are there
     for digits in words {
         let byte = u8::from_str_radix(digits, 16).map_err(|_| Fault::NotUnderstood)?;
         bytes.push(byte)?;
@@ -54,6 +57,7 @@ pub fn bytes_of(alloc: Global, words: &[&str]) -> Result<Vec<u8>, Fault> {
 
 /// Writes bytes as they are read.
 pub fn write_bytes(bytes: &[u8], text: &mut String) -> Result<(), AllocError> {
+    // the bytes before this one are written, each as two digits
     for byte in bytes {
         write_space(text)?;
         write!(text, "{byte:02x}")?;
@@ -88,6 +92,7 @@ pub fn write_numbers(numbers: &[u32], text: &mut String) -> Result<(), AllocErro
         return text.push('-');
     }
     let mut is_first = true;
+    // the numbers before this one are written, with `,` between two
     for number in numbers {
         if !is_first {
             text.push(',')?;

@@ -13,18 +13,21 @@ pub fn write_manifest(manifest: &Manifest, text: &mut String) -> Result<(), Faul
     write!(text, " default {} norms ", manifest.default_weight)?;
     write_numbers(&manifest.norms, text)?;
     text.push_str(" fields")?;
+    // the fields before this one are written
     for id in 0..manifest.schema.field_count() {
         if let Some(entry) = manifest.schema.get_field_entry(Field::from_field_id(id)) {
             write_field(entry, text)?;
         }
     }
     text.push_str(" weights")?;
+    // the weights before this one are written, each behind its term
     for (term, weight) in &manifest.weights {
         write!(text, " {}:", term.field().field_id())?;
         write_digits(term.serialized_value_bytes(), text)?;
         write!(text, ":{weight}")?;
     }
     text.push_str(" segments")?;
+    // the segments before this one are written, each with its deletions
     for segment in &manifest.segments {
         write!(text, " {}:{}", segment.key, segment.deletions)?;
         write!(text, ":{}", segment.deleted)?;
@@ -55,6 +58,7 @@ fn write_digits(bytes: &[u8], text: &mut String) -> Result<(), AllocError> {
     if bytes.is_empty() {
         return text.push('-');
     }
+    // the bytes before this one are written, each as two digits
     for byte in bytes {
         write!(text, "{byte:02x}")?;
     }

@@ -110,6 +110,7 @@ fn ask_each<T: Writes>(
     if source.write(alloc, key, &mut whole).is_err() {
         return Err(Fault::NotAllowed);
     }
+    // with each write before this one refused, it was the last, and only a beginning was taken
     for refused in 1..MOST_WRITES {
         let manner = Manner {
             most: PART,

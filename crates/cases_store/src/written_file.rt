@@ -17,6 +17,7 @@ pub fn file_of(
     bytes: &[u8],
     left: u64,
 ) -> Result<SegmentFile, Fault> {
+    // no file could be made by the names before this one
     for number in 0..NAMES {
         let name = format!(in alloc; "/tmp/cases_store-{number}")?;
         if let Ok(file) = File::create_new(rt, name.as_str()) {

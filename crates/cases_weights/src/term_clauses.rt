@@ -34,6 +34,7 @@ pub fn terms_weight(
 fn read_clauses(alloc: Global, schema: &Schema, words: &[&str]) -> Result<Vec<TermClause>, Fault> {
     let mut clauses = Vec::new(alloc);
     let mut signed: Option<&str> = None;
+    // the clauses before this word are there, and `signed` is the term that waits for its weight, if any
     for word in words {
         match signed {
             None => signed = Some(*word),

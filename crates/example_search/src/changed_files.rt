@@ -72,38 +72,46 @@ fn read_now(alloc: Global, file: &FoundFile, read_at: u64) -> Result<KeptFile, A
 
 /// An index has kept three files; since then `fox` has changed, `lazy` is gone and `owl` is new.
 pub fn updated(alloc: Global) -> Result<Vec<KeptFile>, FolderError> {
-    let kept = vec![in alloc;
-        kept_file(alloc, "dog", 13)?,
-        kept_file(alloc, "fox", 9)?,
-        kept_file(alloc, "lazy", 12)?,
-    ]?;
-    let found = vec![in alloc;
-        found_file(alloc, "dog", 13)?,
-        found_file(alloc, "fox", 17)?,
-        found_file(alloc, "owl", 7)?,
-    ]?;
+    let kept = kept_files(alloc, &[("dog", 13), ("fox", 9), ("lazy", 12)])?;
+    let found = found_files(alloc, &[("dog", 13), ("fox", 17), ("owl", 7)])?;
     if !ascend(&kept) || !ascend(&found) {
         return Ok(Vec::new(alloc));
     }
     files_after(alloc, &kept, &found, 1_000_000_000)
 }
 
-fn kept_file(alloc: Global, path: &str, size: u64) -> Result<KeptFile, AllocError> {
-    let FoundFile { path, stamp } = found_file(alloc, path, size)?;
-    Ok(KeptFile {
-        path,
-        stamp,
-        settled: true,
-    })
+// The files of these paths and sizes, as they are kept.
+fn kept_files(alloc: Global, sizes: &[(&str, u64)]) -> Result<Vec<KeptFile>, AllocError> {
+    let mut files = Vec::new(alloc);
+    // the files before this one are there
+    for (path, size) in sizes {
+        files.push(KeptFile {
+            path: path.as_bytes().to_vec(alloc)?,
+            stamp: stamp_of(*size),
+            settled: true,
+        })?;
+    }
+    Ok(files)
 }
 
-fn found_file(alloc: Global, path: &str, size: u64) -> Result<FoundFile, AllocError> {
-    let stamp = FileStamp {
+// The same, as they are found.
+fn found_files(alloc: Global, sizes: &[(&str, u64)]) -> Result<Vec<FoundFile>, AllocError> {
+    let mut files = Vec::new(alloc);
+    // the files before this one are there
+    for (path, size) in sizes {
+        files.push(FoundFile {
+            path: path.as_bytes().to_vec(alloc)?,
+            stamp: stamp_of(*size),
+        })?;
+    }
+    Ok(files)
+}
+
+fn stamp_of(size: u64) -> FileStamp {
+    FileStamp {
         size,
         bytes_changed: 0,
         changed: 0,
         inode: size,
-    };
-    let path = path.as_bytes().to_vec(alloc)?;
-    Ok(FoundFile { path, stamp })
+    }
 }

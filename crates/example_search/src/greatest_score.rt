@@ -6,12 +6,12 @@ ghost use Rattle.qm_docset.specs.Entry.{greatest_score};
 ghost use Rattle.qm_combine.specs.Combine.{greatest_of};
 ghost use Rattle.qm_combine.specs.CombineFacts.{greatest_of-le};
 
-use qm_combine::{ScoreCombiner, Scorer};
+use qm_combine::{BoundedBySum, ScoreCombiner, Scorer};
 use qm_docset::Score;
 use std::marker::Model;
 
 /// Takes the greatest of the scores.
-#[derive(Clone, Copy, Debug)]
+#[derive(Clone, Copy)]
 pub struct GreatestScore {
     greatest: u64,
 }
@@ -74,4 +74,10 @@ impl ScoreCombiner for GreatestScore {
     ghost bounded = { λ _ scores _. Prim.omega (arith, greatest_of-le scores) };
 
     ghost room = { λ _ _ _ _. tt };
+}
+
+// The greatest of some scores is no more than their sum, and 0 where there are none. So a run over terms that combines by
+// it may pass over blocks.
+impl BoundedBySum for GreatestScore {
+    ghost within_sum = { λ _ scores. Prim.omega (arith, greatest_of-le scores) };
 }

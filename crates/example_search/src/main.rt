@@ -19,6 +19,7 @@ use greatest_score::GreatestScore;
 use one_document::OneDocument;
 use qm_combine::{BufferedUnionScorer, Exclude, Intersection, scores_left};
 use qm_docset::{DocId, DocSet, Score};
+use qm_folder::KeptFile;
 use qm_postings::{PlainDoc, SegmentBuilder, SegmentReader};
 use qm_schema::{Field, IndexRecordOption, QueryError, Schema, Term};
 use qm_term::{Bm25Weight, TermScorer};
@@ -41,21 +42,31 @@ const OPTION: IndexRecordOption = IndexRecordOption::WithFreqs;
 type Found = Vec<(DocId, Score)>;
 
 fn main(rt: HostRuntime) -> io::Result<()> {
-    let answers = match search(rt.alloc()) {
-        Ok(answers) => answers,
+    match search(rt.alloc()) {
+        Ok(answers) => print_answers(&rt, &answers)?,
         Err(error) => return println!(rt; "refused: {error}"),
-    };
+    }
+    match updated(rt.alloc()) {
+        Ok(files) => print_files(&rt, &files),
+        Err(error) => println!(rt; "refused: {error}"),
+    }
+}
+
+fn print_answers(rt: &HostRuntime, answers: &[(&'static str, Found)]) -> io::Result<()> {
+    // the queries before this one are printed, each with what it found
     for (query, found) in answers {
         println!(rt; "{query}")?;
+        // the documents before this one are printed, each with its score
         for (doc, score) in found {
             println!(rt; "  document {doc}, score {score}")?;
         }
     }
-    let files = match updated(rt.alloc()) {
-        Ok(files) => files,
-        Err(error) => return println!(rt; "refused: {error}"),
-    };
+    Ok(())
+}
+
+fn print_files(rt: &HostRuntime, files: &[KeptFile]) -> io::Result<()> {
     println!(rt; "the files of the index")?;
+    // the files before this one are printed
     for file in files {
         let path = str::from_utf8(&file.path).unwrap_or("no text");
         println!(rt; "  {path}, {} bytes", file.stamp.size)?;
@@ -69,12 +80,34 @@ fn search(alloc: Global) -> Result<Vec<(&'static str, Found)>, QueryError> {
     let mut schema = Schema::builder(alloc);
     let body = schema.add_text_field("body", Some(OPTION), true)?;
     let segment = segment_of(alloc, &schema.build(), body, &TEXTS)?;
+    answers(alloc, &segment, body)
+}
+
+/// Answers the queries over a segment.
+fn answers(
+    alloc: Global,
+    segment: &SegmentReader,
+    body: Field,
+) -> Result<Vec<(&'static str, Found)>, QueryError> {
     let fox = Term::from_field_text(alloc, body, "fox")?;
     let lazy = Term::from_field_text(alloc, body, "lazy")?;
+    answers_of(alloc, segment, &fox, &lazy)
+}
+
+/// The same, of these terms.
+fn answers_of(
+    alloc: Global,
+    segment: &SegmentReader,
+    fox: &Term,
+    lazy: &Term,
+) -> Result<Vec<(&'static str, Found)>, QueryError> {
     let weight = Bm25Weight::new(1000, norms())?;
-    let both = both(alloc, &segment, &fox, &lazy, &weight)?.unwrap_or(Vec::new(alloc));
-    let either = either(alloc, &segment, &fox, &lazy, &weight)?;
-    Ok(vec![in alloc; ("fox and lazy", both), ("fox or lazy, without 1", either)]?)
+    let mut answers = Vec::with_capacity(alloc, 2)?;
+    let both = both(alloc, segment, fox, lazy, &weight)?.unwrap_or(Vec::new(alloc));
+    answers.push(("fox and lazy", both))?;
+    let either = either(alloc, segment, fox, lazy, &weight)?;
+    answers.push(("fox or lazy, without 1", either))?;
+    Ok(answers)
 }
 
 /// A segment of documents with one field, of these texts.
@@ -85,17 +118,30 @@ fn segment_of(
     texts: &[&str],
 ) -> Result<SegmentReader, QueryError> {
     let mut segment = SegmentBuilder::new(alloc, schema, BLOCK_LEN)?;
+    add_texts(alloc, &mut segment, body, texts)?;
+    segment.build(alloc)
+}
+
+/// Adds a document of each text. What is held at few exits is proved soon: so this function is lent the segment.
+fn add_texts(
+    alloc: Global,
+    segment: &mut SegmentBuilder,
+    body: Field,
+    texts: &[&str],
+) -> Result<(), QueryError> {
+    // the texts before this one are documents
     for text in texts {
         let mut document = PlainDoc::new(alloc);
         document.add_text(body, text)?;
         segment.add_document(document)?;
     }
-    segment.build(alloc)
+    Ok(())
 }
 
 /// The norm of each length id: a document is as long as it has words.
 fn norms() -> [u32; 256] {
     let mut norms = [0; 256];
+    // each id before this one has itself as its norm
     for (id, norm) in norms.iter_mut().enumerate() {
         *norm = id as u32;
     }
@@ -134,6 +180,7 @@ fn either(
     weight: &Bm25Weight,
 ) -> Result<Found, QueryError> {
     let mut members = Vec::with_capacity(alloc, 2)?;
+    // the terms before this one have their scorers, where some document holds them
     for term in [first, second] {
         let Some(scorer) = TermScorer::for_term(segment, term, OPTION, weight) else {
             continue;

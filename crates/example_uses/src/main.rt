@@ -58,6 +58,7 @@ fn main(rt: HostRuntime) -> io::Result<()> {
         Err(error) => return println!(rt; "refused: {error}"),
     };
     println!(rt; "the best two")?;
+    // the best documents before this one are printed
     for (score, address) in answers.best {
         println!(rt; "  document {}, score {score}", address.doc_id)?;
     }
@@ -70,10 +71,12 @@ fn main(rt: HostRuntime) -> io::Result<()> {
         println!(rt; "the best by a pruned run\n  document {doc}, score {score}")?;
     }
     println!(rt; "rare words weigh more")?;
+    // the documents before this one are printed, each with its score by how rare words are
     for (doc, score) in answers.rare {
         println!(rt; "  document {doc}, score {score}")?;
     }
     println!(rt; "with what they are rated")?;
+    // the documents before this one are printed, each with its score and its rating together
     for (doc, score) in answers.rated {
         println!(rt; "  document {doc}, score {score}")?;
     }
@@ -86,6 +89,7 @@ fn answer(alloc: Global) -> Result<Answers, QueryError> {
     let mut schema = Schema::builder(alloc);
     let body = schema.add_text_field("body", Some(IndexRecordOption::WithFreqsAndPositions), true)?;
     let mut index = Index::new(alloc, schema.build(), 1000, norms(), BLOCK_LEN)?;
+    // the texts before this one are documents
     for text in &TEXTS {
         index.add_document(
             alloc,
@@ -120,6 +124,7 @@ fn answer_of(alloc: Global, searcher: &Searcher, body: Field) -> Result<Answers,
 /// The norm of each length id: a document is as long as it has words.
 fn norms() -> [u32; 256] {
     let mut norms = [0; 256];
+    // each id before this one has itself as its norm
     for (id, norm) in norms.iter_mut().enumerate() {
         *norm = id as u32;
     }

@@ -514,6 +514,7 @@ impl Index {
         ensures statistics { statistics self.new ≡ statistics self.old }
         ensures saved { self.new.saved ≡ self.old.saved }
     {
+        // each part that was taken back had fewer than twice the documents behind it
         while self.part_count() > 0 {
             if self.last_part_len() >= 2 * (self.documents.len() - self.built) {
                 return;
@@ -530,6 +531,7 @@ impl Index {
         ensures ended { self.new.ended ≡ self.old.ended }
         ensures none { length self.new.searcher.segments ≡ self.new.ended }
     {
+        // the documents of the parts that were taken back stand in no part
         while self.part_count() > 0 {
             self.take_last_part_back();
         }
@@ -585,6 +587,7 @@ impl Index {
     {
         let schema = self.searcher.schema();
         let mut builder = SegmentBuilder::new(alloc, schema, self.block_len)?;
+        // the documents before this one are added
         for document in &self.documents[self.built..] {
             add_good(alloc, &mut builder, &document.given)?;
         }

@@ -12,7 +12,7 @@ use Rattle.qm_docset.specs.declared.docset.DocSet.{Ghosts}
 use Rattle.qm_docset.specs.declared.numbers.TheConstants.{TERMINATED}
 use Rattle.qm_term.specs.Bm25.{bm25}
 use Rattle.qm_term.specs.Bm25Weight.{weighing}
-use Rattle.qm_term.specs.declared.bm25.Bm25Weight.{Bm25Weight}
+use Rattle.qm_term.specs.OwnNorms.{OwnWeight}
 use Rattle.qm_phrase.specs.Phrase.{phrase_points}
 use Rattle.qm_phrase.specs.PhraseScorer.{most_counted}
 use Rattle.qm_phrase.specs.Terms.{AreMovedTo, IsFirstStart, IsLook, term_starts}
@@ -151,7 +151,7 @@ by_counts-stands limits points d f a here below =
     )
 
 -- what the weight gives a count at the document's length id
-pub points-some : (given : Option Bm25Weight) (weight : Bm25Weight) (ids : List ℕ) (d count id n : ℕ) → given ≡ Some weight → d < length ids →
+pub points-some : (given : Option OwnWeight) (weight : OwnWeight) (ids : List ℕ) (d count id n : ℕ) → given ≡ Some weight → d < length ids →
     id ≡ get_or ids d id → count ≡ min (most_counted given) n → bm25 (weighing weight) id count ≡ phrase_points given ids d (held n)
 points-some None weight ids d count id n is below read counted = absurd (cc)
 points-some (Some other) weight ids d count id n is below read counted =
@@ -159,7 +159,7 @@ points-some (Some other) weight ids d count id n is below read counted =
     let level : id ≡ get_or ids d 0 = read ∙ get_or_default ids d id 0 below in
     ap (λ w. bm25 (weighing w) id count) (sym same) ∙ ap (λ i. bm25 (weighing other) i count) level ∙ ap (λ c. bm25 (weighing other) (get_or ids d 0) c) counted
 
-pub points-none : (given : Option Bm25Weight) (ids : List ℕ) (d n : ℕ) → given ≡ None → 1 ≡ phrase_points given ids d n
+pub points-none : (given : Option OwnWeight) (ids : List ℕ) (d n : ℕ) → given ≡ None → 1 ≡ phrase_points given ids d n
 points-none None ids d n is = refl
 points-none (Some weight) ids d n is = absurd (cc)
 

@@ -8,7 +8,7 @@ use Rattle.qm_docset.specs.ListedFacts.{listed-moved}
 use Rattle.qm_docset.specs.declared.numbers.TheConstants.{TERMINATED}
 use Rattle.qm_term.specs.Bm25.{bm25}
 use Rattle.qm_term.specs.Bm25Weight.{weighing}
-use Rattle.qm_term.specs.declared.bm25.Bm25Weight.{Bm25Weight}
+use Rattle.qm_term.specs.OwnNorms.{OwnWeight}
 use Rattle.qm_phrase.specs.PhrasePrefix.{PrefixLists, full_count, has_several, held, prefix_count, prefix_entries, prefix_limits, prefix_points}
 use Rattle.qm_phrase.specs.PhrasePrefixFacts.{AreEntries-prefix}
 use Rattle.qm_phrase.specs.PrefixTerms.{HaveGoneOn, IsFirstPrefix, IsPrefixLook}
@@ -23,7 +23,7 @@ gone-counts target found t u first gone d past = elim (cases_lt d found.0) [
   | inr reached ↦ gone.counts d reached
 ]
 
-module _ (weight : Option Bm25Weight) (ids : List ℕ) where
+module _ (weight : Option OwnWeight) (ids : List ℕ) where
   -- what a document scores
   abbrev pub points_of : PrefixLists → ℕ → ℕ → ℕ
   points_of t d count = prefix_points weight (has_several t) ids d (held (full_count t d))
@@ -101,18 +101,18 @@ gone-same target d t u gone some =
 
 -- The points: without a weight, with one full term, and with two or more.
 
-pub prefix_points-none : (given : Option Bm25Weight) (several : Bool) (ids : List ℕ) (d n : ℕ) → given ≡ None → 1 ≡ prefix_points given several ids d n
+pub prefix_points-none : (given : Option OwnWeight) (several : Bool) (ids : List ℕ) (d n : ℕ) → given ≡ None → 1 ≡ prefix_points given several ids d n
 prefix_points-none None true ids d n is = refl
 prefix_points-none None false ids d n is = refl
 prefix_points-none (Some weight) several ids d n is = absurd (cc)
 
-pub prefix_points-single : (given : Option Bm25Weight) (weight : Bm25Weight) (several : Bool) (ids : List ℕ) (d n : ℕ) →
+pub prefix_points-single : (given : Option OwnWeight) (weight : OwnWeight) (several : Bool) (ids : List ℕ) (d n : ℕ) →
     given ≡ Some weight → false ≡ several → weight.boost ≡ prefix_points given several ids d n
 prefix_points-single None weight several ids d n is one = absurd (cc)
 prefix_points-single (Some other) weight true ids d n is one = absurd (cc)
-prefix_points-single (Some other) weight false ids d n is one = let same : other ≡ weight = cc in ap (λ (w : Bm25Weight). w.boost) (sym same)
+prefix_points-single (Some other) weight false ids d n is one = let same : other ≡ weight = cc in ap (λ (w : OwnWeight). w.boost) (sym same)
 
-pub prefix_points-several : (given : Option Bm25Weight) (weight : Bm25Weight) (several : Bool) (ids : List ℕ) (d count id n : ℕ) → given ≡ Some weight →
+pub prefix_points-several : (given : Option OwnWeight) (weight : OwnWeight) (several : Bool) (ids : List ℕ) (d count id n : ℕ) → given ≡ Some weight →
     true ≡ several → d < length ids → id ≡ get_or ids d id → count ≡ held n → bm25 (weighing weight) id count ≡ prefix_points given several ids d (held n)
 prefix_points-several None weight several ids d count id n is more below read counted = absurd (cc)
 prefix_points-several (Some other) weight false ids d count id n is more below read counted = absurd (cc)

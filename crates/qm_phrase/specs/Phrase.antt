@@ -15,7 +15,7 @@ use Rattle.qm_postings.specs.Positions.{shifted}
 use Rattle.qm_postings.specs.declared.fieldnorm.FieldNormReader.{FieldNormReader}
 use Rattle.qm_term.specs.Bm25.{bm25, bm25_bound}
 use Rattle.qm_term.specs.Bm25Weight.{weighing}
-use Rattle.qm_term.specs.declared.bm25.Bm25Weight.{Bm25Weight}
+use Rattle.qm_term.specs.OwnNorms.{OwnWeight}
 use Rattle.qm_phrase.specs.Starts.{starts, starts_held}
 
 -- how far the positions of each term are shifted: the greatest offset less its own
@@ -49,22 +49,22 @@ abbrev pub phrase_entries : (ℕ → ℕ → ℕ) → ℕ → List ℕ → List 
 phrase_entries points slop shifts ess = listed (λ d. nat_lt 0 (count_at slop shifts ess d)) (λ d. scored d (points d (count_at slop shifts ess d)))
 
 -- what a document scores by its count: by the weight at its length id, and 1 without a weight
-abbrev pub phrase_points : Option Bm25Weight → List ℕ → ℕ → ℕ → ℕ
+abbrev pub phrase_points : Option OwnWeight → List ℕ → ℕ → ℕ → ℕ
 phrase_points None ids d count = 1
 phrase_points (Some weight) ids d count = bm25 (weighing weight) (slice_index_or ids d 0) count
 
 -- the greatest score, without positions
-abbrev pub phrase_limits : Option Bm25Weight → Limits
+abbrev pub phrase_limits : Option OwnWeight → Limits
 phrase_limits None = record { top = 1; room = 0 }
 phrase_limits (Some weight) = record { top = bm25_bound (weighing weight); room = 0 }
 
 -- a placed cursor that lists the documents of a phrase: by a weight and length ids, within a slop, of
 -- terms at such offsets with such lists
-abbrev pub ListsPhraseOver : {U : Type 0} → Ghosts U → Option Bm25Weight → FieldNormReader → ℕ → List ℕ → List (List Entry) → U → Type 0
+abbrev pub ListsPhraseOver : {U : Type 0} → Ghosts U → Option OwnWeight → FieldNormReader → ℕ → List ℕ → List (List Entry) → U → Type 0
 ListsPhraseOver U weight norms slop offsets ess s =
     Lists U s (phrase_entries (phrase_points weight (norm_ids norms)) slop (shifts_of offsets) ess) (phrase_limits weight)
 
 -- the same of terms with their offsets
-abbrev pub ListsPhrase : {U P : Type 0} → Ghosts U → Ghosts P → Option Bm25Weight → FieldNormReader → ℕ → List (ℕ × P) → U → Type 0
+abbrev pub ListsPhrase : {U P : Type 0} → Ghosts U → Ghosts P → Option OwnWeight → FieldNormReader → ℕ → List (ℕ × P) → U → Type 0
 ListsPhrase U D weight norms slop terms s =
     ListsPhraseOver U weight norms slop (map (λ pair. pair.0) terms) (map (λ pair. D.entries pair.1) terms) s

@@ -11,7 +11,7 @@ use Rattle.qm_postings.specs.declared.fieldnorm.FieldNormReader.{FieldNormReader
 use Rattle.qm_docset.specs.declared.docset.DocSet.{Ghosts}
 use Rattle.qm_postings.specs.Positions.{is_in, shifted}
 use Rattle.qm_term.specs.Bm25Weight.{weighing}
-use Rattle.qm_term.specs.declared.bm25.Bm25Weight.{Bm25Weight}
+use Rattle.qm_term.specs.OwnNorms.{OwnWeight}
 use Rattle.qm_phrase.specs.Phrase.{phrase_limits, phrase_points, positions_at, sets_at}
 use Rattle.qm_phrase.specs.Places.{Ascends}
 use Rattle.qm_phrase.specs.Starts.{all_places}
@@ -72,19 +72,19 @@ held n = min 4294967295 n
 
 -- the points: with two or more full terms those of a phrase, with one the weight's boost, and 1
 -- without a weight
-abbrev pub prefix_points : Option Bm25Weight → Bool → List ℕ → ℕ → ℕ → ℕ
+abbrev pub prefix_points : Option OwnWeight → Bool → List ℕ → ℕ → ℕ → ℕ
 prefix_points weight true ids d count = phrase_points weight ids d count
 prefix_points None false ids d count = 1
 prefix_points (Some weight) false ids d count = (weighing weight).boost
 
 -- the greatest score, without positions
-abbrev pub prefix_limits : Option Bm25Weight → Bool → Limits
+abbrev pub prefix_limits : Option OwnWeight → Bool → Limits
 prefix_limits weight true = phrase_limits weight
 prefix_limits None false = record { top = 1; room = 0 }
 prefix_limits (Some weight) false = record { top = (weighing weight).boost; room = 0 }
 
 -- the documents with a count, each with the points that the places of its full terms give it
-abbrev pub prefix_entries : Option Bm25Weight → List ℕ → PrefixLists → List Entry
+abbrev pub prefix_entries : Option OwnWeight → List ℕ → PrefixLists → List Entry
 prefix_entries weight ids t =
     listed (λ d. nat_lt 0 (held (prefix_count t d))) (λ d. scored d (prefix_points weight (has_several t) ids d (held (full_count t d))))
 
@@ -108,9 +108,9 @@ lists_at D terms suffix_pos suffixes =
     lists_over (map (λ pair. pair.0) terms) (map (λ pair. D.entries pair.1) terms) suffix_pos (lists D suffixes)
 
 -- a placed cursor that lists the documents of a phrase prefix with such lists, by a weight and length ids
-abbrev pub ListsPrefixOver : {U : Type 0} → Ghosts U → Option Bm25Weight → FieldNormReader → PrefixLists → U → Type 0
+abbrev pub ListsPrefixOver : {U : Type 0} → Ghosts U → Option OwnWeight → FieldNormReader → PrefixLists → U → Type 0
 ListsPrefixOver U weight norms t s = Lists U s (prefix_entries weight (norm_ids norms) t) (prefix_limits weight (has_several t))
 
 -- the same of terms with their offsets and of those that begin with the prefix, whose offset is `suffix_pos`
-abbrev pub ListsPrefix : {U P : Type 0} → Ghosts U → Ghosts P → Option Bm25Weight → FieldNormReader → List (ℕ × P) → ℕ → List P → U → Type 0
+abbrev pub ListsPrefix : {U P : Type 0} → Ghosts U → Ghosts P → Option OwnWeight → FieldNormReader → List (ℕ × P) → ℕ → List P → U → Type 0
 ListsPrefix U D weight norms terms suffix_pos suffixes s = ListsPrefixOver U weight norms (lists_at D terms suffix_pos suffixes) s

@@ -6,18 +6,18 @@ use Rattle.qm_docset.specs.Entry.{Entry, Limits, head_document}
 use Rattle.qm_docset.specs.declared.docset.DocSet.{Ghosts}
 use Rattle.qm_docset.specs.declared.numbers.TheConstants.{TERMINATED}
 use Rattle.qm_postings.specs.FieldNorms.{norm_ids}
-use Rattle.qm_term.specs.declared.bm25.Bm25Weight.{Bm25Weight}
+use Rattle.qm_term.specs.OwnNorms.{OwnWeight}
 use Rattle.qm_phrase.specs.Phrase.{phrase_entries, phrase_limits, phrase_points, shifts_of, starts_at}
 use Rattle.qm_phrase.specs.Terms.{AreTerms, shifts_in, term_lists, term_starts}
 use Rattle.qm_phrase.specs.declared.phrase_scorer.PhraseScorer.{PhraseScorer}
 
 -- how many starts are counted: all where a weight scores them, and else the first
-abbrev pub most_counted : Option Bm25Weight → ℕ
+abbrev pub most_counted : Option OwnWeight → ℕ
 most_counted None = 1
 most_counted (Some weight) = 4294967295
 
 -- whether a weight scores the phrase
-abbrev pub has_weight : Option Bm25Weight → Bool
+abbrev pub has_weight : Option OwnWeight → Bool
 has_weight None = false
 has_weight (Some weight) = true
 
@@ -45,12 +45,12 @@ module _ {P : Type 0} (D : Ghosts P) where
 
   -- scored by such a weight, it counts in each document that it has left the starts of terms at such
   -- offsets with such lists
-  pub record CountsPhraseOver (weight : Option Bm25Weight) (slop : ℕ) (offsets : List ℕ) (ess : List (List Entry)) (s : PhraseScorer P) : Type 0 where
+  pub record CountsPhraseOver (weight : Option OwnWeight) (slop : ℕ) (offsets : List ℕ) (ess : List (List Entry)) (s : PhraseScorer P) : Type 0 where
     pub weighted : is_weighted s ≡ has_weight weight
     pub counts : (d : ℕ) → 0 < phrase_starts s d → phrase_starts s d ≡ starts_at slop (shifts_of offsets) ess d
 
   -- the same of terms with their offsets
-  abbrev pub CountsPhrase : Option Bm25Weight → ℕ → List (ℕ × P) → PhraseScorer P → Type 0
+  abbrev pub CountsPhrase : Option OwnWeight → ℕ → List (ℕ × P) → PhraseScorer P → Type 0
   CountsPhrase weight slop terms s = CountsPhraseOver weight slop (map (λ pair. pair.0) terms) (map (λ pair. D.entries pair.1) terms) s
 
   -- its terms, and that each document with a start has a length id

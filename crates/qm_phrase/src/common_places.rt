@@ -28,6 +28,7 @@ pub(crate) fn collect_common(rows: &mut [TermRow], positions: &[Vec<u32>], commo
     ensures terms { terms_of rows.new ≡ terms_of rows.old }
 {
     common.clear();
+    // of what the rows have gone by, the places that all have are in the list
     loop {
         let (least, greatest) = first_places(rows, positions);
         if greatest == ALL_PLACES {
@@ -56,6 +57,7 @@ pub(crate) fn count_shared(common: &mut Places, row: &mut Places) -> u32
 {
     common.rewind();
     let mut count = 0;
+    // of what both rows have gone by, so many places are in both
     while count < u32::MAX {
         let (place, other) = (row.first(), common.first());
         let greatest = place.max(other);

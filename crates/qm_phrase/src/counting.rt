@@ -19,6 +19,7 @@ pub(crate) fn first_places(rows: &[TermRow], positions: &[Vec<u32>]) -> (u64, u6
 {
     let mut least = ALL_PLACES;
     let mut greatest = 0;
+    // the least and the greatest of the first places of the rows before this one
     for row in rows {
         let place = row.first(positions);
         least = place.min(least);
@@ -35,6 +36,7 @@ pub(crate) fn pass(rows: &mut [TermRow], positions: &[Vec<u32>], place: u64, flo
     ensures left { HavePassed floor (map (past place) (rows_left positions.now rows.old)) (rows_left positions.now rows.new) }
     ensures terms { terms_of rows.new ≡ terms_of rows.old }
 {
+    // the rows before this one have gone by the place, and by all below the floor
     for row in rows.iter_mut() {
         row.pass(positions, place, floor);
     }
@@ -60,6 +62,7 @@ pub(crate) fn count_starts(
     ensures terms { terms_of rows.new ≡ terms_of rows.old }
 {
     let mut count = 0;
+    // of what the rows have gone by, so many places begin the phrase
     while count < most {
         let (least, greatest) = first_places(rows, positions);
         if greatest == ALL_PLACES {

@@ -96,6 +96,7 @@ pub(crate) fn greatest_offset(terms: &[(usize, usize)]) -> usize
     ensures { result ≡ fold max 0 (map (λ term. term.0) terms.now) }
 {
     let mut greatest = 0usize;
+    // the greatest of the offsets before this one
     for term in terms {
         greatest = greatest.max(term.0);
     }

@@ -33,6 +33,7 @@ fn length_without_trailing_max(text: &[u8]) -> usize
     ensures last { 0 < result → slice_index text.now (result - 1) < 255 }
 {
     let mut length = text.len();
+    // all bytes from the length on are the greatest
     while length > 0 && text[length - 1] == u8::MAX {
         length -= 1;
     }

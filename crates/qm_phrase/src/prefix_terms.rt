@@ -101,6 +101,7 @@ impl<P: Postings> PrefixTerms<P> {
         ensures valid { ArePrefixTerms P.DocSet self.new }
     {
         let mut doc = target;
+        // no document from the target to before this one has the phrase
         while doc < TERMINATED {
             match self.look_at(doc) {
                 Ok(counts) => return (doc, counts),
@@ -132,6 +133,7 @@ impl<P: Postings> PrefixTerms<P> {
         requires { ArePrefixTerms P.DocSet self.now }
     {
         let mut cost = self.full.cost();
+        // the sum of what the full terms and the suffixes before this one cost, held at the greatest number
         for suffix in &self.suffixes {
             cost = cost.saturating_add(suffix.postings.cost());
         }
@@ -145,6 +147,7 @@ fn greatest_freq<P: Postings>(postings: &[P]) -> u64
     ensures { All (λ m. (P.limits m).room ≤ result) postings.now }
 {
     let mut greatest = 0;
+    // the greatest frequency of the members before this one
     for member in postings {
         greatest = member.max_term_freq().max(greatest);
     }

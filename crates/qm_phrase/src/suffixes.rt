@@ -39,6 +39,7 @@ pub(crate) fn row_of_suffixes<P: Postings>(
     ensures lists { IfOk result (λ row. suffix_lists P.DocSet row.items ≡ lists P.DocSet suffixes.items) }
 {
     let mut row = Vec::with_capacity(alloc, suffixes.len())?;
+    // the suffixes before this one are in the row, with bounds of 0
     for postings in suffixes {
         row.push(Suffix {
             postings,

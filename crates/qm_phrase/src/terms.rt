@@ -155,6 +155,7 @@ impl<P: Postings> TermPlaces<P> {
         ensures moved { AreMovedTo P.DocSet slop result.0 self.old self.new }
     {
         let mut doc = target;
+        // no document from the target to before this one has the phrase
         while doc < TERMINATED {
             match self.look_at(slop, doc, most) {
                 Ok(count) => return (doc, count),
@@ -179,6 +180,7 @@ impl<P: Postings> TermPlaces<P> {
         requires { AreTerms P.DocSet self.now }
     {
         let mut hint = u32::MAX;
+        // the least of the hints of the members before this one
         for member in &self.members {
             hint = member.size_hint().min(hint);
         }
@@ -190,6 +192,7 @@ impl<P: Postings> TermPlaces<P> {
         requires { AreTerms P.DocSet self.now }
     {
         let mut cost = 0u64;
+        // the sum of what the members before this one cost, held at the greatest number
         for member in &self.members {
             cost = cost.saturating_add(member.cost());
         }
@@ -242,6 +245,7 @@ fn read_positions<P: Postings>(members: &mut [P], positions: &mut [Vec<u32>])
     ensures limits { bounds P.DocSet members.new ≡ bounds P.DocSet members.old }
     ensures valid { All P.valid members.new }
 {
+    // the buffers before this one have their members' positions
     for (i, buffer) in positions.iter_mut().enumerate() {
         members[i].positions(buffer);
     }
@@ -256,6 +260,7 @@ fn find_each<P: Postings>(members: &mut [P])
     ensures valid { All P.valid members.new }
     ensures here { All (λ m. P.placed m × (head_document (P.entries m) < TERMINATED)) members.new }
 {
+    // the members before this one have found their positions
     for member in members.iter_mut() {
         member.find_positions();
     }
@@ -265,6 +270,7 @@ fn find_each<P: Postings>(members: &mut [P])
 fn rewind(rows: &mut [TermRow])
     ensures { rows.new ≡ map begun rows.old }
 {
+    // the rows before this one stand at their beginnings
     for row in rows.iter_mut() {
         row.row.passed = 0;
     }

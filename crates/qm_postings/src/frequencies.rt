@@ -145,6 +145,7 @@ fn small_of(alloc: Global, frequencies: &[u32]) -> Result<Option<Vec<u8>>, Query
     ensures refused { IsOkUnless result QueryError.Memory }
 {
     let mut small = Vec::with_capacity(alloc, frequencies.len())?;
+    // the frequencies before this one are there, and none is above 255
     for frequency in frequencies {
         if *frequency > 255 {
             return Ok(None);
@@ -209,6 +210,7 @@ impl<'a> FrequencyPart<'a> {
         ensures same { IfOk result (λ it. it.items ≡ listed self.now) }
     {
         let mut frequencies = Vec::with_capacity(alloc, self.small.len() + self.large.len())?;
+        // the frequencies before this one are copied
         for frequency in self.small {
             frequencies.push(u32::from(*frequency))?;
         }
@@ -249,6 +251,7 @@ fn sum_of_small(frequencies: &[u8]) -> usize
     ensures { result ≡ sum frequencies.now }
 {
     let mut total = 0;
+    // the sum of the frequencies before this one
     for frequency in frequencies {
         total += *frequency as usize;
     }
@@ -271,6 +274,7 @@ fn greatest_of_small(frequencies: &[u8]) -> u32
     ensures { result ≡ greatest frequencies.now }
 {
     let mut greatest = 0;
+    // the greatest of the frequencies before this one
     for frequency in frequencies {
         greatest = greatest.max(*frequency);
     }
@@ -281,6 +285,7 @@ fn greatest_of(frequencies: &[u32]) -> u32
     ensures { result ≡ greatest frequencies.now }
 {
     let mut greatest = 0;
+    // the greatest of the frequencies before this one
     for frequency in frequencies {
         greatest = greatest.max(*frequency);
     }

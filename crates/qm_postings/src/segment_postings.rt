@@ -462,6 +462,7 @@ impl<'a> Postings for SegmentPostings<'a> {
         ensures valid { IsPostings self.new }
     {
         let positions = self.positions_here();
+        // the positions before this one are appended
         for position in positions {
             output.push(*position + offset).unwrap();
         }

@@ -67,6 +67,7 @@ pub(crate) fn sum_of(frequencies: &[u32]) -> usize
     ensures { result ≡ sum frequencies.now }
 {
     let mut total = 0;
+    // the sum of the frequencies before this one
     for frequency in frequencies {
         total += *frequency as usize;
     }

@@ -42,6 +42,7 @@ impl TermGuesses {
             slots: vec![in alloc; NO_TERM; count]?,
         };
         let mut place = 0u32;
+        // the terms before this one are put in, and this one has that place
         for entry in terms {
             guesses.put(entry, place);
             place = place.saturating_add(1);
@@ -52,6 +53,7 @@ impl TermGuesses {
     // Puts the place of a term into one of its slots, where one is free.
     fn put(&mut self, entry: &TermEntry, place: u32) {
         let first = self.slot_of(entry.head, entry.term.serialized_value_bytes());
+        // the slots from the first to before this one have other terms
         for slot in first..first.saturating_add(PROBES).min(self.slots.len()) {
             if self.slots[slot] == NO_TERM {
                 self.slots[slot] = place;

@@ -17,10 +17,9 @@ use Rattle.qm_postings.specs.Address.{address_cmp}
 use Rattle.qm_postings.specs.Reading.{Reader}
 use Rattle.qm_postings.specs.Segment.{Segment, is_alive}
 use Rattle.qm_postings.specs.declared.address.DocAddress.{DocAddress}
-use Rattle.qm_term.specs.HitRuns.{calls_of, count_above, one_if_above}
+use Rattle.qm_term.specs.RunCounts.{calls_of, count_above, one_if_above}
 use Rattle.qm_term.specs.Runs.{InRange, Plain, Turn}
 use Rattle.qm_term.specs.RunsFacts.{Plain-enters}
-use Rattle.qm_term.specs.TermBlocks.{hits}
 use Rattle.qm_term.specs.declared.wand.ticks.WandCount.{WandCount}
 use Rattle.qm_term.proofs.WandPlain.{is_above}
 use Rattle.qm_weight.specs.Best.{best, by_score}
@@ -235,8 +234,8 @@ collected-more ord segment d s answer old new at fine =
 -- so there are at most as many more as there were calls
 kept-calls : (ord : ℕ) (segment : Segment) (th last : ℤ) (old new : KeptDocuments) (es : List Entry) (ths : List ℤ) →
     Plain (InRange (CollectsAt ord segment)) th old es ths last new → new.refused ≡ false →
-    (old.refused ≡ false) × (length (ranked_kept new) ≤ length (ranked_kept old) + calls_of ths (hits es))
-unfolding hits count_above
+    (old.refused ≡ false) × (length (ranked_kept new) ≤ length (ranked_kept old) + calls_of ths es)
+unfolding count_above
 kept-calls ord segment th last old new [] [] run fine = (subst (λ k. k.refused ≡ false) run.1 fine, omega (arith, ap (λ k. length (ranked_kept k)) run.1))
 kept-calls ord segment th last old new [] (t ∷ ths) run fine = absurd run
 kept-calls ord segment th last old new (e ∷ es) [] run fine = absurd run

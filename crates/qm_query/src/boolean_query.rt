@@ -148,6 +148,7 @@ impl BooleanQuery {
         ensures refused { IsOkUnless result QueryError.Memory }
     {
         let mut clauses = Vec::with_capacity(alloc, terms.len())?;
+        // the terms before this one are clauses that should match
         for term in terms {
             let query = TermQuery::new(term, IndexRecordOption::WithFreqs);
             clauses.push((Occur::Should, Box::new(alloc, AnyQuery::Term(query))?))?;
@@ -171,6 +172,7 @@ impl BooleanQuery {
         ensures refused { IsOkUnless result QueryError.Memory }
     {
         let mut subqueries = Vec::with_capacity(alloc, self.subqueries.len())?;
+        // the clauses before this one are copied
         for (occur, query) in &self.subqueries {
             let copy = Box::new(alloc, (**query).clone(alloc)?)?;
             subqueries.push((*occur, copy))?;
@@ -196,6 +198,7 @@ impl BooleanQuery {
             return self.build_terms(alloc, enable_scoring);
         }
         let mut weights = Vec::with_capacity(alloc, self.subqueries.len())?;
+        // the weights so far are those of the clauses so far, each behind how it occurs
         for (occur, query) in &self.subqueries {
             let weight = (**query).build_weight(alloc, enable_scoring)?;
             weights.push((*occur, weight))?;
@@ -221,6 +224,7 @@ impl BooleanQuery {
         ensures refused { IfErr result (IsWeightRefusal P.Bm25StatisticsProvider enable_scoring.entry (boolean_of self.now)) }
     {
         let mut clauses = Vec::with_capacity(alloc, self.subqueries.len())?;
+        // the clauses before this one have what their terms weigh
         for (occur, query) in &self.subqueries {
             let AnyQuery::Term(term) = &**query else {
                 unreachable!();
@@ -258,6 +262,7 @@ fn visit_clause<F: FnMut(&Term, bool)>(clause: &(Occur, Box<AnyQuery>), visitor:
 fn are_terms(subqueries: &[(Occur, Box<AnyQuery>)]) -> bool
     ensures { result ≡ true → AreTermClauses subqueries.now }
 {
+    // all clauses before this one are terms
     for (_, query) in subqueries {
         if !is_term(query) {
             return false;

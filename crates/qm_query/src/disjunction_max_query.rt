@@ -68,6 +68,7 @@ impl DisjunctionMaxQuery {
         ensures refused { IsOkUnless result QueryError.Memory }
     {
         let mut disjuncts = Vec::with_capacity(alloc, self.disjuncts.len())?;
+        // the disjuncts before this one are copied
         for query in &self.disjuncts {
             disjuncts.push(Box::new(alloc, (**query).clone(alloc)?)?)?;
         }
@@ -92,6 +93,7 @@ impl DisjunctionMaxQuery {
             return self.build_terms(alloc, enable_scoring);
         }
         let mut weights = Vec::with_capacity(alloc, self.disjuncts.len())?;
+        // the weights so far are those of the disjuncts so far
         for query in &self.disjuncts {
             let weight = (**query).build_weight(alloc, enable_scoring)?;
             weights.push((Occur::Should, weight))?;
@@ -113,6 +115,7 @@ impl DisjunctionMaxQuery {
         ensures refused { IfErr result (IsWeightRefusal P.Bm25StatisticsProvider enable_scoring.entry (disjunction_max_of self.now)) }
     {
         let mut clauses = Vec::with_capacity(alloc, self.disjuncts.len())?;
+        // the disjuncts before this one have what their terms weigh
         for query in &self.disjuncts {
             let AnyQuery::Term(term) = &**query else {
                 unreachable!();
@@ -163,6 +166,7 @@ impl Query for DisjunctionMaxQuery {
 fn are_terms(disjuncts: &[Box<AnyQuery>]) -> bool
     ensures { result ≡ true → AreTermQueries disjuncts.now }
 {
+    // all disjuncts before this one are terms
     for query in disjuncts {
         if !is_term(query) {
             return false;

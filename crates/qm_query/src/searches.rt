@@ -21,6 +21,7 @@ pub(crate) fn count_alive(
     ensures refused { IfErr result (IsRefusalOf (tree_of weight.now) 1) }
 {
     let mut count = 0;
+    // the sum over the segments before this one
     for reader in searcher.segment_readers() {
         count += weight.count(alloc, reader)? as usize;
     }

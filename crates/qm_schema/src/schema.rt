@@ -89,6 +89,7 @@ impl Schema {
         ensures refused { IsOkUnless result QueryError.Memory }
     {
         let mut entries = Vec::with_capacity(alloc, self.entries.len())?;
+        // the entries before this one are copied
         for entry in &self.entries {
             entries.push(entry.clone(alloc)?)?;
         }

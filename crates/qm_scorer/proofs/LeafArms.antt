@@ -8,7 +8,7 @@ use Rattle.qm_combine.specs.declared.const_scorer.ConstScorer.{ConstScorer}
 use Rattle.qm_combine.specs.declared.empty_scorer.EmptyScorer.{EmptyScorer}
 use Rattle.qm_phrase.specs.declared.phrase_prefix_scorer.PhrasePrefixScorer.{PhrasePrefixScorer}
 use Rattle.qm_phrase.specs.declared.phrase_scorer.PhraseScorer.{PhraseScorer}
-use Rattle.qm_term.specs.declared.term_scorer.TermScorer.{TermScorer}
+use Rattle.qm_term.specs.OwnNorms.{OwnScorer}
 use Rattle.qm_scorer.specs.Leaf.{IsLeaf}
 use Rattle.qm_scorer.specs.declared.any_scorer.AnyScorer.{AnyScorer}
 use Rattle.qm_scorer.specs.declared.any_scorer.AnyScorer.TheOpen as layer
@@ -18,7 +18,7 @@ use Rattle.qm_scorer.specs.declared.any_scorer.AnyScorer.TheVariants.{All, BitSe
 module _ {S : Type 0} where
   -- a tree is a leaf of one of these seven kinds, or a node
   pub no-other : (tree : AnyScorer S) → IsLeaf tree → ((s : EmptyScorer) → tree ≡ Empty s → ⊥) → ((s : AllScorer) → tree ≡ All s → ⊥) →
-      ((s : S) → tree ≡ Own s → ⊥) → ((s : Box TermScorer _) → tree ≡ Term s → ⊥) → ((s : Box (ConstScorer BitSetDocSet) _) → tree ≡ BitSet s → ⊥) →
+      ((s : S) → tree ≡ Own s → ⊥) → ((s : Box OwnScorer _) → tree ≡ Term s → ⊥) → ((s : Box (ConstScorer BitSetDocSet) _) → tree ≡ BitSet s → ⊥) →
       ((s : Box (PhraseScorer SegmentPostings) _) → tree ≡ Phrase s → ⊥) → ((s : Box (PhrasePrefixScorer SegmentPostings) _) → tree ≡ PhrasePrefix s → ⊥) → ⊥
   no-other tree leaf none every own term set phrase prefix = among (v.out-AnyScorer S tree) (sym (v.roll-out-AnyScorer S tree)) where
     among : (l : _) → tree ≡ v.roll-AnyScorer S l → ⊥

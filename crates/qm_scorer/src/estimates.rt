@@ -82,6 +82,7 @@ fn estimate_group<'a, S: Scorer>(node: &GroupNode<'a, S>, estimate: Estimate) ->
     requires members { All (IsTree S.DocSet) node.now.members.items }
 {
     let mut sum = 0;
+    // the estimates of the members before this one, joined
     for member in &node.members {
         sum = join_estimates(sum, estimate_tree(member, estimate), estimate);
     }

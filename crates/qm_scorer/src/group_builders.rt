@@ -247,6 +247,7 @@ fn held_bound<'a, S: Scorer>(members: &[AnyScorer<'a, S>]) -> u64
     ensures { result ≡ held_sum (map (tree_top S.DocSet) members.now) }
 {
     let mut sum = 0;
+    // the sum of the bounds of the members before this one, held at the greatest score
     for member in members {
         sum = (sum + bound_of(member)).min(GREATEST_SCORE);
     }

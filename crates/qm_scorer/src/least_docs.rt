@@ -24,6 +24,7 @@ fn least_doc(docs: &[DocId]) -> DocId
     ensures { result ≡ least_of docs.now }
 {
     let mut least = TERMINATED;
+    // the least of the documents before the i-th
     for i in 0..docs.len() {
         least = least.min(docs[i]);
     }
@@ -46,6 +47,7 @@ fn leasts_of(alloc: Global, row: &[DocId]) -> Result<Vec<DocId>, AllocError>
 {
     let mut leasts = Vec::with_capacity(alloc, row.len().div_ceil(SPAN))?;
     let mut span = 0;
+    // the spans before this one have their least documents
     while SPAN * span < row.len() {
         leasts.push(least_in(row, span))?;
         span += 1;
@@ -62,6 +64,7 @@ fn first_below(row: &[DocId], from: usize, end: usize, target: DocId) -> usize
     ensures found { result < end → slice_index_or row.now result 0 < target }
 {
     let mut place = from;
+    // no place before this one has a document below the target
     while place < end && target <= row[place] {
         place += 1;
     }

@@ -18,6 +18,7 @@ pub(crate) fn cut_words<'a>(alloc: Global, line: &'a str) -> Result<Vec<&'a str>
     let mut words = Vec::with_capacity(alloc, 64)?;
     // the words of the pieces before this one are there
     for piece in line.split(' ') {
+        // the words of the piece before this one are there too
         for word in piece.split('\t') {
             if !word.is_empty() {
                 words.push(word)?;

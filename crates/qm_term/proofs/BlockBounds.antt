@@ -23,6 +23,7 @@ use Rattle.qm_term.specs.Bm25Weight.{weighing}
 use Rattle.qm_term.specs.Members.{bound_at, end_at}
 use Rattle.qm_term.specs.TermBlocks.{scored_looked}
 use Rattle.qm_term.specs.TermScorer.{IsTermScorer, scored_by, scored_blocks, scored_left}
+use Rattle.qm_term.specs.declared.norms.Norms.{Ghosts as NormGhosts}
 use Rattle.qm_term.specs.declared.term_scorer.TermScorer.{TermScorer}
 use Rattle.qm_term.proofs.WandMembers.{scored_at, scores_bounded}
 
@@ -88,7 +89,7 @@ module _ (p : SegmentPostings) (h : IsPostings p) where
       ap (λ (b : PostingsBlock). b.last) (sym has.2) ∙ same ∙ ap (λ (b : PostingsBlock). b.last) looked in
       has.2 ∙ ap block (same_number has.0 (looked_number p) has.1 (looked_within p h inside) ends) ∙ sym looked
 
-module _ (s : TermScorer) (h : IsTermScorer s) where
+module _ {N : Type 0} {G : NormGhosts N} (s : TermScorer N G) (h : IsTermScorer s) where
   abbrev of_looked : Entry → Type 0
   of_looked e = end_at e.document (scored_blocks s) ≡ (scored_looked s).last → bound_at e.document (scored_blocks s) ≡ (scored_looked s).bound
 

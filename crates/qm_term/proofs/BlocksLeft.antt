@@ -20,17 +20,16 @@ use Rattle.qm_postings.specs.SegmentPostings.{IsPostings, postings_blocks, posti
 use Rattle.qm_postings.specs.TermArrays.{stored}
 use Rattle.qm_postings.specs.declared.segment_postings.SegmentPostings.{SegmentPostings}
 use Rattle.qm_term.specs.Bm25Weight.{weighing}
-use Rattle.qm_term.specs.Members.{Block, end_at, hit_document, hits_from}
-use Rattle.qm_term.specs.RunScorers.{IsRunScorer, first_of, wand_member}
+use Rattle.qm_term.specs.Members.{Block, end_at}
+use Rattle.qm_term.specs.RunScorers.{IsRunScorer, wand_member}
 use Rattle.qm_term.specs.SingleRun.{FillsBlocks}
-use Rattle.qm_term.specs.TermBlocks.{hits, member_of}
+use Rattle.qm_term.specs.TermBlocks.{member_of}
 use Rattle.qm_term.specs.TermScorer.{IsTermScorer, scored_by, scored_blocks, scored_left}
 use Rattle.qm_term.specs.TermScorerFacts.{scored-document}
+use Rattle.qm_term.specs.declared.norms.Norms.{Ghosts as NormGhosts}
 use Rattle.qm_term.specs.declared.term_scorer.TermScorer.{TermScorer}
 use Rattle.qm_term.specs.declared.wand.front.TermScorerWithMaxScore.{TermScorerWithMaxScore}
-use Rattle.qm_term.proofs.WandMembers.{from-hits, head-hits, scored_at}
-use Rattle.std.specs.Prelude.{All}
-use Rattle.std.proofs.lemmas.List.Elements.{All-head}
+use Rattle.qm_term.proofs.WandMembers.{scored_at}
 
 -- how many blocks end at or past a document
 unfoldable pub blocks_left : ℕ → List Block → ℕ
@@ -94,7 +93,7 @@ left-one d (suc b) (y ∷ bs) x l h =
     elim (cases_lt y.last d) [ inl past ↦ omega (arith, left-past d y bs past, rest) | inr here ↦ omega (arith, left-here d y bs here) ]
 
 -- where a scorer has documents its last block ends at the end
-pub some_left : (s : TermScorer) → IsTermScorer s → head_document (scored_left s) < TERMINATED → (d : ℕ) → d < TERMINATED → 0 < blocks_left d (scored_blocks s)
+pub some_left : {N : Type 0} {G : NormGhosts N} (s : TermScorer N G) → IsTermScorer s → head_document (scored_left s) < TERMINATED → (d : ℕ) → d < TERMINATED → 0 < blocks_left d (scored_blocks s)
 unfolding scored_blocks
 some_left s h here d below =
     let p = s.postings in
@@ -211,14 +210,14 @@ place_of_end d (b ∷ bs) h = elim (cases_lt b.last d) [
   | inr here ↦ (0, omega arith, λ x. sym (end-here d b bs here))
 ]
 
-pub fills-member : (s : TermScorer) → IsTermScorer s → FillsBlocks (member_of s)
+pub fills-member : {N : Type 0} {G : NormGhosts N} (s : TermScorer N G) → IsTermScorer s → FillsBlocks (member_of s)
 unfolding member_of scored_blocks
 fills-member s h = λ end reach below stop.
     let p = s.postings in
     let a = p.arrays in
     let f = scored_by s.similarity_weight s.fieldnorm_reader in
     let bs : List Block = map f (postings_blocks p) in
-    let head_is : hit_document (hits (scored_left s)) ≡ head_document (postings_left p) = head-hits (scored_left s) ∙ scored-document s in
+    let head_is : head_document (scored_left s) ≡ head_document (postings_left p) = scored-document s in
     let started : p.cursor < length a.documents.now = elim (cases_lt p.cursor (length a.documents.now)) [
       | inl l ↦ l
       | inr past ↦ absurd (omega (arith, head_end p h.postings past, head_is, reach, below))
@@ -235,9 +234,8 @@ fills-member s h = λ end reach below stop.
     let under : end_of a.block_len a.documents.now b < TERMINATED = omega (arith, is, below) in
     let reached : head_document (postings_left p) ≤ end_of a.block_len a.documents.now b = omega (arith, is, head_is, reach) in
     let t : suc (end_of a.block_len a.documents.now b) ≡ suc end = ap suc is in
-    let document : hit_document (hits_from (suc end) (hits (scored_left s))) ≡ get_or a.documents.now ((b + 1) * a.block_len) 0 =
-    ap hit_document (sym (from-hits (suc end) (scored_left s))) ∙ head-hits (from (suc end) (scored_left s))
-    ∙ ap head_document (from-rescored _ (suc end) (postings_left p)) ∙ head_document-rescored _ (from (suc end) (postings_left p))
+    let document : head_document (from (suc end) (scored_left s)) ≡ get_or a.documents.now ((b + 1) * a.block_len) 0 =
+    ap head_document (from-rescored _ (suc end) (postings_left p)) ∙ head_document-rescored _ (from (suc end) (postings_left p))
     ∙ ap (λ n. head_document (from n (postings_left p))) (sym t) ∙ next_document p h.postings b inside under started reached in
     let block : end_at (suc end) bs ≡ (block_at (suc (end_of a.block_len a.documents.now b)) (postings_blocks p)).last =
     (scored_at (weighing s.similarity_weight) (is_made_constant s.fieldnorm_reader) (norm_ids s.fieldnorm_reader) (suc end) (postings_blocks p)).0
@@ -246,7 +244,6 @@ fills-member s h = λ end reach below stop.
       omega (arith, document, block, next_within p h.postings b inside under started reached),
     )
 
-pub fills_first : (ss : List TermScorerWithMaxScore) → length ss ≡ 1 → All IsRunScorer ss → FillsBlocks (first_of ss)
+pub fills_bounded : {N : Type 0} {G : NormGhosts N} (s : TermScorerWithMaxScore N G) → IsRunScorer s → FillsBlocks (wand_member s)
 unfolding wand_member
-fills_first [] one h = absurd (omega arith)
-fills_first (s ∷ ss) one h = fills-member s.scorer (All-head IsRunScorer s ss h).valid
+fills_bounded s h = fills-member s.scorer h.valid

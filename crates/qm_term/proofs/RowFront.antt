@@ -4,11 +4,11 @@ use Rattle.std.specs.Prelude.{All}
 use Rattle.std.specs.List.Sorted.{IsNonDecreasingBy}
 use Rattle.std.proofs.lemmas.Bool.{le-leb, lt-leb}
 use Rattle.qm_docset.specs.declared.numbers.TheConstants.{TERMINATED}
+use Rattle.qm_combine.proofs.WindowWords.{get_or-there as any}
 use Rattle.qm_term.specs.Heads.{AreKnown, AreRecords, IsFront, listed}
 use Rattle.qm_term.specs.Members.{Member, bound_at, end_at, total}
 use Rattle.qm_term.specs.Pivot.{head, pivot_bound, pivot_bounds, skip, skip_by}
 use Rattle.qm_term.specs.declared.wand.heads.Head.{Head}
-use Rattle.qm_term.proofs.HeadRecords.{any}
 use Rattle.qm_term.proofs.WandBounds.{skip-cons, skip_le_end, total-cons, total-nil}
 use Rattle.qm_term.proofs.WandRows.{rest_at, rest_end}
 

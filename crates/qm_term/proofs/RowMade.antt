@@ -1,5 +1,5 @@
 -- A row as it is made.
-use Rattle.std.proofs.Common.{◌≡◌, ◌∙◌, ℕ, zero, suc, ◌+◌, ◌*◌, ◌<◌, ◌≤◌, ◌++◌, List, [], ◌∷◌, length, get_or, map, ap, arith, refl, subst, sym}
+use Rattle.std.proofs.Common.{◌≡◌, ◌∙◌, ℕ, ◌*◌, ◌<◌, ◌≤◌, List, [], ◌∷◌, length, get_or, map, ap, arith, refl, subst, sym}
 use Rattle.std.specs.Prelude.{All}
 use Rattle.std.proofs.lemmas.List.{ext_get_or, get_or-map, length-map}
 use Rattle.std.proofs.lemmas.List.Elements.{All-head, All-tail}
@@ -8,20 +8,12 @@ use Rattle.qm_term.specs.Members.{Member, total}
 use Rattle.qm_term.specs.Pivot.{postings}
 use Rattle.qm_term.specs.TermBlocks.{member_of}
 use Rattle.qm_term.specs.TermScorer.{IsTermScorer}
+use Rattle.qm_term.specs.declared.norms.Norms.{Ghosts as NormGhosts}
 use Rattle.qm_term.specs.declared.term_scorer.TermScorer.{TermScorer}
 use Rattle.qm_term.specs.declared.wand.heads.Head.{Head}
-use Rattle.qm_term.proofs.HitRunFacts.{few_hits}
+use Rattle.qm_term.proofs.PrunedRuns.{few_entries}
 use Rattle.qm_term.proofs.RowRecords.{zeros}
-
-pub pushed_before : {X : Type 0} (xs : List X) (x : X) (j : ℕ) (d : X) → j < length xs → get_or (xs ++ x ∷ []) j d ≡ get_or xs j d
-pushed_before [] x j d l = absurd (omega arith)
-pushed_before (y ∷ xs) x zero d l = refl
-pushed_before (y ∷ xs) x (suc j) d l = pushed_before xs x j d (omega arith)
-
-pub pushed_last : {X : Type 0} (xs : List X) (x : X) (j : ℕ) (d : X) → j ≡ length xs → get_or (xs ++ x ∷ []) j d ≡ x
-pushed_last [] x j d e = ap (λ i. get_or (x ∷ []) i d) e
-pushed_last (y ∷ xs) x zero d e = absurd (omega arith)
-pushed_last (y ∷ xs) x (suc j) d e = pushed_last xs x j d (omega arith)
+use Rattle.qm_term.proofs.WandSteps.{postings-cons}
 
 module _ (ms : List Member) (hs : List Head) (long : length hs ≡ length ms)
     (made : (j : ℕ) (d : Head) → j < length ms → get_or hs j d ≡ first_record (get_or ms j no_member) j) where
@@ -49,15 +41,11 @@ module _ (ms : List Member) (hs : List Head) (long : length hs ≡ length ms)
 
 -- ---- so many postings at most
 
-postings-cons : (m : Member) (ms : List Member) → postings (m ∷ ms) ≡ length m.entries + postings ms
-unfolding postings total
-postings-cons m ms = refl
-
 postings-nil : postings [] ≡ 0
 unfolding postings total
 postings-nil = refl
 
-pub few_postings : (ss : List TermScorer) → All IsTermScorer ss → postings (map member_of ss) ≤ length ss * 2147483647
+pub few_postings : {N : Type 0} {G : NormGhosts N} (ss : List (TermScorer N G)) → All IsTermScorer ss → postings (map member_of ss) ≤ length ss * 2147483647
 few_postings [] h = omega (arith, postings-nil)
 few_postings (s ∷ ss) h =
-    omega (arith, postings-cons (member_of s) (map member_of ss), few_hits s (All-head IsTermScorer s ss h), few_postings ss (All-tail IsTermScorer s ss h))
+    omega (arith, postings-cons (member_of s) (map member_of ss), few_entries s (All-head IsTermScorer s ss h), few_postings ss (All-tail IsTermScorer s ss h))

@@ -6,6 +6,7 @@ use Rattle.qm_term.specs.Heads.{AreRecords, listed, no_member}
 use Rattle.qm_term.specs.Members.{AreMembers, Member, end_at}
 use Rattle.qm_term.specs.Pivot.{cut, head, skip, skip_by, total_top}
 use Rattle.qm_term.specs.Stretches.{AreFrom, IsLookedAt}
+use Rattle.qm_term.specs.declared.norms.Norms.{Ghosts as NormGhosts}
 use Rattle.qm_term.specs.declared.wand.heads.Head.{Head}
 use Rattle.qm_term.proofs.WandBounds.{skip-cons, skip_le_end, total-cons}
 use Rattle.qm_term.proofs.WandRows.{rest_at}
@@ -15,9 +16,9 @@ use Rattle.qm_term.specs.Cells.{cuts}
 use Rattle.qm_term.specs.HeadRow.{AreHeads, row_lists}
 use Rattle.qm_term.specs.RunScorers.{wand_member}
 use Rattle.qm_term.specs.declared.wand.front.TermScorerWithMaxScore.{TermScorerWithMaxScore}
-use Rattle.qm_term.proofs.RowMoves.{row_member}
 use Rattle.qm_term.proofs.RowRecords.{doc_at, row_members, zeros}
-use Rattle.qm_term.proofs.StretchCuts.{cut_reaches, cuts_all}
+use Rattle.qm_term.proofs.StretchCuts.{cuts_all}
+use Rattle.qm_docset.proofs.Gathering.{head_document-from}
 
 -- how far a record's block at p, or its document, allows to pass
 pub end_by : (ms : List Member) (hs : List Head) (p k : ℕ) (d : Head) → AreRecords ms hs → k < length hs → IsLookedAt p (get_or hs k d) → (r : ℕ) →
@@ -57,11 +58,6 @@ end_next ms hs p k d l least r new all e by low i =
 
 -- ---- lists by their places
 
-pub set_same : {X : Type 0} (xs : List X) (k : ℕ) (d : X) → k < length xs → set xs k (get_or xs k d) ≡ xs
-set_same [] k d l = absurd (omega arith)
-set_same (x ∷ xs) zero d l = refl
-set_same (x ∷ xs) (suc k) d l = ap (λ ys. x ∷ ys) (set_same xs k d (omega arith))
-
 pub set_set : {X : Type 0} (xs : List X) (k : ℕ) (v w : X) → set (set xs k v) k w ≡ set xs k w
 set_set [] k v w = refl
 set_set (x ∷ xs) zero v w = refl
@@ -86,14 +82,14 @@ tops_from (m ∷ ms) (suc k) d l =
     )
 
 -- lists none of whose records stands before a document are as they were, cut to it
-pub cuts_from : (ss : List TermScorerWithMaxScore) (hs : List Head) (t : ℕ) → AreHeads ss hs → AreFrom t hs → cuts t (row_lists ss hs) ≡ row_lists ss hs
+pub cuts_from : {N : Type 0} {G : NormGhosts N} (ss : List (TermScorerWithMaxScore N G)) (hs : List Head) (t : ℕ) → AreHeads ss hs → AreFrom t hs → cuts t (row_lists ss hs) ≡ row_lists ss hs
 cuts_from ss hs t r from =
     cuts_all t (row_lists ss hs) (row_members ss hs r) (λ k l.
     let inside : k < length hs = omega (arith, l, length-map hs (listed (map wand_member ss))) in
     omega (arith, from k zeros inside, doc_at (map wand_member ss) hs r.records k zeros inside))
 
 -- and the records of lists that are cut to a document stand there or past it
-pub from_cuts : (ss ts : List TermScorerWithMaxScore) (hs gs : List Head) (t : ℕ) → AreHeads ss hs → AreHeads ts gs →
+pub from_cuts : {N : Type 0} {G : NormGhosts N} (ss ts : List (TermScorerWithMaxScore N G)) (hs gs : List Head) (t : ℕ) → AreHeads ss hs → AreHeads ts gs →
     row_lists ts gs ≡ cuts t (row_lists ss hs) → t ≤ TERMINATED → AreFrom t gs
 from_cuts ss ts hs gs t r q is below = λ k d l.
     let ls = row_lists ss hs in
@@ -111,5 +107,5 @@ from_cuts ss ts hs gs t r q is below = λ k d l.
       arith,
       doc_at (map wand_member ts) gs q.records k d l,
       ap head at,
-      cut_reaches t (get_or ls k no_member) (row_member ss hs k r (omega (arith, l, long))) below,
+      head_document-from t (get_or ls k no_member).entries below,
     )

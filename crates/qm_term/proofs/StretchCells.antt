@@ -1,20 +1,23 @@
 -- What cells hold as lists are taken in.
-use Rattle.std.proofs.Common.{◌≡◌, ◌≢◌, ◌∙◌, ℕ, zero, suc, ◌+◌, ◌<◌, ◌≤◌, ◌||◌, true, false, leb, List, [], ◌∷◌, ◌++◌, fold, ap, ap₂, arith, eq-eqb, inl, inr}
+use Rattle.std.proofs.Common.{◌≡◌, ◌≢◌, ◌∙◌, ℕ, zero, suc, ◌+◌, ◌<◌, ◌≤◌, ◌||◌, true, false, List, [], ◌∷◌, ◌++◌, fold, ap, ap₂, arith, eq-eqb, inl, inr}
 use Rattle.std.proofs.Common.{ne_eqb, refl, subst, sum, sym}
-use Rattle.std.proofs.lemmas.Bool.{cases_Bool, cases_eq, cases_lt, cond_both, false≢true, or_left}
+use Rattle.std.proofs.lemmas.Bool.{cases_Bool, cases_eq, cases_lt, false≢true, or_left}
 use Rattle.std.proofs.lemmas.List.Elements.{All-cons, All-nil}
-use Rattle.qm_docset.specs.Entry.{greatest_score}
+use Rattle.std.proofs.lemmas.List.Sums.{fold-append}
+use Rattle.qm_docset.specs.Entry.{greatest_score, from, head_score}
 use Rattle.qm_docset.specs.declared.numbers.TheConstants.{TERMINATED}
+use Rattle.qm_combine.specs.Windowed.{scores_of as scores_in}
 use Rattle.qm_term.specs.Cells.{Adds, AreClear, HoldLists, Shown, TakesIn, cell_of, cells_clear, cells_has, shown_from}
-use Rattle.qm_term.specs.Members.{AreMembers, IsMember, Member, all_of, bound_at, has, hit_score, hits_from, scores_in, scores_of}
-use Rattle.qm_term.specs.Pivot.{blockbound, bound_in, cut, head, top_by, total_top}
+use Rattle.qm_term.specs.Members.{AreMembers, IsMember, Member, bound_at, scores_of, lists_of}
+use Rattle.qm_term.specs.Pivot.{blockbound, bound_in, cut, head, total_top}
 use Rattle.qm_term.specs.Stretches.{AreTidy, AreWithin}
 use Rattle.qm_term.specs.declared.wand.cells.Cell.{Cell}
 use Rattle.qm_term.specs.declared.wand.cells.Cells.{Cells}
-use Rattle.qm_term.proofs.WandBounds.{bound_in-cut, bound_le_top, cut_scores_in, has-below, has-from, has-from_below, has_head, score_at_head, total-cons, total-nil, total_le}
-use Rattle.qm_term.proofs.WandScores.{scores_in-has, scores_in-none, scores_of-cons, scores_of-nil, united_le}
-use Rattle.qm_term.proofs.WandSteps.{from_head}
-use Rattle.qm_term.proofs.WandUnion.{has-add_all, has-nil}
+use Rattle.qm_term.proofs.WandBounds.{bound_in-cut, cut_scores_in, has-from_below, has_head, total-cons, total-nil, blockbound_le_top, has_no, scores_in-none}
+use Rattle.qm_term.proofs.WandScores.{united_le}
+use Rattle.qm_docset.specs.Exclusion.{has_document, some_has_document}
+use Rattle.qm_docset.specs.GatherFacts.{score_of-here, scores_at-cons, scores_at-nil}
+use Rattle.qm_docset.proofs.ExclusionLemmas.{has_document-from}
 
 -- ---- one list
 
@@ -22,7 +25,7 @@ module _ {C : Type 0} (step : C → ℕ → C) where
   -- one that has nothing below the end
   pub takes_none : (end : ℕ) (m : Member) (w : Cells C) → IsMember m → end ≤ head m → TakesIn step end m w w
   takes_none end m w h a =
-      let none : (d : ℕ) → d < end → has d m.entries ≡ false = λ d l. has-below d end m.entries (from_head end m.blocks m.entries h.entries a) l in
+      let none : (d : ℕ) → d < end → has_document m.entries d ≡ false = λ d l. has_no d m h (omega (arith, a, l)) in
       record {
         has = λ d l. ap (λ b. b || cells_has w d) (sym (none d l));
         bound = λ d l. rw (none d l) (omega arith);
@@ -35,11 +38,11 @@ module _ {C : Type 0} (step : C → ℕ → C) where
   pub takes_on : (s t : ℕ) (m : Member) (w0 w1 w2 : Cells C) → IsMember m → s ≤ t →
       TakesIn step s m w0 w1 → TakesIn step t (cut s m) w1 w2 → TakesIn step t m w0 w2
   takes_on s t m w0 w1 w2 h more a b =
-      let none : (d : ℕ) → d < s → has d (hits_from s m.entries) ≡ false = λ d l. has-from_below s d m.blocks m.entries h.entries l in
+      let none : (d : ℕ) → d < s → has_document (from s m.entries) d ≡ false = λ d l. has-from_below s d m.entries l in
       record {
         has = λ d l. elim (cases_lt d s) [
           | inl x ↦ b.has d l ∙ ap (λ y. y || cells_has w1 d) (none d x) ∙ a.has d x
-          | inr x ↦ b.has d l ∙ ap (λ y. y || cells_has w1 d) (has-from s d m.entries x) ∙ ap (λ y. has d m.entries || y) (a.beyond d x).0
+          | inr x ↦ b.has d l ∙ ap (λ y. y || cells_has w1 d) (has_document-from s d m.entries x) ∙ ap (λ y. has_document m.entries d || y) (a.beyond d x).0
         ];
         bound = λ d l. elim (cases_lt d s) [
           | inl x ↦
@@ -48,7 +51,7 @@ module _ {C : Type 0} (step : C → ℕ → C) where
           | inr x ↦ omega (arith, b.bound d l, bound_in-cut s d m x, ap (λ (c : Cell C). c.bound) (a.beyond d x).1)
         ];
         state = λ d l. elim (cases_lt d s) [
-          | inl x ↦ b.state d l ∙ ap (fold step (cell_of w1 d).state) (scores_in-none d (hits_from s m.entries) (none d x)) ∙ a.state d x
+          | inl x ↦ b.state d l ∙ ap (fold step (cell_of w1 d).state) (scores_in-none d (from s m.entries) (none d x)) ∙ a.state d x
           | inr x ↦ b.state d l ∙ ap (fold step (cell_of w1 d).state) (cut_scores_in s d m.entries x)
               ∙ ap (λ (c : Cell C). fold step c.state (scores_in d m.entries)) (a.beyond d x).1
         ];
@@ -64,19 +67,18 @@ module _ {C : Type 0} (step : C → ℕ → C) where
 
   -- its first document
   pub takes_first : (doc bound : ℕ) (m : Member) (w w' : Cells C) → IsMember m → head m ≡ doc → doc < TERMINATED → bound_at doc m.blocks ≡ bound →
-      Adds step doc (hit_score m.entries) bound w w' → TakesIn step (suc doc) m w w'
+      Adds step doc (head_score m.entries) bound w w' → TakesIn step (suc doc) m w w'
   takes_first doc bound m w w' h here below block p =
-      let there : has doc m.entries ≡ true = has_head doc m.entries below here in
-      let none : (d : ℕ) → d < doc → has d m.entries ≡ false =
-      λ d l. has-below d doc m.entries (from_head doc m.blocks m.entries h.entries (omega (arith, here))) l in
+      let there : has_document m.entries doc ≡ true = has_head doc m.entries below here in
+      let none : (d : ℕ) → d < doc → has_document m.entries d ≡ false =
+      λ d l. has_no d m h (omega (arith, here, l)) in
       let own : bound_in doc m ≡ bound = rw there block in
-      let score : scores_in doc m.entries ≡ hit_score m.entries ∷ [] =
-      scores_in-has doc m.entries there ∙ ap (λ n. n ∷ []) (score_at_head doc m.blocks m.entries h.entries below here) in
+      let score : scores_in doc m.entries ≡ head_score m.entries ∷ [] = score_of-here doc 0 h.limits m.entries h.entries here below in
       let before : (d : ℕ) → d < suc doc → d ≢ doc → d < doc = λ d l ne. elim (cases_lt d doc) [ inl x ↦ x | inr x ↦ absurd (ne (omega (arith, l, x))) ] in
       let at_doc : (P : ℕ → Type 0) → P doc → (d : ℕ) → d ≡ doc → P d = λ P x d e. subst P (sym e) x in
       record {
         has = λ d l. elim (cases_eq d doc) [
-          | inl e ↦ p.has d ∙ ap (λ b. b || cells_has w d) (eq-eqb d doc e ∙ sym (at_doc (λ x. has x m.entries ≡ true) there d e))
+          | inl e ↦ p.has d ∙ ap (λ b. b || cells_has w d) (eq-eqb d doc e ∙ sym (at_doc (λ x. has_document m.entries x ≡ true) there d e))
           | inr ne ↦ p.has d ∙ ap (λ b. b || cells_has w d) (ne_eqb d doc ne ∙ sym (none d (before d l ne)))
         ];
         bound = λ d l. elim (cases_eq d doc) [
@@ -99,22 +101,19 @@ module _ {C : Type 0} (step : C → ℕ → C) where
 
 -- ---- several
 
-all_of-cons : (m : Member) (ms : List Member) (d : ℕ) → has d (all_of (m ∷ ms)) ≡ (has d m.entries || has d (all_of ms))
-unfolding all_of
-all_of-cons m ms d = has-add_all d m.entries (all_of ms)
+some_has-cons : (m : Member) (ms : List Member) (d : ℕ) →
+    some_has_document (lists_of (m ∷ ms)) d ≡ (has_document m.entries d || some_has_document (lists_of ms) d)
+unfolding some_has_document
+some_has-cons m ms d = refl
 
-all_of-none : (d : ℕ) → has d (all_of []) ≡ false
-unfolding all_of
-all_of-none d = has-nil d
+some_has-nil : (d : ℕ) → some_has_document (lists_of []) d ≡ false
+unfolding some_has_document
+some_has-nil d = refl
 
 module _ {C : Type 0} (step : C → ℕ → C) (commutes : (c : C) (x y : ℕ) → step (step c x) y ≡ step (step c y) x) where
   fold_last : (c : C) (x : ℕ) (xs : List ℕ) → fold step (step c x) xs ≡ step (fold step c xs) x
   fold_last c x [] = refl
   fold_last c x (y ∷ ys) = ap (λ s. fold step s ys) (commutes c x y) ∙ fold_last (step c y) x ys
-
-  fold_append : (c : C) (ys xs : List ℕ) → fold step c (ys ++ xs) ≡ fold step (fold step c ys) xs
-  fold_append c [] xs = refl
-  fold_append c (y ∷ ys) xs = fold_append (step c y) ys xs
 
   fold_swap : (c : C) (xs ys : List ℕ) → fold step (fold step c xs) ys ≡ fold step (fold step c ys) xs
   fold_swap c xs [] = refl
@@ -122,47 +121,42 @@ module _ {C : Type 0} (step : C → ℕ → C) (commutes : (c : C) (x y : ℕ) �
 
   pub holds_none : (end : ℕ) (w : Cells C) → AreClear w → (cells_clear w).bound ≡ 0 → HoldLists step end [] w
   holds_none end w clear zeroed = record {
-    has = λ d l. (clear d).0 ∙ sym (all_of-none d);
+    has = λ d l. (clear d).0 ∙ sym (some_has-nil d);
     bound = λ d l. ap (λ (c : Cell C). c.bound) (clear d).1 ∙ zeroed ∙ sym (total-nil (bound_in d));
-    state = λ d l. ap (λ (c : Cell C). c.state) (clear d).1 ∙ ap (fold step (cells_clear w).state) (sym (scores_of-nil d));
+    state = λ d l. ap (λ (c : Cell C). c.state) (clear d).1 ∙ ap (fold step (cells_clear w).state) (sym (scores_at-nil d));
     beyond = λ d l. clear d;
   }
 
   -- one list more
   pub holds_more : (end : ℕ) (m : Member) (ms : List Member) (w w' : Cells C) → HoldLists step end ms w → TakesIn step end m w w' → HoldLists step end (m ∷ ms) w'
   holds_more end m ms w w' h t = record {
-    has = λ d l. t.has d l ∙ ap (λ b. has d m.entries || b) (h.has d l) ∙ sym (all_of-cons m ms d);
+    has = λ d l. t.has d l ∙ ap (λ b. has_document m.entries d || b) (h.has d l) ∙ sym (some_has-cons m ms d);
     bound = λ d l. omega (arith, t.bound d l, h.bound d l, total-cons (bound_in d) m ms);
     state = λ d l.
         t.state d l ∙ ap (λ s. fold step s (scores_in d m.entries)) (h.state d l)
         ∙ fold_swap (cells_clear w).state (scores_of d ms) (scores_in d m.entries)
-        ∙ sym (fold_append (cells_clear w).state (scores_in d m.entries) (scores_of d ms))
-        ∙ ap (fold step (cells_clear w).state) (sym (scores_of-cons d m ms))
+        ∙ sym (fold-append step (cells_clear w).state (scores_in d m.entries) (scores_of d ms))
+        ∙ ap (fold step (cells_clear w).state) (sym (scores_at-cons d m.entries (lists_of ms)))
         ∙ ap (λ (c : Cell C). fold step c.state (scores_of d (m ∷ ms))) (sym t.alike.clear);
     beyond = λ d l. ((t.beyond d l).0 ∙ (h.beyond d l).0, (t.beyond d l).1 ∙ (h.beyond d l).1 ∙ sym t.alike.clear);
   }
 
 -- no list has the document
-none_of : (d : ℕ) (ms : List Member) → has d (all_of ms) ≡ false → (blockbound d ms ≡ 0) × (scores_of d ms ≡ [])
-none_of d [] h = (total-nil (bound_in d), scores_of-nil d)
+none_of : (d : ℕ) (ms : List Member) → some_has_document (lists_of ms) d ≡ false → (blockbound d ms ≡ 0) × (scores_of d ms ≡ [])
+none_of d [] h = (total-nil (bound_in d), scores_at-nil d)
 none_of d (m ∷ ms) h =
-    elim (cases_Bool (has d m.entries)) [
-      | inl y ↦ absurd (false≢true (sym h ∙ all_of-cons m ms d ∙ or_left _ _ y))
+    elim (cases_Bool (has_document m.entries d)) [
+      | inl y ↦ absurd (false≢true (sym h ∙ some_has-cons m ms d ∙ or_left _ _ y))
       | inr n ↦
-          let rest = none_of d ms (ap (λ b. b || has d (all_of ms)) (sym n) ∙ sym (all_of-cons m ms d) ∙ h) in
+          let rest = none_of d ms (ap (λ b. b || some_has_document (lists_of ms) d) (sym n) ∙ sym (some_has-cons m ms d) ∙ h) in
           let zeroed : bound_in d m ≡ 0 = rw n refl in (
             omega (arith, total-cons (bound_in d) m ms, zeroed, rest.0),
-            scores_of-cons d m ms ∙ ap (λ xs. xs ++ scores_of d ms) (scores_in-none d m.entries n) ∙ rest.1,
+            scores_at-cons d m.entries (lists_of ms) ∙ ap (λ xs. xs ++ scores_of d ms) (scores_in-none d m.entries n) ∙ rest.1,
           )
     ]
 
 same_cell : {C : Type 0} (a b : Cell C) → a.bound ≡ b.bound → a.state ≡ b.state → a ≡ b
 same_cell a b x y = ap₂ (λ n s. record { bound = n; state = s }) x y
-
-pub blockbound_le_top : (d : ℕ) (ms : List Member) → AreMembers ms → blockbound d ms ≤ total_top ms
-blockbound_le_top d ms h = total_le (bound_in d) (λ m. m.top) ms h (λ m i.
-    let least : top_by d m ≤ m.top = cond_both (leb (head m) d) m.top 0 (λ n. n ≤ m.top) (λ _. omega arith) (λ _. omega arith) in
-    omega (arith, bound_le_top d m i, least))
 
 module _ {C : Type 0} (step : C → ℕ → C) (end : ℕ) (ms : List Member) (w : Cells C) (h : HoldLists step end ms w) where
   pub holds_tidy : (cells_clear w).bound ≡ 0 → AreTidy w

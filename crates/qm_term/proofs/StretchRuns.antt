@@ -1,25 +1,19 @@
 -- The run over what cells show, as one over the lists that they hold.
-use Rattle.std.proofs.Common.{◌≡◌, ◌∙◌, ℕ, ℤ, zero, suc, ◌+◌, ◌<◌, ◌≤◌, ◌<ℤ◌, ◌≤ℤ◌, true, false, List, [], ◌∷◌, fold, length, pos, ap, arith, inl, inr, refl, subst}
-use Rattle.std.proofs.Common.{sum, sym}
+use Rattle.std.proofs.Common.{◌≡◌, ◌∙◌, ℕ, ℤ, zero, suc, ◌+◌, ◌<◌, ◌≤◌, ◌<ℤ◌, ◌≤ℤ◌, true, false, List, [], ◌∷◌, fold, length, pos, ap, arith, inl, inr, refl}
+use Rattle.std.proofs.Common.{subst, sum, sym}
+use Rattle.std.proofs.lemmas.Int.{by_lt_z}
 use Rattle.std.proofs.lemmas.Bool.{cases_Bool, cases_lt, false≢true}
-use Rattle.qm_term.specs.Cells.{HoldLists, RunsOver, Shown, all_shown, cell_of, cells_clear, cells_has, cells_start, cuts, hits_shown, shown_from}
-use Rattle.qm_term.specs.HitRuns.{MayPrune}
+use Rattle.qm_term.specs.Cells.{HoldLists, RunsOver, Shown, all_shown, cell_of, cells_clear, cells_has, cells_start, cuts, entries_shown, shown_from}
+use Rattle.qm_term.specs.Runs.{MayPrune, MayTurn, Turn}
 use Rattle.qm_term.specs.Members.{AreMembers, Member, scores_of, united}
 use Rattle.qm_term.specs.Pivot.{Held, Pruned, blockbound}
-use Rattle.qm_term.specs.Runs.{MayTurn, Turn}
 use Rattle.qm_term.specs.declared.wand.cells.Cells.{Cells}
 use Rattle.qm_term.proofs.StretchCells.{has_below}
 use Rattle.qm_term.proofs.StretchCuts.{AreCut-cuts, cuts_held, cuts_members, held_cuts, passes_cuts, scores_cuts}
-use Rattle.qm_term.proofs.WandBounds.{all_of-has, cut_blockbound, has-all_of, low_le}
-use Rattle.qm_term.proofs.WandPlain.{above_from_test, below_from_test, is_above, not_above, pass_may, pass_step, score_may, score_step}
+use Rattle.qm_term.proofs.WandBounds.{held-has, cut_blockbound, has-held, low_le}
+use Rattle.qm_term.proofs.WandPlain.{is_above, not_above, pass_may, pass_step, score_may, score_step}
 use Rattle.qm_term.proofs.WandScores.{cut_scores, united_le}
-use lib.Signed.{clash_ℤ, lt_z}
-
-by_above : (P : Type 0) (th : ℤ) (n : ℕ) → (th <ℤ pos n → P) → (pos n ≤ℤ th → P) → P
-by_above P th n up down = elim (cases_Bool (lt_z th (pos n))) [
-  | inl t ↦ up (above_from_test th (pos n) t)
-  | inr t ↦ down (below_from_test th (pos n) t)
-]
+use lib.Signed.{clash_ℤ}
 
 -- ---- what is shown
 
@@ -48,7 +42,7 @@ module _ {F C : Type 0} (call : F → ℕ → ℤ → ℤ → F → Type 0) (com
   -- the document s is there
   module _ (s : ℕ) (from_low : low ≤ s) (y : cells_has w s ≡ true) where
     held_here : Held s ms
-    held_here = cuts_held low s ms are (has-all_of s (cuts low ms) (sym (h.has s (has_below step end (cuts low ms) w h s y)) ∙ y))
+    held_here = cuts_held low s ms are (has-held s (cuts low ms) (sym (h.has s (has_below step end (cuts low ms) w h s y)) ∙ y))
 
     score_here : value (cell_of w s).state ≡ combined (scores_of s (cuts s ms))
     score_here = ap value (h.state s (has_below step end (cuts low ms) w h s y)) ∙ makes (scores_of s (cuts low ms))
@@ -69,7 +63,7 @@ module _ {F C : Type 0} (call : F → ℕ → ℤ → ℤ → F → Type 0) (com
   -- a document that is not there is in no list
   not_held : (s : ℕ) → low ≤ s → s < end → cells_has w s ≡ false → Held s ms → ⊥
   not_held s from_low inside n held =
-      false≢true (sym n ∙ h.has s inside ∙ all_of-has s (cuts low ms) (held_cuts low s ms from_low held))
+      false≢true (sym n ∙ h.has s inside ∙ held-has s (cuts low ms) (held_cuts low s ms from_low held))
 
   -- the next document, where there is none at s
   module _ (th : ℤ) (s : ℕ) (quiet : (d : ℕ) → s ≤ d → d < suc s → Held d ms → pos (blockbound d ms) ≤ℤ th) where
@@ -120,7 +114,7 @@ module _ {F C : Type 0} (call : F → ℕ → ℤ → ℤ → F → Type 0) (com
               let turn = r'.3 in
               let rest : Pruned call combined after mid (cuts (suc s) ms) (m + j) last z =
               run_shown n (suc s) (omega (arith, a)) (omega (arith, inside)) (omega (arith, c)) after th' mid g m r'.5 j last z p in
-              by_above (Pruned call combined th f (cuts s ms) (k + j) last z) th (cell_of w s).bound
+              by_lt_z th (pos (cell_of w s).bound)
               (λ above.
               let one = is_above th (cell_of w s).bound above in
               let same : suc (m + j) ≡ k + j = omega (arith, r'.4, one) in
@@ -148,7 +142,7 @@ module _ {F C : Type 0} (call : F → ℕ → ℤ → ℤ → F → Type 0) (com
         MayTurn pre th f s (value (cell_of w s).state)
         × ((after : ℤ) (g : F) → Turn call th f s (pos (value (cell_of w s).state)) after g → MayPrune call pre after g (united combined (cuts (suc s) ms)))
     may_here s a y th f may =
-        by_above _ th (cell_of w s).bound
+        by_lt_z th (pos (cell_of w s).bound)
         (λ above.
         let first = score_may combined within call th s (cuts s ms) (cuts (suc s) ms) (cuts_members s ms are)
         (scores_cuts th s ms are (held_here s a y) (subst (λ (i : ℕ). th <ℤ pos i) (bound_here s a y) above)) pre f may in (
@@ -170,22 +164,22 @@ module _ {F C : Type 0} (call : F → ℕ → ℤ → ℤ → F → Type 0) (com
     may_later s a inside none th f may =
         may_over th s (λ d x y held. absurd (not_held s a inside none (at_s (λ x. Held x ms → Held s ms) s d x y (λ i. i) held))) pre f may
 
-    may_none : (th : ℤ) (f : F) (es : List Shown) → es ≡ [] → MayPrune call pre th f (hits_shown es)
-    may_none th f es e = subst (λ (xs : List Shown). MayPrune call pre th f (hits_shown xs)) (sym e) tt
+    may_none : (th : ℤ) (f : F) (es : List Shown) → es ≡ [] → MayPrune call pre th f (entries_shown es)
+    may_none th f es e = subst (λ (xs : List Shown). MayPrune call pre th f (entries_shown xs)) (sym e) tt
 
     may_shown : (n s : ℕ) → low ≤ s → s ≤ end → (th : ℤ) (f : F) →
-        MayPrune call pre th f (united combined (cuts s ms)) → MayPrune call pre th f (hits_shown (shown_from value w s n))
+        MayPrune call pre th f (united combined (cuts s ms)) → MayPrune call pre th f (entries_shown (shown_from value w s n))
     may_shown zero s a b th f may = may_none th f _ (shown_zero value w s)
     may_shown (suc n) s a b th f may =
         elim (cases_lt s end) [
           | inr past ↦ may_none th f _ (shown_past value w end s (suc n) (λ d l. (h.beyond d l).0) past)
           | inl inside ↦ elim (cases_Bool (cells_has w s)) [
             | inr none ↦
-                subst (λ (xs : List Shown). MayPrune call pre th f (hits_shown xs)) (sym (shown_later value w s n none))
+                subst (λ (xs : List Shown). MayPrune call pre th f (entries_shown xs)) (sym (shown_later value w s n none))
                 (may_shown n (suc s) (omega (arith, a)) (omega (arith, inside)) th f (may_later s a inside none th f may))
             | inl y ↦
                 let r = may_here s a y th f may in
-                subst (λ (xs : List Shown). MayPrune call pre th f (hits_shown xs)) (sym (shown_here value w s n y))
+                subst (λ (xs : List Shown). MayPrune call pre th f (entries_shown xs)) (sym (shown_here value w s n y))
                 (r.0, λ after g turn. may_shown n (suc s) (omega (arith, a)) (omega (arith, inside)) after g (r.1 after g turn))
           ]
         ]
@@ -228,11 +222,11 @@ module _ {F C : Type 0} (call : F → ℕ → ℤ → ℤ → F → Type 0) (com
         run_shown n low (omega arith) some covers th th' f g k (subst (λ (x : ℕ). RunsOver call th f (shown_from value w x n) k th' g) start r) j last z p
 
     pub may_all : (pre : F → ℕ → ℤ → Type 0) (th : ℤ) (f : F) →
-        MayPrune call pre th f (united combined (cuts low ms)) → MayPrune call pre th f (hits_shown (all_shown value w))
+        MayPrune call pre th f (united combined (cuts low ms)) → MayPrune call pre th f (entries_shown (all_shown value w))
     unfolding all_shown
     may_all pre th f may =
         let n = length w.cells.items in
-        subst (λ (x : ℕ). MayPrune call pre th f (hits_shown (shown_from value w x n))) (sym start) (may_shown pre n low (omega arith) some th f may)
+        subst (λ (x : ℕ). MayPrune call pre th f (entries_shown (shown_from value w x n))) (sym start) (may_shown pre n low (omega arith) some th f may)
 
     pub may_all_after : (pre : F → ℕ → ℤ → Type 0) → end ≤ low + length w.cells.items → (th th' : ℤ) (f g : F) (k : ℕ) → RunsOver call th f (all_shown value w) k th' g →
         MayPrune call pre th f (united combined (cuts low ms)) → MayPrune call pre th' g (united combined (cuts end ms))

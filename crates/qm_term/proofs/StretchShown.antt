@@ -1,23 +1,18 @@
 -- What cells show as a document is taken out.
-use Rattle.std.proofs.Common.{◌≡◌, ◌≢◌, ◌∙◌, ℕ, ℤ, zero, suc, ◌+◌, ◌<◌, ◌≤◌, ◌==◌, ◌&&◌, ◌-◌, Bool, true, false, nat_le, not, List, [], ◌∷◌, ap, arith, eq-eqb, inl, inr, length, ne_eqb, pos, refl, subst, sym, zero-add}
-use Rattle.std.proofs.lemmas.Bool.{and_parts, cases_Bool, cases_eq, cases_lt, false≢true, leb-true, lt-leb}
+use Rattle.std.proofs.Common.{◌≡◌, ◌≢◌, ◌∙◌, ℕ, ℤ, zero, suc, ◌+◌, ◌<◌, ◌≤◌, ◌==◌, ◌&&◌, ◌-◌, true, false, nat_le, not, List, [], ◌∷◌, ap, arith}
+use Rattle.std.proofs.Common.{eq-eqb, inl, inr, length, ne_eqb, pos, refl, subst, sym, zero-add}
+use Rattle.std.proofs.lemmas.Bool.{and_parts, and_right, cases_Bool, cases_eq, cases_lt, false≢true, leb-true, lt-leb}
 use Rattle.qm_docset.specs.Words.{words_have}
 use Rattle.qm_term.specs.Cells.{AreAlike, LackAll, RunsOver, Shown, all_shown, cell_of, cells_end, cells_has, cells_start, shown_from}
-use Rattle.qm_term.specs.HitRuns.{one_if_above}
+use Rattle.qm_term.specs.RunCounts.{one_if_above}
 use Rattle.qm_term.specs.Runs.{Turn}
 use Rattle.qm_term.specs.Stretches.{GoesOn}
 use Rattle.qm_term.specs.declared.wand.cells.Cells.{Cells}
+use Rattle.qm_docset.specs.Entry.{from}
+use Rattle.qm_docset.proofs.MembersLemmas.{and_true}
 
 abbrev pub shown_at : {C : Type 0} → (C → ℕ) → Cells C → ℕ → Shown
 shown_at value w d = record { document = d; score = value (cell_of w d).state; bound = (cell_of w d).bound }
-
-and_false : (b : Bool) → (b && false) ≡ false
-and_false true = refl
-and_false false = refl
-
-and_true : (b : Bool) → (b && true) ≡ b
-and_true true = refl
-and_true false = refl
 
 module _ {C : Type 0} (value : C → ℕ) (w w' : Cells C) where
   -- from a document on they show the same
@@ -39,7 +34,7 @@ module _ {C : Type 0} (value : C → ℕ) (w w' : Cells C) where
   module _ (t : ℕ) (y : cells_has w t ≡ true) (had : (d : ℕ) → cells_has w' d ≡ (cells_has w d && not (d == t)))
       (others : (d : ℕ) → (d == t) ≡ false → cell_of w' d ≡ cell_of w d) where
     gone : cells_has w' t ≡ false
-    gone = had t ∙ ap (λ b. cells_has w t && not b) (eq-eqb t t refl) ∙ and_false (cells_has w t)
+    gone = had t ∙ ap (λ b. cells_has w t && not b) (eq-eqb t t refl) ∙ and_right (cells_has w t) false refl
 
     kept : (d : ℕ) → d ≢ t → (cells_has w' d ≡ cells_has w d) × (cell_of w' d ≡ cell_of w d)
     kept d other = (had d ∙ ap (λ b. cells_has w d && not b) (ne_eqb d t other) ∙ and_true (cells_has w d), others d (ne_eqb d t other))

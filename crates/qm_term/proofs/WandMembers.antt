@@ -1,13 +1,13 @@
 -- What a pruned run sees of a term's scorer: no score is above the bound of its block, and no bound above
 -- the greatest score.
-use Rattle.std.proofs.Common.{◌≡◌, ℕ, zero, suc, ◌+◌, ◌<◌, ◌≤◌, Bool, true, false, cond, List, [], ◌∷◌, length, map, get_or, replicate, drop, max, sym, ap}
-use Rattle.std.proofs.Common.{refl, subst, ◌∙◌, arith, inl, inr, ◌⊎◌}
+use Rattle.std.proofs.Common.{◌≡◌, ℕ, zero, suc, ◌<◌, ◌≤◌, Bool, true, false, cond, List, [], ◌∷◌, length, map, get_or, replicate, drop, max, sym, ap, refl}
+use Rattle.std.proofs.Common.{◌∙◌, arith, inl, inr, ◌⊎◌}
 use Rattle.std.specs.Prelude.{All, nat_le, nat_lt}
 use Rattle.std.proofs.lemmas.Bool.{cases_Bool, cases_lt, le-leb, lt-leb, false≢true}
-use Rattle.std.proofs.lemmas.List.Elements.{All-head, All-map, All-tail}
+use Rattle.std.proofs.lemmas.List.Elements.{All-map}
 use Rattle.std.proofs.Math.Nat.{mul-zero}
 use Rattle.qm_combine.specs.Rescored.{rescored}
-use Rattle.qm_docset.specs.Entry.{AreEntries, Entry, Limits, from, head_document, head_score}
+use Rattle.qm_docset.specs.Entry.{Entry, from, head_document, head_score}
 use Rattle.qm_docset.specs.declared.numbers.TheConstants.{TERMINATED}
 use Rattle.qm_postings.proofs.BlockFrequencies.{within_blocks}
 use Rattle.qm_postings.proofs.BlockLemmas.{head_below, head_end, looked_outside}
@@ -21,12 +21,12 @@ use Rattle.qm_postings.specs.declared.fieldnorm.Ids.TheVariants.{Constant, Each}
 use Rattle.qm_term.specs.Bm25.{Weighing, bm25}
 use Rattle.qm_term.specs.Bm25Facts.{bm25-falls, bm25-le, bm25-rises}
 use Rattle.qm_term.specs.Bm25Weight.{weighing}
-use Rattle.qm_term.specs.Members.{AreBounded, Block, Hit, IsMember, bound_at, end_at, hit_document, hit_score, hits_from}
+use Rattle.qm_term.specs.Members.{Block, IsMember, bound_at, end_at}
 use Rattle.qm_term.specs.Pivot.{cut, head, looked_at, next, no_block, block_at as member_block_at}
-use Rattle.qm_term.specs.TermBlocks.{hits, member_of, scored_looked, scored_looked_at}
-use Rattle.qm_term.specs.TermScorer.{scored_block, scored_by, scored_blocks}
-use Rattle.qm_term.specs.TermScorer.{IsTermScorer, scored_left, scored_limits}
+use Rattle.qm_term.specs.TermBlocks.{member_of, scored_looked, scored_looked_at}
+use Rattle.qm_term.specs.TermScorer.{scored_block, scored_by, scored_blocks, IsTermScorer, scored_left, scored_limits}
 use Rattle.qm_term.specs.TermScorerFacts.{AreEntries-scored, scored-document}
+use Rattle.qm_term.specs.declared.norms.Norms.{Ghosts as NormGhosts}
 use Rattle.qm_term.specs.declared.term_scorer.TermScorer.{TermScorer}
 
 -- ---- blocks
@@ -59,45 +59,6 @@ module _ (w : Weighing) (constant : Bool) (ids : List ℕ) where
       elim (nat_lt d TERMINATED) as (λ b. f (cond b (block_at (max t d) bs) no_postings_block)
       ≡ cond b (member_block_at (max t d) (map f bs)) no_block) [ true ↦ block | false ↦ none ]
 
--- ---- documents with their scores
-
-pub head-hits : (es : List Entry) → hit_document (hits es) ≡ head_document es
-unfolding hits
-head-hits [] = refl
-head-hits (e ∷ es) = refl
-
-pub score-hits : (es : List Entry) → hit_score (hits es) ≡ head_score es
-unfolding hits
-score-hits [] = refl
-score-hits (e ∷ es) = refl
-
-pub drop-hits : (es : List Entry) → hits (drop 1 es) ≡ drop 1 (hits es)
-unfolding hits
-drop-hits [] = refl
-drop-hits (e ∷ es) = refl
-
-pub from-hits : (t : ℕ) (es : List Entry) → hits (from t es) ≡ hits_from t (hits es)
-unfolding hits from hits_from
-from-hits t [] = refl
-from-hits t (e ∷ es) = elim (cases_lt e.document t) [
-  | inl less ↦ let is : nat_le t e.document ≡ false = lt-leb t e.document less in rw is (from-hits t es)
-  | inr more ↦ let is : nat_le t e.document ≡ true = le-leb t e.document more in
-      rw is (ap (λ xs. record { document = e.document; score = e.score } ∷ xs) (from-hits t es))
-]
-
-bounded-hits : (low : ℕ) (limits : Limits) (bs : List Block) (es : List Entry) → AreEntries low limits es →
-    All (λ e. e.score ≤ bound_at e.document bs) es → AreBounded low bs (hits es)
-unfolding hits
-bounded-hits low limits bs [] a h = tt
-bounded-hits low limits bs (e ∷ es) a h =
-    let on : e.document + 1 ≡ suc e.document = omega arith in (
-      a.here.from_low,
-      a.here.below_end,
-      All-head (λ (e : Entry). e.score ≤ bound_at e.document bs) e es h,
-      subst (λ n. AreBounded n bs (hits es)) on
-          (bounded-hits (e.document + 1) limits bs es a.others (All-tail (λ (e : Entry). e.score ≤ bound_at e.document bs) e es h)),
-    )
-
 -- ---- one id for all
 
 one_id : (ids : Ids) (d : ℕ) → is_one ids ≡ true → d < length (ids_in ids) → get_or (ids_in ids) 0 0 ≡ get_or (ids_in ids) d 0
@@ -114,7 +75,7 @@ one_id (Each ids) d one l = absurd (false≢true one)
 
 -- ---- the law
 
-module _ (s : TermScorer) (h : IsTermScorer s) where
+module _ {N : Type 0} {G : NormGhosts N} (s : TermScorer N G) (h : IsTermScorer s) where
   abbrev w : Weighing
   w = weighing s.similarity_weight
 
@@ -157,7 +118,9 @@ module _ (s : TermScorer) (h : IsTermScorer s) where
   pub IsMember-scorer : IsMember (member_of s)
   unfolding member_of scored_blocks
   IsMember-scorer = record {
-    entries = bounded-hits 0 (scored_limits s) (scored_blocks s) (scored_left s) (AreEntries-scored s h) scores_bounded;
+    limits = scored_limits s;
+    entries = AreEntries-scored s h;
+    bounded = scores_bounded;
     bounds = λ d. omega (
       arith,
       (scored_at w constant ids d (postings_blocks s.postings)).1,
@@ -167,40 +130,38 @@ module _ (s : TermScorer) (h : IsTermScorer s) where
 
 -- ---- what calls leave
 
-pub head-member : (s : TermScorer) → head (member_of s) ≡ head_document (scored_left s)
+pub head-member : {N : Type 0} {G : NormGhosts N} (s : TermScorer N G) → head (member_of s) ≡ head_document (scored_left s)
 unfolding member_of
-head-member s = head-hits (scored_left s)
+head-member s = refl
 
-pub score-member : (s : TermScorer) → hit_score (member_of s).entries ≡ head_score (scored_left s)
+pub score-member : {N : Type 0} {G : NormGhosts N} (s : TermScorer N G) → head_score (member_of s).entries ≡ head_score (scored_left s)
 unfolding member_of
-score-member s = score-hits (scored_left s)
+score-member s = refl
 
-pub top-member : (s : TermScorer) → (member_of s).top ≡ (scored_limits s).top
+pub top-member : {N : Type 0} {G : NormGhosts N} (s : TermScorer N G) → (member_of s).top ≡ (scored_limits s).top
 unfolding member_of
 top-member s = refl
 
-pub looks-member : (t : ℕ) (s : TermScorer) → scored_looked_at t s ≡ looked_at t (member_of s)
+pub looks-member : {N : Type 0} {G : NormGhosts N} (t : ℕ) (s : TermScorer N G) → scored_looked_at t s ≡ looked_at t (member_of s)
 unfolding member_of scored_blocks
 looks-member t s =
     scored_looks (weighing s.similarity_weight) (is_made_constant s.fieldnorm_reader)
     (norm_ids s.fieldnorm_reader) t (head_document (postings_left s.postings)) (postings_blocks s.postings)
     ∙ ap (λ d. cond (nat_lt d TERMINATED) (member_block_at (max t d) (map (scored_by s.similarity_weight s.fieldnorm_reader) (postings_blocks s.postings)))
-    no_block) (sym (head-hits (scored_left s) ∙ scored-document s))
+    no_block) (sym (scored-document s))
 
-module _ (s n : TermScorer) (blocks : scored_blocks n ≡ scored_blocks s) (limits : scored_limits n ≡ scored_limits s) where
-  same : (es : List Entry) → scored_left n ≡ es → member_of n ≡ record { entries = hits es; blocks = scored_blocks s; top = (scored_limits s).top }
+module _ {N : Type 0} {G : NormGhosts N} (s n : TermScorer N G) (blocks : scored_blocks n ≡ scored_blocks s) (limits : scored_limits n ≡ scored_limits s) where
+  same : (es : List Entry) → scored_left n ≡ es → member_of n ≡ record { entries = es; blocks = scored_blocks s; top = (scored_limits s).top }
   unfolding member_of
-  same es left = λ i. record { entries = hits (left i); blocks = blocks i; top = (limits i).top }
+  same es left = λ i. record { entries = left i; blocks = blocks i; top = (limits i).top }
 
   pub next-member : scored_left n ≡ drop 1 (scored_left s) → member_of n ≡ next (member_of s)
   unfolding member_of
   next-member left = same (drop 1 (scored_left s)) left
-      ∙ ap (λ (es : List Hit). record { entries = es; blocks = scored_blocks s; top = (scored_limits s).top }) (drop-hits (scored_left s))
 
   pub cut-member : (t : ℕ) → scored_left n ≡ from t (scored_left s) → member_of n ≡ cut t (member_of s)
   unfolding member_of
   cut-member t left = same (from t (scored_left s)) left
-      ∙ ap (λ (es : List Hit). record { entries = es; blocks = scored_blocks s; top = (scored_limits s).top }) (from-hits t (scored_left s))
 
   pub same-member : scored_left n ≡ scored_left s → member_of n ≡ member_of s
   unfolding member_of
@@ -217,11 +178,11 @@ looked_end s h end = elim (cases_lt s.cursor (length s.arrays.documents.now)) [
   | inr past ↦ looked_outside s past
 ]
 
-pub bound_end : (s : TermScorer) → IsTermScorer s → head_document (postings_left s.postings) ≡ TERMINATED → (scored_looked s).bound ≡ 0
+pub bound_end : {N : Type 0} {G : NormGhosts N} (s : TermScorer N G) → IsTermScorer s → head_document (postings_left s.postings) ≡ TERMINATED → (scored_looked s).bound ≡ 0
 unfolding scored_looked
 bound_end s h end =
     ap (λ b. (scored_by s.similarity_weight s.fieldnorm_reader b).bound) (looked_end s.postings h.postings end)
     ∙ no_frequency (weighing s.similarity_weight) (cond (is_made_constant s.fieldnorm_reader) (get_or (norm_ids s.fieldnorm_reader) 0 0) 0)
 
-pub top_small : (s : TermScorer) → (scored_limits s).top ≤ 9223372036854775807
+pub top_small : {N : Type 0} {G : NormGhosts N} (s : TermScorer N G) → (scored_limits s).top ≤ 9223372036854775807
 top_small s = s.similarity_weight.fits

@@ -2,17 +2,22 @@
 use Rattle.std.proofs.Common.{◌≡◌, ℕ, ℤ, suc, ◌+◌, ◌<◌, ◌≤◌, ◌<ℤ◌, ◌≤ℤ◌, Bool, cond, ltb, max, List, [], ◌∷◌, ◌++◌, drop, length, replicate, refl, sym, ap, ◌∙◌}
 use Rattle.std.proofs.Common.{arith, subst, inl, inr, pos}
 use Rattle.std.proofs.lemmas.Bool.{cond-true, lt-ltb}
-use Rattle.qm_term.specs.Members.{AreBounded, Block, Hit, IsMember, Member, before, bound_at, end_at, hit_document, hit_score, hits_from}
+use Rattle.qm_term.specs.Members.{Block, IsMember, Member, bound_at, end_at}
 use Rattle.qm_term.specs.Pivot.{block_at, cut, head, looked_at, no_block}
 use Rattle.qm_term.specs.SingleRun.{IsSingle, PassesBlocks, PrunesList}
-use Rattle.qm_term.specs.HitRuns.{MayPrune, Plain, count_above}
-use Rattle.qm_term.specs.Runs.{Turn}
+use Rattle.qm_term.specs.RunCounts.{count_above}
+use Rattle.qm_term.specs.Runs.{Turn, MayPrune, Plain}
+use Rattle.qm_term.specs.RunsFacts.{MayPrune-step}
 use Rattle.qm_docset.specs.declared.numbers.TheConstants.{TERMINATED}
 use Rattle.qm_term.proofs.BlocksPassed.{passed-none, passed-scored}
-use Rattle.qm_term.proofs.WandUnion.{before-from}
-use Rattle.qm_term.proofs.WandBounds.{Each, ascends, low_le, same_block}
+use Rattle.qm_term.proofs.WandBounds.{low_le, same_block, IsBelow}
 use Rattle.qm_term.proofs.WandTurns.{tick_of}
-use Rattle.qm_term.proofs.WandPlain.{count-cons, count_low, each_before, is_above, may_unskip, plain_skip}
+use Rattle.qm_term.proofs.WandPlain.{count-cons, count_low, is_above, may_unskip, plain_skip}
+use Rattle.std.specs.Prelude.{All}
+use Rattle.std.proofs.lemmas.List.Elements.{All-head, All-tail}
+use Rattle.qm_docset.specs.Entry.{AreEntries, Entry, Limits, below, from, head_document, head_score}
+use Rattle.qm_docset.specs.EntryFacts.{AreEntries-head}
+use Rattle.qm_term.proofs.WandScores.{Each, below-from, each_below}
 
 -- the block looked at, at a document
 pub looks_at : (m : Member) → head m < TERMINATED → looked_at 0 m ≡ block_at (head m) m.blocks
@@ -32,30 +37,32 @@ quiet_block th d m low e from to = low_le th (bound_at e m.blocks) (bound_at d m
 
 -- ---- the documents of a list
 
-pub each_after : (P : Hit → Type 0) (low : ℕ) (bs : List Block) (es : List Hit) → AreBounded low bs es →
-    ((e : Hit) → low ≤ e.document → e.document < TERMINATED → e.score ≤ bound_at e.document bs → P e) → Each P es
-each_after P low bs [] h k = tt
-each_after P low bs (e ∷ es) h k = (k e h.0 h.1 h.2, each_after P (suc e.document) bs es h.3 (λ x a b c. k x (omega (arith, h.0)) b c))
+-- what holds of each document from a number on, with a score up to its block's bound, holds of all
+pub each_after : (P : Entry → Type 0) (low : ℕ) (limits : Limits) (bs : List Block) (es : List Entry) → AreEntries low limits es → All (IsBelow bs) es →
+    ((e : Entry) → low ≤ e.document → e.score ≤ bound_at e.document bs → P e) → Each P es
+each_after P low limits bs [] h b k = tt
+each_after P low limits bs (e ∷ es) h b k = (
+  k e h.here.from_low (All-head (IsBelow bs) e es b),
+  each_after P (e.document + 1) limits bs es h.others (All-tail (IsBelow bs) e es b) (λ x a c. k x (omega (arith, a, h.here.from_low)) c),
+)
 
--- what holds of each document from the first on holds of all
-each_here : (P : Hit → Type 0) (bs : List Block) (es : List Hit) → AreBounded 0 bs es →
-    ((e : Hit) → hit_document es ≤ e.document → e.score ≤ bound_at e.document bs → P e) → Each P es
-each_here P bs [] h k = tt
-each_here P bs (e ∷ es) h k = (k e (omega arith) h.2, each_after P (suc e.document) bs es h.3 (λ x a b c. k x (omega arith) c))
+each_here : (P : Entry → Type 0) (m : Member) → IsMember m → ((e : Entry) → head m ≤ e.document → e.score ≤ bound_at e.document m.blocks → P e) →
+    Each P m.entries
+each_here P m h k = each_after P (head m) h.limits m.blocks m.entries (AreEntries-head 0 h.limits m.entries h.entries) h.bounded k
 
 -- what is passed before a target
 module _ (th : ℤ) (t : ℕ) (m : Member) (h : IsMember m) (low : (d : ℕ) → head m ≤ d → d < t → pos (bound_at d m.blocks) ≤ℤ th) where
-  low_bounds : Each (λ e. pos (bound_at e.document m.blocks) ≤ℤ th) (before t m.entries)
-  low_bounds = each_before (λ e. pos (bound_at e.document m.blocks) ≤ℤ th) t m.entries
-      (each_here (λ e. e.document < t → pos (bound_at e.document m.blocks) ≤ℤ th) m.blocks m.entries h.entries (λ e from _ to. low e.document from to))
+  low_bounds : Each (λ e. pos (bound_at e.document m.blocks) ≤ℤ th) (below t m.entries)
+  low_bounds = each_below (λ e. pos (bound_at e.document m.blocks) ≤ℤ th) t m.entries
+      (each_here (λ e. e.document < t → pos (bound_at e.document m.blocks) ≤ℤ th) m h (λ e from _ to. low e.document from to))
 
-  low_scores : Each (λ e. pos e.score ≤ℤ th) (before t m.entries)
-  low_scores = each_before (λ e. pos e.score ≤ℤ th) t m.entries
-      (each_here (λ e. e.document < t → pos e.score ≤ℤ th) m.blocks m.entries h.entries
+  low_scores : Each (λ e. pos e.score ≤ℤ th) (below t m.entries)
+  low_scores = each_below (λ e. pos e.score ≤ℤ th) t m.entries
+      (each_here (λ e. e.document < t → pos e.score ≤ℤ th) m h
       (λ e from bounded to. low_le th e.score (bound_at e.document m.blocks) bounded (low e.document from to)))
 
-parts : (t : ℕ) (m : Member) → IsMember m → m.entries ≡ before t m.entries ++ hits_from t m.entries
-parts t m h = before-from 0 t m.entries (ascends 0 m.blocks m.entries h.entries)
+parts : (t : ℕ) (m : Member) → IsMember m → m.entries ≡ below t m.entries ++ from t m.entries
+parts t m h = below-from t 0 h.limits m.entries h.entries
 
 -- ---- turns
 
@@ -63,23 +70,23 @@ module _ {F : Type 0} (call : F → ℕ → ℤ → ℤ → F → Type 0) where
   pass_back : (th last : ℤ) (t k n rest : ℕ) (m : Member) (f z : F) → IsMember m → ((d : ℕ) → head m ≤ d → d < t → pos (bound_at d m.blocks) ≤ℤ th) →
       PassesBlocks th t n m → PrunesList call th f (cut t m) k rest last z → PrunesList call th f m k (n + rest) last z
   pass_back th last t k n rest m f z h low blocks r =
-      let l = before t m.entries in
-      let behind = hits_from t m.entries in
-      let bound : Hit → ℕ = λ e. bound_at e.document m.blocks in
+      let l = below t m.entries in
+      let behind = from t m.entries in
+      let bound : Entry → ℕ = λ e. bound_at e.document m.blocks in
       let ths : List ℤ = replicate (length l) th ++ r.thresholds in
       let is : m.entries ≡ l ++ behind = parts t m h in
       let ticks : count_above bound ths m.entries ≡ count_above bound r.thresholds behind = ap (count_above bound ths) is
       ∙ count_low bound th l behind r.thresholds (low_bounds th t m h low) in
       record {
         thresholds = ths;
-        calls = subst (λ (xs : List Hit). Plain call th f xs ths last z) (sym is)
+        calls = subst (λ (xs : List Entry). Plain call th f xs ths last z) (sym is)
             (plain_skip call th last f z l behind r.thresholds (low_scores th t m h low) r.calls);
         scored = r.scored ∙ sym ticks;
         counted = omega (arith, r.counted, blocks r.thresholds);
       }
 
-  first_back : (th th' last : ℤ) (k rest top : ℕ) (bs : List Block) (es : List Hit) (f g z : F) → hit_document es < TERMINATED →
-      th <ℤ pos (bound_at (hit_document es) bs) → Turn call th f (hit_document es) (pos (hit_score es)) th' g
+  first_back : (th th' last : ℤ) (k rest top : ℕ) (bs : List Block) (es : List Entry) (f g z : F) → head_document es < TERMINATED →
+      th <ℤ pos (bound_at (head_document es) bs) → Turn call th f (head_document es) (pos (head_score es)) th' g
       → PrunesList call th' g (record { entries = drop 1 es; blocks = bs; top = top }) k rest last z
       → PrunesList call th f (record { entries = es; blocks = bs; top = top }) (suc k) (suc rest) last z
   first_back th th' last k rest top bs [] f g z below above turn r = absurd (omega arith)
@@ -90,30 +97,19 @@ module _ {F : Type 0} (call : F → ℕ → ℤ → ℤ → F → Type 0) where
     counted = omega (arith, r.counted, passed-scored bs th r.thresholds e es above);
   }
 
-  -- the call of the first document is allowed, and so are those after it
-  pub may_first : (pre : F → ℕ → ℤ → Type 0) (th : ℤ) (f : F) (es : List Hit) → hit_document es < TERMINATED → MayPrune call pre th f es →
-      th <ℤ pos (hit_score es) → pre f (hit_document es) (pos (hit_score es))
-  may_first pre th f [] below r = absurd (omega arith)
-  may_first pre th f (e ∷ es) below r = r.0
-
-  may_next : (pre : F → ℕ → ℤ → Type 0) (th th' : ℤ) (f g : F) (es : List Hit) → hit_document es < TERMINATED → MayPrune call pre th f es →
-      Turn call th f (hit_document es) (pos (hit_score es)) th' g → MayPrune call pre th' g (drop 1 es)
-  may_next pre th th' f g [] below r turn = absurd (omega arith)
-  may_next pre th th' f g (e ∷ es) below r turn = r.1 th' g turn
-
-  none_left : (th : ℤ) (f : F) (top : ℕ) (bs : List Block) (es : List Hit) → AreBounded 0 bs es → TERMINATED ≤ hit_document es →
+  none_left : (th : ℤ) (f : F) (top : ℕ) (limits : Limits) (bs : List Block) (es : List Entry) → AreEntries 0 limits es → TERMINATED ≤ head_document es →
       PrunesList call th f (record { entries = es; blocks = bs; top = top }) 0 0 th f
   unfolding count_above
-  none_left th f top bs [] h e =
+  none_left th f top limits bs [] h e =
       record { thresholds = []; calls = (refl, refl); scored = refl; counted = omega (arith, passed-none bs []) }
-  none_left th f top bs (x ∷ xs) h e = absurd (omega (arith, h.1))
+  none_left th f top limits bs (x ∷ xs) h e = absurd (omega (arith, h.here.below_end))
 
   -- at the end nothing is left to do
   pub single_end : (th : ℤ) (f : F) (m : Member) → IsMember m → TERMINATED ≤ head m → PrunesList call th f m 0 0 th f
-  single_end th f m h e = none_left th f m.top m.blocks m.entries h.entries e
+  single_end th f m h e = none_left th f m.top h.limits m.blocks m.entries h.entries e
 
   module _ (th th' : ℤ) (f g : F) (m n : Member) (ticked : Bool) (turns : ℕ) (h : IsMember m)
-      (below : head m < TERMINATED) (t : IsSingle call th f m th' g n ticked turns) where
+      (inside : head m < TERMINATED) (t : IsSingle call th f m th' g n ticked turns) where
     -- a run after a turn is one before it
     pub single_back : (k rest : ℕ) (last : ℤ) (z : F) → PrunesList call th' g n k rest last z →
         PrunesList call th f m (cond ticked 1 0 + k) (turns + rest) last z
@@ -133,7 +129,7 @@ module _ {F : Type 0} (call : F → ℕ → ℤ → ℤ → F → Type 0) where
               let more : suc rest ≡ turns + rest = omega (arith, s.one) in
               subst (λ (c : ℕ). PrunesList call th f m c (turns + rest) last z) same
               (subst (λ (c : ℕ). PrunesList call th f m (suc k) c last z) more
-              (first_back th th' last k rest m.top m.blocks m.entries f g z below s.above s.turn
+              (first_back th th' last k rest m.top m.blocks m.entries f g z inside s.above s.turn
               (subst (λ (x : Member). PrunesList call th' g x k rest last z) s.list r)))
         ]
 
@@ -142,11 +138,12 @@ module _ {F : Type 0} (call : F → ℕ → ℤ → ℤ → F → Type 0) where
     single_may pre r =
         elim t [
           | inl s ↦
-              let left : MayPrune call pre th f (hits_from s.target m.entries) =
-              may_unskip call pre th f (before s.target m.entries) (hits_from s.target m.entries) (low_scores th s.target m h s.low)
-              (subst (λ (xs : List Hit). MayPrune call pre th f xs) (parts s.target m h) r) in
+              let left : MayPrune call pre th f (from s.target m.entries) =
+              may_unskip call pre th f (below s.target m.entries) (from s.target m.entries) (low_scores th s.target m h s.low)
+              (subst (λ (xs : List Entry). MayPrune call pre th f xs) (parts s.target m h) r) in
               subst (λ (x : Member). MayPrune call pre th' g x.entries) (sym s.list)
-              (subst (λ (x : F). MayPrune call pre th' x (hits_from s.target m.entries)) (sym s.quiet.1)
-              (subst (λ (w : ℤ). MayPrune call pre w f (hits_from s.target m.entries)) (sym s.quiet.0) left))
-          | inr s ↦ subst (λ (x : Member). MayPrune call pre th' g x.entries) (sym s.list) (may_next pre th th' f g m.entries below r s.turn)
+              (subst (λ (x : F). MayPrune call pre th' x (from s.target m.entries)) (sym s.quiet.1)
+              (subst (λ (w : ℤ). MayPrune call pre w f (from s.target m.entries)) (sym s.quiet.0) left))
+          | inr s ↦ subst (λ (x : Member). MayPrune call pre th' g x.entries) (sym s.list)
+              (MayPrune-step call pre th th' f g (head m) _ m.entries _ refl refl inside refl s.turn r)
         ]

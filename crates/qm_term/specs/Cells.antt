@@ -3,12 +3,16 @@ use Rattle.std.specs.Prelude.{◌≡◌, ◌≢◌, ℕ, zero, suc, ℤ, ◌+◌
 use Rattle.std.specs.Prelude.{pos, map}
 use Rattle.std.specs.List.{fold}
 use Rattle.qm_docset.specs.Words.{words_have}
-use Rattle.qm_term.specs.HitRuns.{one_if_above}
-use Rattle.qm_term.specs.Members.{Hit, Member, all_of, has, scores_in, scores_of}
+use Rattle.qm_combine.specs.Windowed.{scores_of as scores_in}
+use Rattle.qm_term.specs.RunCounts.{one_if_above}
+use Rattle.qm_term.specs.Members.{Member, lists_of, scores_of}
 use Rattle.qm_term.specs.Pivot.{blockbound, bound_in, cut}
 use Rattle.qm_term.specs.Runs.{Turn}
 use Rattle.qm_term.specs.declared.wand.cells.Cell.{Cell}
 use Rattle.qm_term.specs.declared.wand.cells.Cells.{Cells}
+use Rattle.qm_docset.specs.Entry.{Entry}
+use Rattle.qm_docset.specs.Exclusion.{has_document, some_has_document}
+use Rattle.qm_docset.specs.Gather.{scored}
 
 -- the lists cut to a document
 abbrev pub cuts : ℕ → List Member → List Member
@@ -57,7 +61,7 @@ pub record Adds {C : Type 0} (step : C → ℕ → C) (doc score bound : ℕ) (w
 
 -- the documents of a list below an end are added
 pub record TakesIn {C : Type 0} (step : C → ℕ → C) (end : ℕ) (m : Member) (w w' : Cells C) : Type 0 where
-  pub has : (d : ℕ) → d < end → cells_has w' d ≡ (has d m.entries || cells_has w d)
+  pub has : (d : ℕ) → d < end → cells_has w' d ≡ (has_document m.entries d || cells_has w d)
   pub bound : (d : ℕ) → d < end → (cell_of w' d).bound ≡ (cell_of w d).bound + bound_in d m
   pub state : (d : ℕ) → d < end → (cell_of w' d).state ≡ fold step (cell_of w d).state (scores_in d m.entries)
   pub beyond : (d : ℕ) → end ≤ d → (cells_has w' d ≡ cells_has w d) × (cell_of w' d ≡ cell_of w d)
@@ -66,7 +70,7 @@ pub record TakesIn {C : Type 0} (step : C → ℕ → C) (end : ℕ) (m : Member
 -- what the cells hold: of each document below an end whether some list has it, the sum of the bounds of its
 -- blocks, and its scores
 pub record HoldLists {C : Type 0} (step : C → ℕ → C) (end : ℕ) (ms : List Member) (w : Cells C) : Type 0 where
-  pub has : (d : ℕ) → d < end → cells_has w d ≡ has d (all_of ms)
+  pub has : (d : ℕ) → d < end → cells_has w d ≡ some_has_document (lists_of ms) d
   pub bound : (d : ℕ) → d < end → (cell_of w d).bound ≡ blockbound d ms
   pub state : (d : ℕ) → d < end → (cell_of w d).state ≡ fold step (cells_clear w).state (scores_of d ms)
   pub beyond : (d : ℕ) → end ≤ d → (cells_has w d ≡ false) × (cell_of w d ≡ cells_clear w)
@@ -89,8 +93,8 @@ unfoldable pub all_shown : {C : Type 0} → (C → ℕ) → Cells C → List Sho
 all_shown value w = shown_from value w (cells_start w) (length w.cells.items)
 
 -- as documents with their scores
-abbrev pub hits_shown : List Shown → List Hit
-hits_shown es = map (λ e. record { document = e.document; score = e.score }) es
+abbrev pub entries_shown : List Shown → List Entry
+entries_shown es = map (λ e. scored e.document e.score) es
 
 module _ {F : Type 0} (call : F → ℕ → ℤ → ℤ → F → Type 0) where
   -- the plain run over such documents from a threshold on, with so many of them bounded above the threshold that

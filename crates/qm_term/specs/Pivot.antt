@@ -1,19 +1,22 @@
 -- The pivot at a threshold, its blocks, and how far they reach. All of it is about lists.
 use Rattle.std.specs.Prelude.{ℕ, ℤ, ◌<◌, ◌≤◌, ◌<ℤ◌, ◌≤ℤ◌, ◌≡◌, ◌==◌, ◌&&◌, List, [], ◌∷◌, ◌++◌, nat_le, nat_lt, cond}
-use Rattle.std.specs.Prelude.{Bool, true, false, zero, suc, pos, min, max, length, drop, map, ◌⊎◌}
+use Rattle.std.specs.Prelude.{Bool, true, false, suc, pos, min, max, length, drop, map, ◌⊎◌}
 use Rattle.std.specs.List.Sorted.{IsPermutation}
 use Rattle.qm_docset.specs.declared.numbers.TheConstants.{TERMINATED}
-use Rattle.qm_term.specs.Members.{Hit, Block, Member, hit_document, hit_score, hits_from, end_at, bound_at, has, total, all_of, scores_of, united}
-use Rattle.qm_term.specs.Runs.{Turn}
-use Rattle.qm_term.specs.HitRuns.{Plain, calls_of, count_above}
+use Rattle.qm_term.specs.Members.{Block, Member, end_at, bound_at, total, scores_of, united, lists_of}
+use Rattle.qm_term.specs.Runs.{Plain, Turn}
+use Rattle.qm_term.specs.RunCounts.{calls_of, count_above}
+use Rattle.qm_docset.specs.Entry.{Entry, from, head_document, head_score}
+use Rattle.qm_docset.specs.Gather.{IsBare}
+use Rattle.qm_docset.specs.Exclusion.{has_document}
 
 -- the first document of a list
 abbrev pub head : Member → ℕ
-head m = hit_document m.entries
+head m = head_document m.entries
 
 -- the bound of the block that has d in this list, or 0
 abbrev pub bound_in : ℕ → Member → ℕ
-bound_in d m = cond (has d m.entries) (bound_at d m.blocks) 0
+bound_in d m = cond (has_document m.entries d) (bound_at d m.blocks) 0
 
 -- the sum of the bounds of the blocks that have d
 abbrev pub blockbound : ℕ → List Member → ℕ
@@ -22,7 +25,7 @@ blockbound d ms = total (bound_in d) ms
 -- some list has d
 abbrev pub Held : ℕ → List Member → Type 0
 Held d [] = ⊥
-Held d (m ∷ ms) = (has d m.entries ≡ true) ⊎ Held d ms
+Held d (m ∷ ms) = (has_document m.entries d ≡ true) ⊎ Held d ms
 
 -- d is some list's head
 abbrev pub IsHead : ℕ → List Member → Type 0
@@ -66,7 +69,7 @@ skip p (m ∷ ms) = min (skip_by p m) (skip p ms)
 
 -- a list cut to what is at or past t
 abbrev pub cut : ℕ → Member → Member
-cut t m = record { entries = hits_from t m.entries; blocks = m.blocks; top = m.top }
+cut t m = record { entries = from t m.entries; blocks = m.blocks; top = m.top }
 
 -- some of the lists are cut to t
 abbrev pub AreCut : ℕ → List Member → List Member → Type 0
@@ -83,11 +86,6 @@ postings ms = total (λ m. length m.entries) ms
 abbrev pub next : Member → Member
 next m = record { entries = drop 1 m.entries; blocks = m.blocks; top = m.top }
 
--- the least head at or past low, or TERMINATED
-unfoldable pub next_head : ℕ → List Member → ℕ
-next_head low [] = TERMINATED
-next_head low (m ∷ ms) = min (cond (nat_le low (head m)) (head m) TERMINATED) (next_head low ms)
-
 -- the sum of all greatest scores
 abbrev pub total_top : List Member → ℕ
 total_top ms = total (λ m. m.top) ms
@@ -102,7 +100,7 @@ past p m = cond (nat_le (head m) p) (next m) m
 
 -- the score that a list has for p where its head is at or before p, and these scores of several lists
 abbrev pub front : ℕ → Member → List ℕ
-front p m = cond (nat_le (head m) p) (hit_score m.entries ∷ []) []
+front p m = cond (nat_le (head m) p) (head_score m.entries ∷ []) []
 
 unfoldable pub front_scores : ℕ → List Member → List ℕ
 front_scores p [] = []
@@ -116,27 +114,20 @@ unfoldable pub all_on : ℕ → List Member → Bool
 all_on p [] = true
 all_on p (m ∷ ms) = on p m && all_on p ms
 
--- f of the first n, and the others as they are
-unfoldable pub mapped : (Member → Member) → ℕ → List Member → List Member
-mapped f zero ms = ms
-mapped f (suc n) [] = []
-mapped f (suc n) (m ∷ ms) = f m ∷ mapped f n ms
-
--- the two lists of lists have the same documents, scores and bounds from t on, and nothing before t is above
+-- the two lists of lists have the same documents, with the same scores and bounds, from t on, and nothing before t is above
 -- the threshold in either
 pub record Passes (th : ℤ) (t : ℕ) (ms ns : List Member) : Type 0 where
-  pub same : hits_from t (all_of ns) ≡ hits_from t (all_of ms)
   pub scores : (d : ℕ) → t ≤ d → scores_of d ns ≡ scores_of d ms
   pub bounds : (d : ℕ) → t ≤ d → blockbound d ns ≡ blockbound d ms
   pub low : (d : ℕ) → d < t → Held d ms → pos (blockbound d ms) ≤ℤ th
   pub lower : (d : ℕ) → d < t → Held d ns → pos (blockbound d ns) ≤ℤ th
 
--- a step that scores p: nothing before p is above the threshold, p's blocks are, and what is left is U past p
+-- a step that scores p: nothing before p is above the threshold, p's blocks are, and what is left lies past p
 pub record Scores (th : ℤ) (p : ℕ) (ms ns : List Member) : Type 0 where
   pub held : Held p ms
   pub worth : th <ℤ pos (blockbound p ms)
   pub low : (d : ℕ) → d < p → Held d ms → pos (blockbound d ms) ≤ℤ th
-  pub rest : all_of ns ≡ hits_from (suc p) (all_of ms)
+  pub rest : IsBare 1 (suc p) (lists_of ns)
   pub scores : (d : ℕ) → suc p ≤ d → scores_of d ns ≡ scores_of d ms
   pub bounds : (d : ℕ) → suc p ≤ d → blockbound d ns ≡ blockbound d ms
 
@@ -206,7 +197,7 @@ pub record TakesTurn {F : Type 0} (call : F → ℕ → ℤ → ℤ → F → Ty
   pub turn : IsTurn call combined th f ms th' g lists ticked pivot
 
 -- a number that is read of each document of U
-abbrev pub bound_of : List Member → Hit → ℕ
+abbrev pub bound_of : List Member → Entry → ℕ
 bound_of ms e = blockbound e.document ms
 
 module _ {F : Type 0} (call : F → ℕ → ℤ → ℤ → F → Type 0) (combined : List ℕ → ℕ) where

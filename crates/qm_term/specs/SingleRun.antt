@@ -1,10 +1,11 @@
 -- The run over one list: what a turn of it does, and what it counts.
 use Rattle.std.specs.Prelude.{◌≡◌, ℕ, ℤ, ◌+◌, ◌<◌, ◌≤◌, ◌<ℤ◌, ◌≤ℤ◌, ◌++◌, Bool, true, false, suc, pos, List, length, replicate, ◌⊎◌}
 use Rattle.qm_docset.specs.declared.numbers.TheConstants.{TERMINATED}
-use Rattle.qm_term.specs.HitRuns.{Plain, blocks_passed, count_above}
-use Rattle.qm_term.specs.Members.{Member, before, bound_at, end_at, hit_document, hit_score, hits_from}
+use Rattle.qm_term.specs.RunCounts.{blocks_passed, count_above}
+use Rattle.qm_term.specs.Members.{Member, bound_at, end_at}
 use Rattle.qm_term.specs.Pivot.{cut, head, next}
-use Rattle.qm_term.specs.Runs.{Turn}
+use Rattle.qm_term.specs.Runs.{Turn, Plain}
+use Rattle.qm_docset.specs.Entry.{below, from, head_document, head_score}
 
 -- no block from the current document's on up to a document has a bound above the threshold
 abbrev pub IsQuietTo : ℤ → ℕ → Member → Type 0
@@ -14,13 +15,13 @@ IsQuietTo th end m = (d : ℕ) → head m ≤ d → d ≤ end → pos (bound_at 
 -- far as the target, and with others from there on, passes these and what it passes from there on.
 abbrev pub PassesBlocks : ℤ → ℕ → ℕ → Member → Type 0
 PassesBlocks th target n m = (ths : List ℤ) →
-    blocks_passed m.blocks (replicate (length (before target m.entries)) th ++ ths) m.entries ≡ n + blocks_passed m.blocks ths (hits_from target m.entries)
+    blocks_passed m.blocks (replicate (length (below target m.entries)) th ++ ths) m.entries ≡ n + blocks_passed m.blocks ths (from target m.entries)
 
 -- Each block has a document: where one ends before the end, from the current document's on, there is a
 -- document behind it, which is no further than the next block.
 abbrev pub FillsBlocks : Member → Type 0
 FillsBlocks m = (end : ℕ) → head m ≤ end → end < TERMINATED → end_at end m.blocks ≡ end →
-    (hit_document (hits_from (suc end) m.entries) < TERMINATED) × (hit_document (hits_from (suc end) m.entries) ≤ end_at (suc end) m.blocks)
+    (head_document (from (suc end) m.entries) < TERMINATED) × (head_document (from (suc end) m.entries) ≤ end_at (suc end) m.blocks)
 
 -- a turn over one list, counted as so many: blocks are passed, or its first document is scored
 module _ {F : Type 0} (call : F → ℕ → ℤ → ℤ → F → Type 0) (th : ℤ) (f : F) (m : Member)
@@ -39,7 +40,7 @@ module _ {F : Type 0} (call : F → ℕ → ℤ → ℤ → F → Type 0) (th : 
     pub one : turns ≡ 1
     pub above : th <ℤ pos (bound_at (head m) m.blocks)
     pub list : n ≡ next m
-    pub turn : Turn call th f (head m) (pos (hit_score m.entries)) th' g
+    pub turn : Turn call th f (head m) (pos (head_score m.entries)) th' g
 
   -- a turn: one of these two
   abbrev pub IsSingle : Type 0

@@ -1,14 +1,21 @@
 -- The run over several terms by stretches of documents.
 use Rattle.std.specs.Prelude.{◌≡◌, ℕ, ℤ, ◌+◌, ◌<◌, ◌≤◌, List, length, slice_index_or, true, false, All}
 use Rattle.qm_combine.specs.Combiner.{HasRoomFor, IsCleared}
-use Rattle.qm_docset.specs.Entry.{greatest_score}
-use Rattle.qm_term.specs.Cells.{AreAlike, RunsOver, TakesIn, all_shown, cell_of, cells_clear, cells_end, cells_has, Shown}
+use Rattle.qm_docset.specs.Entry.{Entry, greatest_score}
+use Rattle.qm_term.specs.Cells.{AreAlike, RunsOver, TakesIn, all_shown, cell_of, cells_clear, cells_end, cells_has, cuts, Shown}
+use Rattle.qm_term.specs.HeadRow.{row_lists}
 use Rattle.qm_term.specs.Heads.{moved_at, no_member}
-use Rattle.qm_term.specs.Members.{Member, bound_at}
+use Rattle.qm_term.specs.Members.{Member, bound_at, united}
 use Rattle.qm_term.specs.Pivot.{Pruned, cut, head}
+use Rattle.qm_term.specs.RunScorers.{ticks_of}
+use Rattle.qm_term.specs.Runs.{InRange}
+use Rattle.qm_term.specs.declared.norms.Norms.{Ghosts as NormGhosts}
 use Rattle.qm_term.specs.declared.wand.cells.Cell.{Cell}
 use Rattle.qm_term.specs.declared.wand.cells.Cells.{Cells}
+use Rattle.qm_term.specs.declared.wand.front.TermScorerWithMaxScore.{TermScorerWithMaxScore}
 use Rattle.qm_term.specs.declared.wand.heads.Head.{Head}
+use Rattle.qm_term.specs.declared.wand.stretches.Moved.{Moved}
+use Rattle.qm_term.specs.declared.wand.ticks.Ticks.{Ticks}
 
 -- the block of a record at or before a document is known there
 abbrev pub IsLookedAt : ℕ → Head → Type 0
@@ -83,3 +90,31 @@ module _ {F : Type 0} (call : F → ℕ → ℤ → ℤ → F → Type 0) where
     pub record RunsStretches (th : ℤ) (f : F) (ms : List Member) (ticks : ℕ) (g : F) : Type 0 where
       pub last : ℤ
       pub run : Pruned call combined th f ms ticks last g
+
+-- ---- of a row
+
+-- its list at a place
+abbrev pub list_at : {N : Type 0} {G : NormGhosts N} → ℕ → List (TermScorerWithMaxScore N G) → List Head → Member
+list_at k ss hs = slice_index_or (row_lists ss hs) k no_member
+
+-- U of its lists from a document on, by what a combiner makes of scores that begins as a clear cell does
+abbrev pub union_from : {C N : Type 0} {G : NormGhosts N} → (C → List ℕ → ℕ) → Cells C → ℕ → List (TermScorerWithMaxScore N G) → List Head → List Entry
+union_from combined w low ss hs = united (combined (cells_clear w).state) (cuts low (row_lists ss hs))
+
+module _ {F C N : Type 0} {G : NormGhosts N} (step : F → ℕ → ℤ → ℤ → F → Type 0) (combined : C → List ℕ → ℕ) (w : Cells C) where
+  -- the run over what the lists have, so combined
+  abbrev pub RunsRow : ℤ → F → List (TermScorerWithMaxScore N G) → List Head → Ticks → F → Type 0
+  RunsRow th f ss hs ticks g = RunsStretches (InRange step) (combined (cells_clear w).state) th f (row_lists ss hs) (ticks_of ticks) g
+
+  -- a run over what the lists have from an end on is one over what they have from a document on, with more ticks
+  abbrev pub MovesTo : ℕ → ℤ → F → List (TermScorerWithMaxScore N G) → List Head → Ticks → ℕ → ℤ → F → Ticks → Type 0
+  MovesTo low th f ss hs ticks end th' g ticks' =
+      MovesOn (InRange step) (combined (cells_clear w).state) th f (cuts low (row_lists ss hs)) (ticks_of ticks)
+      th' g (cuts end (row_lists ss hs)) (ticks_of ticks')
+
+  -- and so is one over what the lists then have, from where the run then stands
+  abbrev pub MovesRow : ℕ → ℤ → F → List (TermScorerWithMaxScore N G) → List Head → Ticks →
+      Moved → F → List (TermScorerWithMaxScore N G) → List Head → Ticks → Type 0
+  MovesRow low th f ss hs ticks moved g ss' hs' ticks' =
+      MovesOn (InRange step) (combined (cells_clear w).state) th f (cuts low (row_lists ss hs)) (ticks_of ticks)
+      moved.threshold g (cuts moved.low (row_lists ss' hs')) (ticks_of ticks')

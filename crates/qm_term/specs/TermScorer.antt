@@ -13,6 +13,7 @@ use Rattle.qm_postings.specs.declared.segment_postings.SegmentPostings.{SegmentP
 use Rattle.qm_term.specs.Bm25.{Weighing, bm25, bm25_bound}
 use Rattle.qm_term.specs.Bm25Weight.{weighing}
 use Rattle.qm_term.specs.Members.{Block}
+use Rattle.qm_term.specs.declared.norms.Norms.{Ghosts as NormGhosts}
 use Rattle.qm_term.specs.declared.bm25.Bm25Weight.{Bm25Weight}
 use Rattle.qm_term.specs.declared.term_scorer.TermScorer.{TermScorer}
 
@@ -30,19 +31,19 @@ abbrev pub AreCovered : List ℕ → List Entry → Type 0
 AreCovered ids es = All (λ e. e.document < length ids) es
 
 -- the documents that a scorer has left, with their scores
-abbrev pub scored_left : TermScorer → List Entry
+abbrev pub scored_left : {N : Type 0} {G : NormGhosts N} → TermScorer N G → List Entry
 scored_left s = scored_postings (weighing s.similarity_weight) (norm_ids s.fieldnorm_reader) (postings_left s.postings)
 
 -- its limits
-abbrev pub scored_limits : TermScorer → Limits
+abbrev pub scored_limits : {N : Type 0} {G : NormGhosts N} → TermScorer N G → Limits
 scored_limits s = limited (bm25_bound (weighing s.similarity_weight)) (postings_limits s.postings)
 
 -- the length id of each document
-abbrev pub scored_ids : TermScorer → List ℕ
+abbrev pub scored_ids : {N : Type 0} {G : NormGhosts N} → TermScorer N G → List ℕ
 scored_ids s = norm_ids s.fieldnorm_reader
 
 -- what its postings read of the frequencies
-abbrev pub scored_reads : TermScorer → FreqReadingOption
+abbrev pub scored_reads : {N : Type 0} {G : NormGhosts N} → TermScorer N G → FreqReadingOption
 scored_reads s = reads s.postings
 
 -- what bounds the scores of a block of postings: what its greatest frequency scores at its least length
@@ -55,15 +56,15 @@ abbrev pub least_id : FieldNormReader → PostingsBlock → ℕ
 least_id reader b = cond (is_made_constant reader) (slice_index_or (norm_ids reader) 0 0) b.least_id
 
 -- the same by what a scorer is made of
-abbrev pub scored_by : Bm25Weight → FieldNormReader → PostingsBlock → Block
+abbrev pub scored_by : {N : Type 0} {G : NormGhosts N} → Bm25Weight N G → FieldNormReader → PostingsBlock → Block
 scored_by weight reader = scored_block (weighing weight) (is_made_constant reader) (norm_ids reader)
 
 -- all blocks of the scorer's term, in order
-unfoldable pub scored_blocks : TermScorer → List Block
+unfoldable pub scored_blocks : {N : Type 0} {G : NormGhosts N} → TermScorer N G → List Block
 scored_blocks s = map (scored_by s.similarity_weight s.fieldnorm_reader) (postings_blocks s.postings)
 
 -- a scorer has the length ids of another, reads frequencies as it does, and bounds the same blocks alike
-pub record ScoresAs (s t : TermScorer) : Type 0 where
+pub record ScoresAs {N : Type 0} {G : NormGhosts N} (s t : TermScorer N G) : Type 0 where
   pub ids : scored_ids t ≡ scored_ids s
   pub postings : ReadsAs s.postings t.postings
   pub blocks : scored_blocks t ≡ scored_blocks s
@@ -77,7 +78,7 @@ abbrev pub IsBoundedBy : FieldNormReader → List PostingsBlock → List Entry �
 IsBoundedBy reader blocks es = (is_made_constant reader ≡ true) ⊎ AreInBlocks (norm_ids reader) blocks es
 
 -- a scorer over postings whose documents all have a length id, which the blocks' least ids bound
-pub record IsTermScorer (s : TermScorer) : Type 0 where
+pub record IsTermScorer {N : Type 0} {G : NormGhosts N} (s : TermScorer N G) : Type 0 where
   pub postings : IsPostings s.postings
   pub covered : AreCovered (norm_ids s.fieldnorm_reader) (postings_left s.postings)
   pub bounded : IsBoundedBy s.fieldnorm_reader (postings_blocks s.postings) (postings_left s.postings)

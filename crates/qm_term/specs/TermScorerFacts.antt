@@ -3,7 +3,7 @@ use Rattle.std.specs.Prelude.{◌≡◌, ℕ, ◌<◌, ◌≤◌, List, [], ◌�
 use Rattle.std.proofs.Common.{◌∙◌, ap, arith, map, refl, sym, subst, inl, inr}
 use Rattle.std.proofs.lemmas.List.Elements.{All-drop, All-filter}
 use Rattle.std.proofs.lemmas.Option.{get_or_from_slice_get}
-use Rattle.qm_combine.specs.RescoredFacts.{AreEntries-rescored, head_document-rescored, head_score-rescored, rescoring}
+use Rattle.qm_combine.specs.RescoredFacts.{AreEntries-rescored, head_document-rescored, rescoring}
 use Rattle.qm_docset.specs.Entry.{Entry, AreEntries, from, head_document}
 use Rattle.qm_docset.specs.declared.numbers.TheConstants.{TERMINATED}
 use Rattle.qm_postings.specs.FieldNorms.{is_made_constant, norm_ids}
@@ -16,9 +16,10 @@ use Rattle.qm_postings.specs.Blocks.{Block, block_at}
 use Rattle.qm_postings.specs.declared.fieldnorm.FieldNormReader.{FieldNormReader}
 use Rattle.qm_postings.specs.declared.segment_postings.SegmentPostings.{SegmentPostings}
 use Rattle.qm_term.specs.TermScorer.{AreCovered, IsBoundedBy, IsTermScorer, ScoresAs, scored_block, scored_blocks, scored_left, scored_limits}
+use Rattle.qm_term.specs.declared.norms.Norms.{Ghosts as NormGhosts}
 use Rattle.qm_term.specs.declared.term_scorer.TermScorer.{TermScorer}
 
-pub AreEntries-scored : (s : TermScorer) → IsTermScorer s → AreEntries 0 (scored_limits s) (scored_left s)
+pub AreEntries-scored : {N : Type 0} {G : NormGhosts N} (s : TermScorer N G) → IsTermScorer s → AreEntries 0 (scored_limits s) (scored_left s)
 AreEntries-scored s h =
     AreEntries-rescored _ (bm25_bound (weighing s.similarity_weight)) 0 (postings_limits s.postings) (postings_left s.postings) (λ e within. bm25-le
     (weighing s.similarity_weight) (slice_index_or (norm_ids s.fieldnorm_reader) e.document 0) e.frequency) (AreEntries-postings s.postings h.postings)
@@ -62,11 +63,11 @@ bounded_after reader old new es left blocks same h = subst (λ b. IsBoundedBy re
 pub ReadsAs-self : (p : SegmentPostings) → ReadsAs p p
 ReadsAs-self p = record { reading = refl; all = refl; blocks = refl }
 
-pub ScoresAs-self : (s : TermScorer) → ScoresAs s s
+pub ScoresAs-self : {N : Type 0} {G : NormGhosts N} (s : TermScorer N G) → ScoresAs s s
 ScoresAs-self s = record { ids = refl; postings = ReadsAs-self s.postings; blocks = refl }
 
 -- a scorer whose postings alone change, and keep what they keep, keeps what it keeps
-pub keeps_scoring : (s old new : TermScorer) → new.fieldnorm_reader ≡ old.fieldnorm_reader → new.similarity_weight ≡ old.similarity_weight →
+pub keeps_scoring : {N : Type 0} {G : NormGhosts N} (s old new : TermScorer N G) → new.fieldnorm_reader ≡ old.fieldnorm_reader → new.similarity_weight ≡ old.similarity_weight →
     ((p : SegmentPostings) → ReadsAs p old.postings → ReadsAs p new.postings) → ScoresAs s old → ScoresAs s new
 unfolding scored_blocks
 keeps_scoring s old new reader weight kept h =
@@ -82,15 +83,7 @@ pub covered-head : (ids : List ℕ) (es : List Entry) → AreCovered ids es → 
 covered-head ids [] h here = absurd (omega arith)
 covered-head ids (e ∷ es) h here = h 0 e (omega arith)
 
-pub scored-document : (s : TermScorer) → head_document (scored_left s) ≡ head_document (postings_left s.postings)
+pub scored-document : {N : Type 0} {G : NormGhosts N} (s : TermScorer N G) → head_document (scored_left s) ≡ head_document (postings_left s.postings)
 scored-document s = head_document-rescored _ (postings_left s.postings)
-
-pub scored-within : (s : TermScorer) → IsTermScorer s → head_document (scored_left s) < TERMINATED →
-    head_document (scored_left s) < length (norm_ids s.fieldnorm_reader)
-scored-within s h here =
-    let same = scored-document s in
-    let P : ℕ → Type 0 = λ d. d < length (norm_ids s.fieldnorm_reader) in
-    let Q : ℕ → Type 0 = λ d. d < TERMINATED in
-    subst P (sym same) (covered-head (norm_ids s.fieldnorm_reader) (postings_left s.postings) h.covered (subst Q same here))
 
 pub ruleset scoring = (rescoring, AreCovered-drop, AreCovered-from, AreCovered-nil, covered-head, get_or_from_slice_get)

@@ -5,16 +5,14 @@
 #![tactic(auto)]
 
 mod bm25;
-mod borrowed_scorer;
-mod borrowed_weight;
 mod explanation;
+mod norms;
 mod term_scorer;
 mod wand;
 
 pub use bm25::Bm25Weight;
-pub use borrowed_scorer::BorrowedTermScorer;
-pub use borrowed_weight::BorrowedWeight;
 pub use explanation::Explanation;
+pub use norms::Norms;
 pub use term_scorer::TermScorer;
 pub use wand::{
     TermScorerWithMaxScore, Ticks, WandCount, WandRun, block_wand, block_wand_single_scorer,

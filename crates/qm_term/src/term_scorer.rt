@@ -1,6 +1,7 @@
 //! The scorer over the postings of a term.
 //!
-//! The norms stand in the scorer, a kilobyte. So it is moved seldom, and is no `Copy`, which would copy it unseen.
+//! Norms that stand in the scorer itself are a kilobyte. So it is moved seldom, and is no `Copy`, which would copy it
+//! unseen.
 
 ghost use Rattle.std.specs.Prelude.{◌≡◌, ◌<◌, ◌≤◌, ◌↔◌, [], drop, length, map, min, pos, take, slice_get, slice_index_or};
 ghost use Rattle.std.specs.Prelude.{IfOk, IfSome, IsOkUnless, IsSome, Some};
@@ -15,6 +16,7 @@ ghost use Rattle.qm_term.specs.TermEntries.{length_ids};
 
 use crate::bm25::Bm25Weight;
 use crate::explanation::Explanation;
+use crate::norms::Norms;
 use qm_combine::Scorer;
 use qm_docset::{
     AliveBitSet, COLLECT_BLOCK_BUFFER_LEN, DocId, DocSet, Score, SeekDangerResult, TERMINATED,
@@ -28,13 +30,13 @@ use std::alloc::{AllocError, Global};
 /// Every call of a cursor costs what that of its postings does, and a score one division more. All
 /// calls but [`explain`](TermScorer::explain) take no memory.
 #[derive(Debug, Drop)]
-pub struct TermScorer<'a> {
+pub struct TermScorer<'a, N: Norms = [u32; 256]> {
     postings: SegmentPostings<'a>,
     fieldnorm_reader: FieldNormReader<'a>,
-    similarity_weight: Bm25Weight,
+    similarity_weight: Bm25Weight<N>,
 }
 
-impl<'a> TermScorer<'a> {
+impl<'a, N: Norms> TermScorer<'a, N> {
     ghost use Rattle.qm_term.specs.Bm25Weight.{weighing};
     ghost use Rattle.qm_term.specs.Explained.{value_of};
     ghost use Rattle.qm_term.specs.TermEntries.{ListsTerm};
@@ -47,12 +49,12 @@ impl<'a> TermScorer<'a> {
     pub fn new(
         postings: SegmentPostings<'a>,
         fieldnorm_reader: FieldNormReader<'a>,
-        similarity_weight: Bm25Weight,
-    ) -> TermScorer<'a>
+        similarity_weight: Bm25Weight<N>,
+    ) -> TermScorer<'a, N>
         requires postings { IsPostings postings }
         requires covered { AreCovered (norm_ids fieldnorm_reader) (postings_left postings) }
         requires bounded { IsBoundedBy fieldnorm_reader (postings_blocks postings) (postings_left postings) }
-        ensures lists { ListsScored ⟦<TermScorer<'a> as DocSet>⟧ (weighing similarity_weight) (norm_ids fieldnorm_reader.entry) postings.entry result }
+        ensures lists { ListsScored ⟦<TermScorer<'a, N> as DocSet>⟧ (weighing similarity_weight) (norm_ids fieldnorm_reader.entry) postings.entry result }
         ensures ids { scored_ids result ≡ norm_ids fieldnorm_reader.entry }
         ensures reads { scored_reads result ≡ reads postings.entry }
         ensures blocks { scored_blocks result ≡ map (scored_by similarity_weight fieldnorm_reader.entry) (postings_blocks postings.entry) }
@@ -75,10 +77,10 @@ impl<'a> TermScorer<'a> {
         segment: &'a SegmentReader,
         term: &Term,
         option: IndexRecordOption,
-        weight: &Bm25Weight,
-    ) -> Option<TermScorer<'a>>
+        weight: &Bm25Weight<N>,
+    ) -> Option<TermScorer<'a, N>>
         ensures present { IsSome result ↔ ¬ (holders segment.now.segment term.now ≡ []) }
-        ensures lists { IfSome result (ListsTerm ⟦<TermScorer<'a> as DocSet>⟧ segment.now.segment option term.now (weighing weight.now)) }
+        ensures lists { IfSome result (ListsTerm ⟦<TermScorer<'a, N> as DocSet>⟧ segment.now.segment option term.now (weighing weight.now)) }
         ensures ids { IfSome result (λ s. scored_ids s ≡ length_ids segment.now.segment term.now.field) }
         ensures reads { IfSome result (λ s. scored_reads s ≡ reading segment.now.segment.schema option term.now.field) }
         ensures looked { IfSome result LooksHere }
@@ -207,12 +209,12 @@ impl<'a> TermScorer<'a> {
 }
 
 /// A copy stands where the original does. It takes no memory, so it is never refused.
-impl<'a> Clone for TermScorer<'a> {
+impl<'a, N: Norms> Clone for TermScorer<'a, N> {
     ghost is_clone = { λ scorer copy. copy ≡ scorer };
 
     ghost is_infallible = { λ _. Unit {0} };
 
-    fn clone(&self) -> Result<TermScorer<'a>, AllocError> {
+    fn clone(&self) -> Result<TermScorer<'a, N>, AllocError> {
         Ok(TermScorer {
             postings: self.postings,
             fieldnorm_reader: self.fieldnorm_reader,
@@ -222,7 +224,7 @@ impl<'a> Clone for TermScorer<'a> {
 }
 
 #[tactic(auto, using(crate::specs::TermScorerFacts::scoring))]
-impl<'a> DocSet for TermScorer<'a> {
+impl<'a, N: Norms> DocSet for TermScorer<'a, N> {
     ghost use Rattle.qm_term.specs.TermScorer.{IsTermScorer, ScoresAs, scored_left, scored_limits};
     ghost use Rattle.qm_term.specs.TermScorerFacts.{AreEntries-scored};
 
@@ -317,7 +319,7 @@ impl<'a> DocSet for TermScorer<'a> {
 
 /// A score leaves the block looked at as it is.
 #[tactic(auto, using(crate::specs::TermScorerFacts::scoring))]
-impl<'a> Scorer for TermScorer<'a> {
+impl<'a, N: Norms> Scorer for TermScorer<'a, N> {
     ghost use Rattle.qm_term.specs.TermScorer.{IsTermScorer, ScoresAs, scored_left, scored_limits};
 
     #[inline]
@@ -340,7 +342,7 @@ impl<'a> Scorer for TermScorer<'a> {
 }
 
 // The length id of a field in each document of a segment: 1 where the field keeps no lengths.
-pub(crate) fn length_ids(segment: &SegmentReader, field: Field) -> FieldNormReader<'_>
+fn length_ids(segment: &SegmentReader, field: Field) -> FieldNormReader<'_>
     ensures { norm_ids result ≡ length_ids segment.now.segment field }
 {
     match segment.fieldnorms(field) {

@@ -1,17 +1,17 @@
 -- What the leaves of a weight weigh are scores, since each keeps its weight as one.
 use Rattle.std.specs.Prelude.{ℕ, Bool, true, false, List, [], ◌∷◌, Option, None, Some}
-use Rattle.qm_term.specs.declared.bm25.Bm25Weight.{Bm25Weight}
+use Rattle.qm_term.specs.OwnNorms.{OwnWeight}
 use Rattle.qm_weight.specs.Tree.{ClauseLeavesFit, LeavesFit, WeighsScore}
 use Rattle.qm_weight.specs.Weights.{clause_tree, clauses_of, term_clauses, tree_of, weighing_if, weighing_of}
 use Rattle.qm_weight.specs.declared.any_weight.AnyWeight.{AnyWeight, All, Boolean', Boost', Const', Empty, Phrase, PhrasePrefix, Prefix, Term, Terms}
 use Rattle.qm_weight.specs.declared.any_weight.AnyWeight.{Row_of-BooleanWeight-weights-3, end_of-BooleanWeight-weights-3, more_of-BooleanWeight-weights-3}
 use Rattle.qm_weight.specs.declared.terms_weight.TermClause.{TermClause}
 
-if-fits : (scoring : Bool) (w : Bm25Weight) → WeighsScore (weighing_if scoring w)
+if-fits : (scoring : Bool) (w : OwnWeight) → WeighsScore (weighing_if scoring w)
 if-fits true w = w.weight_fits
 if-fits false w = tt
 
-of-fits : (w : Option Bm25Weight) → WeighsScore (weighing_of w)
+of-fits : (w : Option OwnWeight) → WeighsScore (weighing_of w)
 of-fits None = tt
 of-fits (Some w) = w.weight_fits
 
@@ -34,7 +34,7 @@ mutual
   leaves-fit (Prefix w) = tt
   leaves-fit (Boost' p inside k) = leaves-fit inside
   leaves-fit (Const' p inside s) = leaves-fit inside
-  leaves-fit (Boolean' shape row minimum scoring combiner) = clauses-fit row
+  leaves-fit (Boolean' shape row rule) = clauses-fit row
 
   clauses-fit : {n : _} (row : Row_of-BooleanWeight-weights-3 n) → ClauseLeavesFit (clauses_of row)
   clauses-fit end_of-BooleanWeight-weights-3 = tt

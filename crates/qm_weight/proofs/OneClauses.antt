@@ -9,7 +9,7 @@ use Rattle.qm_scorer.specs.declared.any_combiner.AnyCombiner.{AnyCombiner}
 use Rattle.qm_weight.specs.ClauseScorers.{IsDecidedBy, KeepsOneScore, decides_alone}
 use Rattle.qm_weight.specs.Scorers.{IsListOf}
 use Rattle.qm_weight.specs.Tree.{Tree, boolean, clause, combined, is_scoring, matches, no_clause, score}
-use Rattle.qm_weight.specs.Weights.{boolean_tree, clauses_from, combiner_of, tree_of}
+use Rattle.qm_weight.specs.Weights.{boolean_tree, clauses_from, combiner_of, rule_tree, tree_of}
 use Rattle.qm_weight.specs.declared.any_weight.AnyWeight.{AnyWeight}
 use Rattle.qm_weight.specs.declared.boolean_weight.BooleanWeight.{BooleanWeight}
 use Rattle.qm_weight.proofs.AliveCounts.{matches-one_clause}
@@ -56,13 +56,13 @@ one_item (y ∷ z ∷ xs) x some few is = absurd (omega (arith, few))
 -- so does a weight of one clause, whose parts were read one after the other
 pub list-one_weight : (weight : BooleanWeight) (ws : List (Occur × Box AnyWeight Global)) (v w : Occur × Box AnyWeight Global) (b : ℕ) (segment : Segment)
     (es : List Entry) → ws ≡ weight.weights.items → 1 ≤ length ws → length ws < 2 → v ≡ get_or ws 0 v → w ≡ get_or ws 0 w →
-    IsDecidedBy weight v.0 → IsListOf (tree_of w.1.value) b segment es → IsListOf (boolean_tree weight) b segment es
+    IsDecidedBy weight.rule v.0 → IsListOf (tree_of w.1.value) b segment es → IsListOf (boolean_tree weight) b segment es
 list-one_weight weight ws v w b segment es items some few is_v is_w decided l =
     let one_v = one_item ws v some few is_v in
     let one_w = one_item ws w some few is_w in
     let same : v ≡ w = ap (λ xs. get_or xs 0 v) (sym one_v ∙ one_w) in
-    let by = subst (λ u. IsDecidedBy weight u.0) same decided in
+    let by = subst (λ u. IsDecidedBy weight.rule u.0) same decided in
     subst
-    (λ us. IsListOf (boolean weight.scoring_enabled weight.minimum_number_should_match (combiner_of weight.score_combiner) (clauses_from us)) b segment es)
-    (sym one_w ∙ items) (list-one_clause weight.scoring_enabled weight.minimum_number_should_match weight.score_combiner w.0 (tree_of w.1.value) b segment es
-    by.met by.kept l)
+    (λ us. IsListOf (rule_tree weight.rule (clauses_from us)) b segment es)
+    (sym one_w ∙ items) (list-one_clause weight.rule.scoring_enabled weight.rule.minimum_number_should_match weight.rule.score_combiner w.0 (tree_of w.1.value) b segment
+    es by.met by.kept l)

@@ -7,16 +7,17 @@ use Rattle.qm_docset.specs.declared.docset.DocSet.{Ghosts}
 use Rattle.qm_docset.specs.declared.numbers.TheConstants.{TERMINATED}
 use Rattle.qm_postings.specs.Segment.{Segment}
 use Rattle.qm_schema.specs.declared.occur.Occur.TheVariants.{Should, Must, MustNot}
+use Rattle.qm_scorer.specs.AnyCombiner.{any_combined}
 use Rattle.qm_scorer.specs.Tree.{IsTree, IsTreePlaced, tree_entries, tree_limits}
 use Rattle.qm_scorer.specs.declared.any_scorer.AnyScorer.{AnyScorer, Empty, Term}
-use Rattle.qm_term.specs.contracts.term_scorer.TermScorerDocSet.TheImpl.{ghosts}
 use Rattle.qm_weight.specs.ClauseScorers.{AreClauseScorers, AreScorersOf, clause_trees}
 use Rattle.qm_weight.specs.TermRows.{IsOfTerms, IsTermOrEmpty, term_in, terms_of}
-use Rattle.qm_weight.specs.TermUnions.{AreClauseCursors, AreFound, CombinesAs, ListTogether, there}
+use Rattle.qm_weight.specs.TermUnions.{AreClauseCursors, AreFound, ListTogether, there}
 use Rattle.qm_weight.specs.Tree.{Tree}
-use Rattle.qm_weight.specs.Weights.{boolean_tree, clauses_from, rule_of}
+use Rattle.qm_weight.specs.Weights.{boolean_tree, clauses_from}
 use Rattle.qm_weight.specs.declared.boolean_weight.BooleanWeight.{BooleanWeight}
 use Rattle.qm_weight.specs.declared.boolean_weight.clauses.ClauseScorers.{ClauseScorers}
+use Rattle.qm_weight.proofs.TermRuns.{of_terms}
 use Rattle.qm_weight.proofs.TermUnions.{AreShouldAlone, there-push, together}
 
 pub terms-push : {S : Type 0} (taken : List (AnyScorer S)) (x : AnyScorer S) → terms_of (taken ++ x ∷ []) ≡ terms_of taken ++ there (term_in x ∷ [])
@@ -35,7 +36,7 @@ module _ {S : Type 0} (D : Ghosts S) where
 
   -- each is a leaf's own scorer, or lists nothing
   pub found-terms : (b : ℕ) (segment : Segment) (trees : List Tree) (members : List (AnyScorer S)) → AreScorersOf of_trees b segment trees members →
-      All IsTermOrEmpty members → AreFound ghosts b segment trees (map term_in members)
+      All IsTermOrEmpty members → AreFound of_terms b segment trees (map term_in members)
   found-terms b segment [] [] rows terms = tt
   found-terms b segment [] (s ∷ members) rows terms = absurd rows
   found-terms b segment (t ∷ trees) [] rows terms = absurd rows
@@ -56,17 +57,17 @@ module _ {S : Type 0} (D : Ghosts S) where
 
   -- so a run by blocks over the scorers of terms is one over the Boolean
   pub terms-together : (w : BooleanWeight) (b : ℕ) (segment : Segment) → length segment.documents ≤ TERMINATED → (scorers : ClauseScorers S) →
-      AreClauseScorers of_trees (clauses_from w.weights.items) b segment scorers → IsOfTerms w scorers → (combined : List ℕ → ℕ) →
-      CombinesAs w.score_combiner combined → ListTogether ghosts combined (boolean_tree w) b segment (terms_of scorers.should.items)
-  terms-together w b segment few scorers rows seen combined same =
+      AreClauseScorers of_trees (clauses_from w.weights.items) b segment scorers → IsOfTerms w.rule scorers →
+      ListTogether of_terms (any_combined w.rule.score_combiner) (boolean_tree w) b segment (terms_of scorers.should.items)
+  terms-together w b segment few scorers rows seen =
       let clauses = clauses_from w.weights.items in
       let alone : AreShouldAlone clauses = record {
         no_must = no_trees b segment (clause_trees clauses Must) scorers.must.items (rows Must) seen.no_must;
         no_must_not = no_trees b segment (clause_trees clauses MustNot) scorers.must_not.items (rows MustNot) seen.no_must_not;
       } in
-      let found : AreClauseCursors ghosts clauses b segment (terms_of scorers.should.items) = (
+      let found : AreClauseCursors of_terms clauses b segment (terms_of scorers.should.items) = (
         map term_in scorers.should.items,
         found-terms b segment (clause_trees clauses Should) scorers.should.items (rows Should) seen.terms,
         refl,
       ) in
-      together ghosts (rule_of w) clauses b segment few alone seen.least (terms_of scorers.should.items) found combined (λ on. same)
+      together of_terms w.rule clauses b segment few alone seen.least (terms_of scorers.should.items) found

@@ -22,6 +22,7 @@ use Rattle.qm_scorer.specs.BareFacts.{bare-cons, bare-nil}
 use Rattle.qm_weight.specs.ClauseScorers.{clause_trees, without_must_not}
 use Rattle.qm_weight.specs.LeafScorers.{IsLeafOf}
 use Rattle.qm_weight.specs.Scorers.{IsListOf, IsRefusalOf, IsScorerOf}
+use Rattle.qm_scorer.specs.AnyCombiner.{any_combined}
 use Rattle.qm_weight.specs.TermUnions.{AreClauseCursors, AreFound, CombinesAs, ListTogether, there}
 use Rattle.qm_weight.specs.Tree.{Clauses, Tree, boolean, clause, clause_bounds, is_scoring, matches, no_clause, occurs_as, score}
 use Rattle.qm_weight.specs.Weights.{clauses_by, combiner_of, rule_tree}
@@ -242,11 +243,10 @@ module _ {S : Type 0} (D : Ghosts S) (rule : BooleanRule) (clauses : Clauses) (b
 -- where one is enough they are cursors of which a run by blocks is one over the clauses
 pub together : {S : Type 0} (D : Ghosts S) (rule : BooleanRule) (clauses : Clauses) (b : ℕ) (segment : Segment) → length segment.documents ≤ TERMINATED →
     AreShouldAlone clauses → rule.minimum_number_should_match ≤ 1 → (cursors : List S) → AreClauseCursors D clauses b segment cursors →
-    (combined : List ℕ → ℕ) → (IsTrue rule.scoring_enabled → CombinesAs rule.score_combiner combined) →
-    ListTogether D combined (rule_tree rule clauses) b segment cursors
-together D rule clauses b segment few alone least cursors found combined same = record {
+    ListTogether D (any_combined rule.score_combiner) (rule_tree rule clauses) b segment cursors
+together D rule clauses b segment few alone least cursors found = record {
   placed = placed-cursors D b segment clauses cursors found;
-  list = list-united D rule clauses b segment few alone 1 (omega (arith, least)) cursors found combined same;
+  list = list-united D rule clauses b segment few alone 1 (omega (arith, least)) cursors found (any_combined rule.score_combiner) (λ on scores. refl);
   within = λ fits. omega (arith, tops-cursors D b segment clauses cursors found, fits.0.bound_fits);
 }
 

@@ -9,7 +9,7 @@ ghost use Rattle.qm_weight.specs.Explanations.{IsExplained, IsExplainRefusal};
 ghost use Rattle.qm_weight.specs.Scorers.{IsRefusalOf, IsScorerOf};
 ghost use Rattle.qm_weight.specs.Tree.{boolean};
 ghost use Rattle.qm_weight.specs.TreeRuns.{MayPruneTreeAt, PrunesTreeBy};
-ghost use Rattle.qm_weight.specs.Weights.{boolean_tree, clauses_from, combiner_of, rule_of};
+ghost use Rattle.qm_weight.specs.Weights.{boolean_tree, clauses_from, combiner_of};
 
 use crate::any_weight::{AnyWeight, count_any, prune_any};
 use crate::bounds::bound_of_boolean;
@@ -18,7 +18,6 @@ use crate::shared_runs::{StandsFor, check_document, run_node, run_node_slices, s
 use crate::weight::Weight;
 use clauses::build_clauses;
 use explained::explain_clauses;
-use joined::keeps_one_score;
 use pruned::prune_clauses;
 use qm_combine::{EmptyScorer, Scorer};
 use qm_docset::{DocId, DocSet, Score, TERMINATED};
@@ -35,7 +34,7 @@ mod pruned;
 mod rule;
 
 pub(crate) use clauses::{ClauseScorers, add_scorer};
-pub(crate) use joined::join_clauses;
+pub(crate) use joined::{join_clauses, keeps_one_score};
 pub(crate) use rule::BooleanRule;
 
 /// Matches the documents that every Must clause matches, no MustNot clause, and at least so many of
@@ -47,9 +46,7 @@ pub(crate) use rule::BooleanRule;
 #[derive(Drop)]
 pub struct BooleanWeight {
     pub(crate) weights: Vec<(Occur, Box<AnyWeight>)>,
-    pub(crate) minimum_number_should_match: usize,
-    pub(crate) scoring_enabled: bool,
-    pub(crate) score_combiner: AnyCombiner,
+    pub(crate) rule: BooleanRule,
 }
 
 impl BooleanWeight {
@@ -75,20 +72,11 @@ impl BooleanWeight {
     {
         BooleanWeight {
             weights,
-            minimum_number_should_match,
-            scoring_enabled,
-            score_combiner,
-        }
-    }
-
-    // How its clauses are put together.
-    fn rule(&self) -> BooleanRule
-        ensures { result ≡ rule_of self.now }
-    {
-        BooleanRule {
-            minimum_number_should_match: self.minimum_number_should_match,
-            scoring_enabled: self.scoring_enabled,
-            score_combiner: self.score_combiner,
+            rule: BooleanRule {
+                minimum_number_should_match,
+                scoring_enabled,
+                score_combiner,
+            },
         }
     }
 }
@@ -150,7 +138,7 @@ impl Weight for BooleanWeight {
     }
 
     /// Passes over blocks whose documents cannot score above the threshold, where scoring is on, the
-    /// combiner is the sum or the greatest score, and the clauses are 2 to 16 terms, one of which is
+    /// combiner is the sum or the greatest score, and the clauses are 2 to 300 terms, one of which is
     /// enough, or one scorer is left and is that of a term. For more of them the plain loop is faster.
     /// Where one clause alone decides what matches and scores, the run is that clause's. It takes memory
     /// before the first call alone.
@@ -178,7 +166,7 @@ pub(crate) fn build_boolean<'a, S: Scorer>(
     ensures refused { IfErr result (IsRefusalOf (boolean_tree weight.now) boost) }
 {
     let scorers = build_clauses(&weight.weights, alloc, reader, boost)?;
-    join_clauses(weight.rule(), alloc, reader, scorers)
+    join_clauses(weight.rule, alloc, reader, scorers)
 }
 
 // What one clause alone matches, which decides, is counted as the clause counts it, and else what the scorer lists.
@@ -194,7 +182,7 @@ pub(crate) fn count_boolean(
     ensures refused { IfErr result (IsRefusalOf (boolean_tree weight.now) boost) }
 {
     if let [(occur, inside)] = weight.weights.as_slice()
-        && decides(*occur, weight.minimum_number_should_match)
+        && decides(*occur, weight.rule.minimum_number_should_match)
     {
         return count_any(inside, alloc, reader, boost);
     }
@@ -250,7 +238,7 @@ pub(crate) fn prune_boolean<F: FnMut(DocId, Score) -> Score>(
     ensures refused { IfErr result (IsRefusalOf (boolean_tree weight.now) boost) }
 {
     if let [(occur, inside)] = weight.weights.as_slice()
-        && is_decided_by(weight, *occur)
+        && is_decided_by(weight.rule, *occur)
     {
         return prune_any(inside, alloc, reader, boost, threshold, callback);
     }
@@ -258,12 +246,12 @@ pub(crate) fn prune_boolean<F: FnMut(DocId, Score) -> Score>(
 }
 
 // Whether a clause that occurs so decides alone what the Boolean matches and scores.
-fn is_decided_by(weight: &BooleanWeight, occur: Occur) -> bool
-    ensures { result ≡ true → IsDecidedBy weight.now occur }
+fn is_decided_by(rule: BooleanRule, occur: Occur) -> bool
+    ensures { result ≡ true → IsDecidedBy rule occur }
 {
     let keeps_score = match occur {
-        Occur::Should => keeps_one_score(weight.score_combiner),
+        Occur::Should => keeps_one_score(rule.score_combiner),
         Occur::Must | Occur::MustNot => true,
     };
-    keeps_score && decides(occur, weight.minimum_number_should_match)
+    keeps_score && decides(occur, rule.minimum_number_should_match)
 }

@@ -13,7 +13,7 @@ use qm_phrase::{PhrasePrefixScorer, PhraseScorer};
 use qm_postings::{SegmentPostings, SegmentReader, TermDocuments};
 use qm_schema::QueryError;
 use qm_scorer::AnyScorer;
-use qm_term::{BorrowedTermScorer, TermScorer};
+use qm_term::TermScorer;
 use std::alloc::Global;
 
 /// A scorer that a leaf makes over a segment, for which a tree of scorers has a variant.
@@ -32,11 +32,12 @@ impl<'a, S: Scorer> IntoTree<AnyScorer<'a, S>> for TermScorer<'a> {
 }
 
 // The scorers and documents of terms that are a tree's own are leaves as they are, with no box around them.
-impl<'a> IntoTree<AnyScorer<'a, BorrowedTermScorer<'a>>> for BorrowedTermScorer<'a> {
+impl<'a> IntoTree<AnyScorer<'a, TermScorer<'a, &'a [u32; 256]>>>
+    for TermScorer<'a, &'a [u32; 256]> {
     fn into_tree(
         self,
         _alloc: Global,
-    ) -> Result<AnyScorer<'a, BorrowedTermScorer<'a>>, QueryError> {
+    ) -> Result<AnyScorer<'a, TermScorer<'a, &'a [u32; 256]>>, QueryError> {
         Ok(AnyScorer::Own(self))
     }
 }

@@ -5,21 +5,24 @@
 //!   at worst.
 //! - The plain loop ends where no score can pass the threshold; a constant gains no more by another way.
 
-ghost use Rattle.std.specs.Prelude.{◌≡◌, IfErr, IfOk, OnErr};
+ghost use Rattle.std.specs.Prelude.{◌≡◌, ◌≤◌, IfErr, IfOk, OnErr, true};
 ghost use Rattle.qm_docset.specs.Lists.{IsPlaced};
+ghost use Rattle.qm_scorer.specs.AnyCombiner.{any_combined};
 ghost use Rattle.qm_term.specs.Runs.{InRange, MayPrune};
+ghost use Rattle.qm_weight.specs.ClauseScorers.{KeepsOneScore};
 ghost use Rattle.qm_weight.specs.Scorers.{IsRefusalOf};
 ghost use Rattle.qm_weight.specs.TermUnions.{ListTogether};
 ghost use Rattle.qm_weight.specs.TreeRuns.{MayPruneTreeAt, PrunesBy, PrunesTreeBy};
 
+use crate::boolean_weight::{BooleanRule, keeps_one_score};
 use crate::shared_runs::StandsFor;
 use crate::weight::turn;
-use qm_combine::{BoundedBySum, Scorer};
+use qm_combine::Scorer;
 use qm_docset::{DocId, DocSet, Score, TERMINATED};
 use qm_postings::SegmentReader;
 use qm_schema::QueryError;
-use qm_scorer::AnyScorer;
-use qm_term::{TermScorer, WandCount, block_wand, block_wand_single_scorer};
+use qm_scorer::{AnyCombiner, AnyScorer};
+use qm_term::{Norms, TermScorer, WandCount, block_wand, block_wand_single_scorer};
 use std::alloc::Global;
 
 // The run over what the scorer has left: where it is that of a term, by the bounds of its blocks, and else up
@@ -77,26 +80,43 @@ pub(crate) fn counted_none() -> WandCount
 /// The most clauses of one run that passes over blocks. Up to them it takes some two thirds of the time that the plain
 /// loop over the union takes, or less. But to pass a block it looks at all its terms. Where the bounds of a third of
 /// them only just reach the threshold, it takes twice that time for 300 terms, and three to five times for thousands.
-pub(crate) const MOST_TERMS_BY_BLOCKS: usize = 300;
+const MOST_TERMS_BY_BLOCKS: usize = 300;
+
+// Whether a run over so many terms that should match may pass over blocks: scoring is on, one of them is enough, what the
+// combiner makes of scores is bounded by their sum, and they are no more than such a run is fast for.
+pub(crate) fn may_pass_over_blocks(rule: BooleanRule, terms: usize) -> bool
+    ensures least { result ≡ true → rule.minimum_number_should_match ≤ 1 }
+    ensures kept { result ≡ true → KeepsOneScore rule.score_combiner }
+{
+    let is_enough = rule.scoring_enabled && rule.minimum_number_should_match <= 1;
+    is_enough && terms <= MOST_TERMS_BY_BLOCKS && keeps_one_score(rule.score_combiner)
+}
 
 // The run over the scorers of terms, which passes over blocks. What they list together is the list of the weight's
 // tree at the boost.
-pub(crate) fn prune_by_blocks<'a, W: StandsFor, C: BoundedBySum, F: FnMut(DocId, Score) -> Score>(
+pub(crate) fn prune_by_blocks<'a, W: StandsFor, F: FnMut(DocId, Score) -> Score, N: Norms>(
     weight: &W,
     alloc: Global,
     reader: &SegmentReader,
-    terms: Vec<TermScorer<'a>>,
+    terms: Vec<TermScorer<'a, N>>,
     boost: u64,
-    combiner: C,
+    combiner: AnyCombiner,
     threshold: Score,
     callback: &mut F,
 ) -> Result<WandCount, QueryError>
-    requires terms { ListTogether ⟦<TermScorer<'a> as DocSet>⟧ (C.combined combiner) (W.tree weight.now) boost reader.now.segment terms.items }
+    requires kept { KeepsOneScore combiner }
+    requires terms { ListTogether ⟦<TermScorer<'a, N> as DocSet>⟧ (any_combined combiner) (W.tree weight.now) boost reader.now.segment terms.items }
     requires allowed { MayPruneTreeAt F.step F.pre (W.tree weight.now) boost reader.now.segment threshold callback.old }
     ensures calls { IfOk result (λ count.
         PrunesTreeBy F.step (W.tree weight.now) boost reader.now.segment threshold callback.old count callback.new) }
     ensures unchanged { OnErr result (callback.new ≡ callback.old) }
     ensures refused { IfErr result (IsRefusalOf (W.tree weight.now) boost) }
 {
-    block_wand(alloc, terms, combiner, threshold, callback)
+    match combiner {
+        AnyCombiner::Sum(sum) => block_wand(alloc, terms, sum, threshold, callback),
+        AnyCombiner::DisjunctionMax(greatest) => {
+            block_wand(alloc, terms, greatest, threshold, callback)
+        }
+        AnyCombiner::DoNothing(_) => unreachable!(),
+    }
 }

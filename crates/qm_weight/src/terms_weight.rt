@@ -77,7 +77,8 @@ impl TermClause {
 /// Must term stands in, no MustNot term, and at least so many of the Should terms.
 ///
 /// The norms of the length ids stand here once: a clause takes five words of the machine, and the weight of a term by
-/// itself a kilobyte more. So its runs go over cursors that borrow the norms, and with scoring off over documents alone.
+/// itself a kilobyte more. So its runs, pruned ones too, go over cursors that borrow the norms, and with scoring off over
+/// documents alone.
 #[derive(Drop)]
 pub struct TermsWeight {
     pub(crate) clauses: Vec<TermClause>,
@@ -186,7 +187,7 @@ impl Weight for TermsWeight {
     }
 
     /// Passes over blocks whose documents cannot score above the threshold, where scoring is on, the combiner is the
-    /// sum or the greatest score, and the clauses are up to 16 terms that should match, one of which is enough, or one
+    /// sum or the greatest score, and the clauses are up to 300 terms that should match, one of which is enough, or one
     /// scorer is left and is that of a term. It takes memory before the first call alone.
     fn for_each_pruning_counted<F: FnMut(DocId, Score) -> Score>(
         &self,

@@ -4,7 +4,7 @@ use Rattle.std.proofs.lemmas.List.Elements.{All-cons, All-nil}
 use Rattle.qm_combine.specs.HeldSum.{held_sum}
 use Rattle.qm_docset.specs.Gather.{common_entries}
 use Rattle.qm_term.specs.TermScorer.{IsTermScorer}
-use Rattle.qm_term.specs.declared.term_scorer.TermScorer.{TermScorer}
+use Rattle.qm_term.specs.OwnNorms.{OwnScorer}
 use Rattle.example_search.specs.Both.{with_scores}
 use Rattle.example_search.proofs.both.Goals as goal
 
@@ -14,7 +14,7 @@ new-requires-clause-placed c =
     let second = c.in-Some-for_term.second in
     let lists = c.in-Some.ensures.lists in
     let lists_too = c.in-Some-for_term.ensures.lists in
-    let placed = λ (s : TermScorer). Unit {0} in
+    let placed = λ (s : OwnScorer). Unit {0} in
     rw c.in_ok-members.ensures.items (record {
       valid = All-cons IsTermScorer first (second ∷ []) lists.valid (All-cons IsTermScorer second [] lists_too.valid (All-nil IsTermScorer));
       placed = All-cons placed first (second ∷ []) tt (All-cons placed second [] tt (All-nil placed));

@@ -237,6 +237,7 @@ impl<S: Scorer, C: ScoreCombiner> DocSet for BufferedDisjunction<S, C> {
 
     fn size_hint(&self) -> u32 {
         let mut hint = 0u32;
+        // the hint is the greatest of the members before this one
         for member in &self.members {
             hint = member.size_hint().max(hint);
         }
@@ -246,6 +247,7 @@ impl<S: Scorer, C: ScoreCombiner> DocSet for BufferedDisjunction<S, C> {
 
     fn cost(&self) -> u64 {
         let mut cost = u64::from(self.window.len_from(self.doc));
+        // the cost is the sum of the window's and of the members' before this one, held at the greatest number
         for member in &self.members {
             cost = cost.saturating_add(member.cost());
         }

@@ -18,6 +18,7 @@ pub(super) fn frequency_at<P: Postings>(members: &[P], doc: DocId) -> u32
     ensures { result ≡ united_frequency (entries_at doc (lists P.DocSet members.now)) }
 {
     let mut frequency = 0u32;
+    // the sum of the frequencies in the document of the members before this one
     for postings in members {
         if postings.doc() == doc {
             frequency = frequency.saturating_add(postings.term_freq());
@@ -32,6 +33,7 @@ pub(super) fn room_of_all<P: Postings>(members: &[P]) -> u64
     ensures { result ≡ united_room (bounds P.DocSet members.now) }
 {
     let mut room = 0u64;
+    // the sum of the rooms of the members before this one
     for member in members {
         room = room.saturating_add(member.max_term_freq());
     }
@@ -60,6 +62,7 @@ pub(super) fn append_positions<P: Postings>(
     ensures limits { bounds P.DocSet members.new ≡ bounds P.DocSet members.old }
     ensures members { ArePlaced P.DocSet members.new }
 {
+    // the members before this one that stand on the document have added their positions
     for member in members.iter_mut() {
         if member.doc() == doc {
             member.append_positions_with_offset(offset, output);

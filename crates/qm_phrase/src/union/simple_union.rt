@@ -68,6 +68,7 @@ impl<D: Postings> DocSet for SimpleUnion<D> {
 
     fn size_hint(&self) -> u32 {
         let mut hint = 0;
+        // the greatest of the hints of the members before this one
         for member in &self.members {
             hint = member.size_hint().max(hint);
         }

@@ -51,6 +51,7 @@ fn are_rows<R: LentRows>(schema: &Schema, max_doc: DocId, rows: &R) -> bool
 fn have_ascending_terms<R: LentRows>(rows: &R) -> bool
     ensures { IsTrue result ↔ IsStrictlySortedBy term_cmp (map (λ r. r.term) (R.rows rows.now)) }
 {
+    // the terms before this place ascend
     for place in 1..rows.row_count() {
         let before = rows.row_at(place - 1);
         let row = rows.row_at(place);

@@ -35,6 +35,7 @@ pub(crate) fn cut_into_blocks(
 {
     let mut starts = Vec::with_capacity(alloc, terms.len())?;
     let mut infos = Vec::with_capacity(alloc, count_blocks(terms, block_len))?;
+    // the terms before this one are cut into blocks
     for entry in terms {
         starts.push(infos.len())?;
         let end = entry.start + entry.doc_freq as usize;
@@ -54,6 +55,7 @@ fn count_blocks(terms: &[TermEntry], block_len: u32) -> usize
     requires { 0 < block_len }
 {
     let mut count: usize = 0;
+    // how many blocks the terms before this one have
     for entry in terms {
         count = count.saturating_add(entry.doc_freq.div_ceil(block_len) as usize);
     }
@@ -118,6 +120,7 @@ fn least_id(ids: &[u8], documents: &[DocId]) -> u8
     ensures { result ≡ least_id ids.now documents.now }
 {
     let mut least = 255;
+    // the least length id of the documents before this one
     for document in documents {
         least = lesser(least, id_of(ids, *document));
     }

@@ -5,6 +5,7 @@ ghost use Rattle.std.specs.Prelude.{IfOk, IfSome, IsOkUnless, None};
 ghost use Rattle.qm_docset.specs.Entry.{greatest_score};
 ghost use Rattle.qm_docset.specs.Words.{words_have};
 ghost use Rattle.qm_docset.specs.declared.numbers.TheConstants.{TERMINATED};
+ghost use Rattle.qm_term.specs.CellSteps.{cell_with};
 
 use crate::wand::front::scored;
 use qm_combine::BoundedBySum;
@@ -136,10 +137,7 @@ fn put<C: BoundedBySum>(
     requires room { (d : _) → C.has_room (slice_index_or cells.old place d).state score }
     requires fits { (d : _) → (slice_index_or cells.old place d).bound + bound ≤ greatest_score }
     ensures words { (x : ℕ) → words_have words.new x ≡ (x == place || words_have words.old x) }
-    ensures cells { (d : _) → cells.new ≡ set cells.old place (record {
-      bound = (slice_index_or cells.old place d).bound + bound;
-      state = C.step (slice_index_or cells.old place d).state score;
-    }) }
+    ensures cells { (d : _) → cells.new ≡ set cells.old place (cell_with C.step score bound (slice_index_or cells.old place d)) }
 {
     words[place / 64].insert_mut((place % 64) as u32);
     let cell = cells[place];

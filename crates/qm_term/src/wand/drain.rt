@@ -2,9 +2,9 @@
 
 ghost use Rattle.std.specs.Prelude.{◌≡◌, ℕ, ◌+◌, ◌*◌, ◌<◌, ◌≤◌, ◌^◌, false, length, pos, true};
 ghost use Rattle.qm_docset.specs.Entry.{greatest_score};
-ghost use Rattle.qm_term.specs.Cells.{AreClear, LackAll, all_shown, cells_clear, cells_end, cells_has, cells_start, hits_shown};
-ghost use Rattle.qm_term.specs.HitRuns.{MayPrune, one_if_above};
-ghost use Rattle.qm_term.specs.Runs.{InRange, MayTurn, Turn};
+ghost use Rattle.qm_term.specs.Cells.{AreClear, LackAll, all_shown, cells_clear, cells_end, cells_has, cells_start, entries_shown};
+ghost use Rattle.qm_term.specs.RunCounts.{one_if_above};
+ghost use Rattle.qm_term.specs.Runs.{InRange, MayPrune, MayTurn, Turn};
 ghost use Rattle.qm_term.specs.RunScorers.{ticks_of};
 ghost use Rattle.qm_term.specs.Stretches.{AreTidy, AreWithin, Drains, GoesOn, TakenOut};
 
@@ -29,7 +29,7 @@ pub(super) fn drain<C: BoundedBySum, F: FnMut(DocId, Score) -> Score>(
     requires words { words ≤ 64 }
     requires beyond { (d : ℕ) → cells_start cells.old + 64 * words ≤ d → cells_has cells.old d ≡ false }
     requires room { ticks_of ticks.old + 4096 < 2 ^ 128 }
-    requires callable { MayPrune (InRange F.step) F.pre threshold callback.old (hits_shown (all_shown C.value cells.old)) }
+    requires callable { MayPrune (InRange F.step) F.pre threshold callback.old (entries_shown (all_shown C.value cells.old)) }
     ensures clear { AreClear cells.new }
     ensures same { cells_clear cells.new ≡ cells_clear cells.old }
     ensures few { ticks_of ticks.new ≤ ticks_of ticks.old + 4096 }
@@ -57,12 +57,12 @@ fn drain_word<C: BoundedBySum, F: FnMut(DocId, Score) -> Score>(
     requires word { word < 64 }
     requires before { LackAll cells.old 0 (cells_start cells.old + 64 * word) }
     requires room { ticks_of ticks.old + length (all_shown C.value cells.old) < 2 ^ 128 }
-    requires callable { MayPrune (InRange F.step) F.pre threshold callback.old (hits_shown (all_shown C.value cells.old)) }
+    requires callable { MayPrune (InRange F.step) F.pre threshold callback.old (entries_shown (all_shown C.value cells.old)) }
     ensures taken { TakenOut cells.old cells.new }
     ensures within { AreWithin (all_shown C.value cells.new) }
     ensures before { LackAll cells.new 0 (cells_start cells.old + 64 * (word + 1)) }
     ensures room { ticks_of ticks.new + length (all_shown C.value cells.new) ≤ ticks_of ticks.old + length (all_shown C.value cells.old) }
-    ensures callable { MayPrune (InRange F.step) F.pre result callback.new (hits_shown (all_shown C.value cells.new)) }
+    ensures callable { MayPrune (InRange F.step) F.pre result callback.new (entries_shown (all_shown C.value cells.new)) }
     ensures run { GoesOn (InRange F.step) C.value threshold callback.old cells.old (ticks_of ticks.old)
         result callback.new cells.new (ticks_of ticks.new) }
 {

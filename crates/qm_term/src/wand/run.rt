@@ -10,16 +10,17 @@ ghost use Rattle.qm_combine.specs.Union.{IsBoundOrMemory};
 ghost use Rattle.qm_docset.specs.Entry.{greatest_score};
 ghost use Rattle.qm_term.specs.HeadRow.{IsRow, row_lists};
 ghost use Rattle.qm_term.specs.Heads.{IsLevel};
-ghost use Rattle.qm_term.specs.HitRuns.{MayPrune, NoneAbove};
+ghost use Rattle.qm_term.specs.RunCounts.{NoneAbove};
 ghost use Rattle.qm_term.specs.Members.{united};
-ghost use Rattle.qm_term.specs.Pivot.{LeavesAll, TakesTurn, front_scores, head, past, postings, total_top};
-ghost use Rattle.qm_term.specs.Runs.{InRange, MayPrune as MayRunOver, MayTurn, Turn};
+ghost use Rattle.qm_term.specs.Pivot.{LeavesAll, front_scores, head, past, postings, total_top};
+ghost use Rattle.qm_term.specs.Runs.{InRange, MayPrune, MayTurn, Turn};
 ghost use Rattle.qm_term.specs.RunScorers.{IsRunScorer, first_score, ticks_of, wand_member};
 ghost use Rattle.qm_term.specs.TermBlocks.{member_of};
 ghost use Rattle.qm_term.specs.TermScorer.{IsTermScorer};
-ghost use Rattle.qm_term.specs.WandRun.{IsNewRun, IsRun, PrunesTerms, RunLeavesAll, RunTakesTurn, terms_left};
+ghost use Rattle.qm_term.specs.WandRun.{IsNewRun, IsRun, PrunesTerms, RunLeavesAll, RunTakesTurn, TurnsRow, terms_left};
 ghost use Rattle.qm_term.specs.WandRun.{run_combiner, run_lists, run_threshold, run_ticks, run_turns, run_union};
 
+use crate::norms::Norms;
 use crate::term_scorer::TermScorer;
 use crate::wand::cells::Cells;
 use crate::wand::front::{TermScorerWithMaxScore, score_level};
@@ -35,24 +36,24 @@ use std::alloc::Global;
 
 /// A run over the scorers of several terms.
 #[derive(Debug, Drop)]
-pub struct WandRun<'a, C> {
+pub struct WandRun<'a, C, N: Norms = [u32; 256]> {
     heads: Vec<Head>,
-    scorers: Vec<TermScorerWithMaxScore<'a>>,
+    scorers: Vec<TermScorerWithMaxScore<'a, N>>,
     combiner: C,
     threshold: Score,
     turns: u128,
     ticks: Ticks,
 }
 
-impl<'a, C: BoundedBySum> WandRun<'a, C> {
+impl<'a, C: BoundedBySum, N: Norms> WandRun<'a, C, N> {
     /// A run over what the scorers have left, from a threshold on. Refused where their greatest scores
     /// add up past the greatest score, and else for want of memory alone.
     pub fn new(
         alloc: Global,
-        scorers: Vec<TermScorer<'a>>,
+        scorers: Vec<TermScorer<'a, N>>,
         combiner: C,
         threshold: Score,
-    ) -> Result<WandRun<'a, C>, QueryError>
+    ) -> Result<WandRun<'a, C, N>, QueryError>
         requires { All IsTermScorer scorers.items }
         ensures made { IfOk result (IsNewRun combiner threshold (map member_of scorers.entry.items)) }
         ensures refused { IsErrOf result QueryError.ScoreBound ↔ (greatest_score < total_top (map member_of scorers.entry.items)) }
@@ -117,8 +118,8 @@ impl<'a, C: BoundedBySum> WandRun<'a, C> {
 /// threshold, ascending, with what the combiner makes of its scores; its answer is the threshold from
 /// then on. It makes the calls of the plain loop, with the same thresholds, and counts as scored only documents
 /// whose blocks' bounds add up to more than the threshold of that moment. It takes memory only before the first call:
-/// for a scorer a kilobyte and a record, and for the documents of a stretch, of which there are at most 4096, a word
-/// and a combiner each.
+/// for a scorer its size and a record, and for the documents of a stretch, of which there are at most 4096, a word and a
+/// combiner each. A scorer that keeps its norms is moved with them, a kilobyte; one that borrows them is not.
 ///
 /// It goes by stretches: while the blocks that the scorers are at are bounded together by the threshold, it passes
 /// to where the first of them ends. Else it takes all documents from there to that end, or some 64 for each
@@ -127,15 +128,15 @@ impl<'a, C: BoundedBySum> WandRun<'a, C> {
 ///
 /// Asks that the callback may be called so, whatever the calls before answered and left of it. Refused
 /// where the scorers' greatest scores add up past the greatest score, and else for want of memory alone.
-pub fn block_wand<C: BoundedBySum, F: FnMut(DocId, Score) -> Score>(
+pub fn block_wand<C: BoundedBySum, F: FnMut(DocId, Score) -> Score, N: Norms>(
     alloc: Global,
-    scorers: Vec<TermScorer<'_>>,
+    scorers: Vec<TermScorer<'_, N>>,
     combiner: C,
     threshold: Score,
     callback: &mut F,
 ) -> Result<WandCount, QueryError>
     requires valid { All IsTermScorer scorers.items }
-    requires callable { MayRunOver (InRange F.step) F.pre threshold callback.old (terms_left (C.combined combiner) scorers.items) }
+    requires callable { MayPrune (InRange F.step) F.pre threshold callback.old (terms_left (C.combined combiner) scorers.items) }
     ensures turns { IfOk result (λ count. count.turns ≤ postings (map member_of scorers.entry.items)) }
     ensures scored { IfOk result (λ count. count.ticks ≤ count.turns) }
     ensures run { IfOk result (λ count.
@@ -170,9 +171,9 @@ pub(super) struct Turned {
 }
 
 // One turn over a row. It finds no pivot where no document can score above the threshold any more.
-pub(super) fn turn_row<C: BoundedBySum, F: FnMut(DocId, Score) -> Score>(
+pub(super) fn turn_row<C: BoundedBySum, F: FnMut(DocId, Score) -> Score, N: Norms>(
     heads: &mut [Head],
-    scorers: &mut [TermScorerWithMaxScore<'_>],
+    scorers: &mut [TermScorerWithMaxScore<'_, N>],
     combiner: C,
     threshold: Score,
     ticks: &mut Ticks,
@@ -188,8 +189,7 @@ pub(super) fn turn_row<C: BoundedBySum, F: FnMut(DocId, Score) -> Score>(
     ensures none { result.found ≡ false →
         LeavesAll threshold callback.old (row_lists scorers.old heads.old) result.threshold callback.new (row_lists scorers.new heads.new) }
     ensures no_tick { result.found ≡ false → result.ticked ≡ false }
-    ensures turn { result.found ≡ true → TakesTurn (InRange F.step) (C.combined combiner)
-        threshold callback.old (row_lists scorers.old heads.old) result.threshold callback.new (row_lists scorers.new heads.new) result.ticked }
+    ensures turn { TurnsRow (InRange F.step) (C.combined combiner) threshold callback.old scorers.old heads.old result callback.new scorers.new heads.new }
 {
     let p = find_pivot(heads, threshold);
     if p >= TERMINATED {
@@ -226,9 +226,9 @@ pub(super) fn turn_row<C: BoundedBySum, F: FnMut(DocId, Score) -> Score>(
 
 // Scores the pivot, on which the first scorers stand, and moves them past it. Answers the threshold after
 // it.
-fn score_pivot<C: BoundedBySum, F: FnMut(DocId, Score) -> Score>(
+fn score_pivot<C: BoundedBySum, F: FnMut(DocId, Score) -> Score, N: Norms>(
     heads: &mut [Head],
-    scorers: &mut [TermScorerWithMaxScore<'_>],
+    scorers: &mut [TermScorerWithMaxScore<'_, N>],
     n: usize,
     p: DocId,
     combiner: C,

@@ -1,20 +1,19 @@
 //! The run over one term.
 
-ghost use Rattle.std.specs.Prelude.{◌≡◌, ℕ, ℤ, ◌+◌, ◌<◌, ◌≤◌, ◌<ℤ◌, ◌≤ℤ◌, ◌^◌, All, cond, length, pos, suc, true, false};
+ghost use Rattle.std.specs.Prelude.{◌≡◌, ℕ, ℤ, ◌+◌, ◌<◌, ◌≤◌, ◌<ℤ◌, ◌≤ℤ◌, ◌^◌, cond, length, pos, suc, true, false};
 ghost use Rattle.qm_docset.specs.Entry.{greatest_score};
-ghost use Rattle.qm_term.specs.HitRuns.{MayPrune};
 ghost use Rattle.qm_term.specs.Members.{bound_at, end_at};
 ghost use Rattle.qm_term.specs.Pivot.{head, looked_at};
-ghost use Rattle.qm_term.specs.Runs.{InRange, MayPrune as MayRunOver, Turn};
-ghost use Rattle.qm_term.specs.RunScorers.{IsRunScorer, first_of, looked_first, ticks_of};
+ghost use Rattle.qm_term.specs.Runs.{InRange, MayPrune, Turn};
+ghost use Rattle.qm_term.specs.RunScorers.{IsRunScorer, looked_by, ticks_of, wand_member};
 ghost use Rattle.qm_term.specs.SingleRun.{IsQuietTo, IsSingle, PassesBlocks, PrunesList};
 ghost use Rattle.qm_term.specs.TermBlocks.{PrunesTerm};
 ghost use Rattle.qm_term.specs.TermScorer.{IsTermScorer, scored_blocks, scored_left};
 
+use crate::norms::Norms;
 use crate::term_scorer::TermScorer;
-use crate::wand::front::{TermScorerWithMaxScore, score_front};
+use crate::wand::front::TermScorerWithMaxScore;
 use crate::wand::ticks::{Ticks, WandCount};
-use qm_combine::SumCombiner;
 use qm_docset::{DocId, Score, TERMINATED};
 
 // What is known of a block: its last document and its bound.
@@ -45,48 +44,48 @@ struct Turned {
 /// turns are the documents scored and the blocks passed. Takes no memory.
 ///
 /// Asks that the callback may be called so, whatever the calls before answered and left of it.
-pub fn block_wand_single_scorer<F: FnMut(DocId, Score) -> Score>(
-    scorer: TermScorer<'_>,
+pub fn block_wand_single_scorer<F: FnMut(DocId, Score) -> Score, N: Norms>(
+    scorer: TermScorer<'_, N>,
     threshold: Score,
     callback: &mut F,
 ) -> WandCount
     requires valid { IsTermScorer scorer }
-    requires callable { MayRunOver (InRange F.step) F.pre threshold callback.old (scored_left scorer) }
+    requires callable { MayPrune (InRange F.step) F.pre threshold callback.old (scored_left scorer) }
     ensures run { PrunesTerm (InRange F.step) threshold callback.old scorer.entry result.ticks result.turns callback.new }
     ensures turns { result.turns ≤ result.ticks + length (scored_blocks scorer.entry) }
 {
-    let mut row = [TermScorerWithMaxScore::from(scorer)];
-    row[0].seek_block(0);
-    run_over(&mut row, threshold, callback)
+    let mut bounded = TermScorerWithMaxScore::from(scorer);
+    bounded.seek_block(0);
+    run_over(&mut bounded, threshold, callback)
 }
 
-// The run over the one scorer of a row, which looks at the block of its document.
-pub(super) fn run_over<F: FnMut(DocId, Score) -> Score>(
-    row: &mut [TermScorerWithMaxScore<'_>],
+// The run over a scorer, which looks at the block of its document.
+pub(super) fn run_over<F: FnMut(DocId, Score) -> Score, N: Norms>(
+    scorer: &mut TermScorerWithMaxScore<'_, N>,
     threshold: Score,
     callback: &mut F,
 ) -> WandCount
-    requires one { length row.old ≡ 1 }
-    requires valid { All IsRunScorer row.old }
-    requires looking { looked_first row.old ≡ looked_at 0 (first_of row.old) }
-    requires few { length (first_of row.old).entries ≤ TERMINATED }
-    requires callable { MayPrune (InRange F.step) F.pre threshold callback.old (first_of row.old).entries }
-    ensures run { (last : ℤ) × PrunesList (InRange F.step) threshold callback.old (first_of row.old) result.ticks result.turns last callback.new }
+    requires valid { IsRunScorer scorer.old }
+    requires looking { looked_by scorer.old ≡ looked_at 0 (wand_member scorer.old) }
+    requires few { length (wand_member scorer.old).entries ≤ TERMINATED }
+    requires callable { MayPrune (InRange F.step) F.pre threshold callback.old (wand_member scorer.old).entries }
+    ensures run { (last : ℤ) × PrunesList (InRange F.step) threshold callback.old (wand_member scorer.old) result.ticks result.turns last callback.new }
 {
     let mut threshold = threshold;
     let mut ticks = Ticks::new();
     let mut turns: u128 = 0;
-    let mut doc = row[0].doc();
+    let mut doc = scorer.doc();
     let mut known = Looked { end: 0, bound: 0 };
     if doc < TERMINATED {
-        known = look(row);
+        known = look(scorer);
     }
+    // a run over what the scorer has from its document on, from this threshold on, is one over all
     while doc < TERMINATED {
-        let turned = single_turn(row, doc, known, threshold, &mut ticks, callback);
+        let turned = single_turn(scorer, doc, known, threshold, &mut ticks, callback);
         threshold = turned.threshold;
         turns += u128::from(turned.turns);
-        doc = row[0].doc();
-        known = look_from(row, doc, known);
+        doc = scorer.doc();
+        known = look_from(scorer, doc, known);
     }
     WandCount {
         turns,
@@ -95,27 +94,29 @@ pub(super) fn run_over<F: FnMut(DocId, Score) -> Score>(
 }
 
 // The block looked at.
-fn look(row: &[TermScorerWithMaxScore<'_>]) -> Looked
-    requires one { length row.now ≡ 1 }
-    requires valid { All IsRunScorer row.now }
-    ensures end { result.end ≡ (looked_first row.now).last }
-    ensures bound { result.bound ≡ (looked_first row.now).bound }
+fn look<N: Norms>(scorer: &TermScorerWithMaxScore<'_, N>) -> Looked
+    requires valid { IsRunScorer scorer.now }
+    ensures end { result.end ≡ (looked_by scorer.now).last }
+    ensures bound { result.bound ≡ (looked_by scorer.now).bound }
 {
     Looked {
-        end: row[0].last_doc_in_block(),
-        bound: row[0].block_max_score() as u64,
+        end: scorer.last_doc_in_block(),
+        bound: scorer.block_max_score() as u64,
     }
 }
 
 // The block of a document: the one that is known, up to its end.
-fn look_from(row: &[TermScorerWithMaxScore<'_>], doc: DocId, known: Looked) -> Looked
-    requires one { length row.now ≡ 1 }
-    requires valid { All IsRunScorer row.now }
+fn look_from<N: Norms>(scorer: &TermScorerWithMaxScore<'_, N>, doc: DocId, known: Looked) -> Looked
+    requires valid { IsRunScorer scorer.now }
     ensures same { doc ≤ known.end → result ≡ known }
-    ensures end { known.end < doc → result.end ≡ (looked_first row.now).last }
-    ensures bound { known.end < doc → result.bound ≡ (looked_first row.now).bound }
+    ensures end { known.end < doc → result.end ≡ (looked_by scorer.now).last }
+    ensures bound { known.end < doc → result.bound ≡ (looked_by scorer.now).bound }
 {
-    if doc <= known.end { known } else { look(row) }
+    if doc <= known.end {
+        known
+    } else {
+        look(scorer)
+    }
 }
 
 // One document: a call where it scores above the threshold. Answers the threshold after it.
@@ -146,27 +147,29 @@ pub(super) fn is_above(bound: u64, threshold: Score) -> bool
 
 // The blocks, from the known one on, up to the first that reaches above the threshold. The scorer looks at
 // them one by one, and moves nowhere.
-fn quiet_blocks(row: &mut [TermScorerWithMaxScore<'_>], known: Looked, threshold: Score) -> Stretch
-    requires one { length row.old ≡ 1 }
-    requires valid { All IsRunScorer row.old }
-    requires below { head (first_of row.old) < TERMINATED }
-    requires end { known.end ≡ end_at (head (first_of row.old)) (first_of row.old).blocks }
-    requires bound { known.bound ≡ bound_at (head (first_of row.old)) (first_of row.old).blocks }
+fn quiet_blocks<N: Norms>(
+    scorer: &mut TermScorerWithMaxScore<'_, N>,
+    known: Looked,
+    threshold: Score,
+) -> Stretch
+    requires valid { IsRunScorer scorer.old }
+    requires below { head (wand_member scorer.old) < TERMINATED }
+    requires end { known.end ≡ end_at (head (wand_member scorer.old)) (wand_member scorer.old).blocks }
+    requires bound { known.bound ≡ bound_at (head (wand_member scorer.old)) (wand_member scorer.old).blocks }
     requires low { pos known.bound ≤ℤ threshold }
-    ensures one { length row.new ≡ 1 }
-    ensures valid { All IsRunScorer row.new }
-    ensures same { first_of row.new ≡ first_of row.old }
+    ensures valid { IsRunScorer scorer.new }
+    ensures same { wand_member scorer.new ≡ wand_member scorer.old }
     ensures from { known.end ≤ result.end }
-    ensures quiet { IsQuietTo threshold result.end (first_of row.old) }
+    ensures quiet { IsQuietTo threshold result.end (wand_member scorer.old) }
     ensures some { 0 < result.blocks }
-    ensures passed { PassesBlocks threshold (suc result.end) result.blocks (first_of row.old) }
+    ensures passed { PassesBlocks threshold (suc result.end) result.blocks (wand_member scorer.old) }
 {
     let mut end = known.end;
     let mut blocks: u32 = 1;
     // no block up to this end reaches above the threshold, and so many end there
     while end < TERMINATED {
-        row[0].seek_block(end + 1);
-        let next = look(row);
+        scorer.seek_block(end + 1);
+        let next = look(scorer);
         if is_above(next.bound, threshold) {
             break;
         }
@@ -178,45 +181,43 @@ fn quiet_blocks(row: &mut [TermScorerWithMaxScore<'_>], known: Looked, threshold
 
 // One turn: the document is scored where its block reaches above the threshold, and else the block is
 // passed, and all behind it that do not reach above it either.
-fn single_turn<F: FnMut(DocId, Score) -> Score>(
-    row: &mut [TermScorerWithMaxScore<'_>],
+fn single_turn<F: FnMut(DocId, Score) -> Score, N: Norms>(
+    scorer: &mut TermScorerWithMaxScore<'_, N>,
     doc: DocId,
     known: Looked,
     threshold: Score,
     ticks: &mut Ticks,
     callback: &mut F,
 ) -> Turned
-    requires one { length row.old ≡ 1 }
-    requires valid { All IsRunScorer row.old }
-    requires here { doc ≡ head (first_of row.old) }
+    requires valid { IsRunScorer scorer.old }
+    requires here { doc ≡ head (wand_member scorer.old) }
     requires below { doc < TERMINATED }
-    requires end { known.end ≡ end_at doc (first_of row.old).blocks }
-    requires bound { known.bound ≡ bound_at doc (first_of row.old).blocks }
+    requires end { known.end ≡ end_at doc (wand_member scorer.old).blocks }
+    requires bound { known.bound ≡ bound_at doc (wand_member scorer.old).blocks }
     requires room { ticks_of ticks.old + 1 < 2 ^ 128 }
-    requires callable { MayPrune (InRange F.step) F.pre threshold callback.old (first_of row.old).entries }
-    ensures one { length row.new ≡ 1 }
-    ensures valid { All IsRunScorer row.new }
-    ensures looking { looked_first row.new ≡ looked_at 0 (first_of row.new) }
-    ensures blocks { (first_of row.new).blocks ≡ (first_of row.old).blocks }
+    requires callable { MayPrune (InRange F.step) F.pre threshold callback.old (wand_member scorer.old).entries }
+    ensures valid { IsRunScorer scorer.new }
+    ensures looking { looked_by scorer.new ≡ looked_at 0 (wand_member scorer.new) }
+    ensures blocks { (wand_member scorer.new).blocks ≡ (wand_member scorer.old).blocks }
     ensures some { 0 < result.turns }
-    ensures fewer { result.turns + length (first_of row.new).entries ≤ length (first_of row.old).entries }
-    ensures later { doc < head (first_of row.new) }
+    ensures fewer { result.turns + length (wand_member scorer.new).entries ≤ length (wand_member scorer.old).entries }
+    ensures later { doc < head (wand_member scorer.new) }
     ensures turn { IsSingle (InRange F.step) threshold callback.old
-        (first_of row.old) result.threshold callback.new (first_of row.new) result.ticked result.turns }
+        (wand_member scorer.old) result.threshold callback.new (wand_member scorer.new) result.ticked result.turns }
     ensures ticks { ticks_of ticks.new ≡ ticks_of ticks.old + cond result.ticked 1 0 }
 {
     if is_above(known.bound, threshold) {
-        let score = score_front(row, 1, &mut SumCombiner::default(), ticks);
+        let score = scorer.score_counted(ticks);
         let threshold = call_at(threshold, doc, score, callback);
-        row[0].advance();
+        scorer.advance();
         Turned {
             ticked: true,
             turns: 1,
             threshold,
         }
     } else {
-        let quiet = quiet_blocks(row, known, threshold);
-        row[0].seek(quiet.end.saturating_add(1).min(TERMINATED));
+        let quiet = quiet_blocks(scorer, known, threshold);
+        scorer.seek(quiet.end.saturating_add(1).min(TERMINATED));
         Turned {
             ticked: false,
             turns: quiet.blocks,

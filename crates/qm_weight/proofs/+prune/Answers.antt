@@ -89,7 +89,7 @@ pub boolean_weight::prune_boolean-prune_any-requires :
 boolean_weight::prune_boolean-prune_any-requires g t c κs within =
     let words = fnmut.words g.row.F g.F.FnMut in
     let segment = c.args.reader.now.segment in
-    let decided : IsDecidedBy c.args.weight.now c.index-occur-0.result.0 = search rules in
+    let decided : IsDecidedBy c.args.weight.now.rule c.index-occur-0.result.0 = search rules in
     let inside : c.deref.result.now ≡ c.index-inside-0.result.1.value = search rules in (
       search (rules, bq.the_lemmas, w.the_lemmas),
       (
@@ -110,7 +110,7 @@ pub boolean_weight::prune_boolean-returns-clause-calls :
 boolean_weight::prune_boolean-returns-clause-calls g t c =
     let words = fnmut.words g.row.F g.F.FnMut in
     let segment = c.args.reader.now.segment in
-    let decided : IsDecidedBy c.args.weight.now c.index-occur-0.result.0 = search rules in
+    let decided : IsDecidedBy c.args.weight.now.rule c.index-occur-0.result.0 = search rules in
     let inside : c.deref.result.now ≡ c.index-inside-0.result.1.value = search rules in
     PrunesTree-from words.step (tree_of c.deref.result.now) (boolean_tree c.args.weight.now) c.args.boost c.args.boost segment c.args.threshold _ _
     c.prune_any.result c.ranges.threshold (λ es listed. list-one_weight c.args.weight.now c.as_slice.result.now c.index-occur-0.result

@@ -8,7 +8,7 @@ ghost use Rattle.qm_weight.specs.Explanations.{IsExplained, IsExplainRefusal};
 ghost use Rattle.qm_weight.specs.TermUnions.{clauses_in, tree_in};
 ghost use Rattle.qm_weight.specs.Weights.{terms_tree};
 
-use crate::explanations::explain_term;
+use crate::explanations::{add_clause, adding_name, explain_term};
 use crate::shared_runs::score_in_node;
 use crate::terms_weight::TermsWeight;
 use crate::terms_weight::clause_in::ClauseIn;
@@ -17,7 +17,7 @@ use crate::terms_weight::term_cursor::scorer_of_term;
 use qm_combine::EmptyScorer;
 use qm_docset::{DocId, Score, TERMINATED};
 use qm_postings::SegmentReader;
-use qm_schema::{Occur, QueryError};
+use qm_schema::QueryError;
 use qm_scorer::AnyScorer;
 use qm_term::Explanation;
 use std::alloc::Global;
@@ -58,21 +58,11 @@ fn explain_by_clauses(
     ensures refused { IfErr result (IsClauseRefusal (clauses_in weight.now) boost) }
 {
     let mut explanation = Explanation::new(alloc, "clauses: Must added, Should combined", score)?;
+    // the clauses before this one that match have their details
     for clause in &weight.clauses {
-        let name = match clause.occur {
-            Occur::Must => "Must",
-            Occur::Should => "Should",
-            Occur::MustNot => continue,
-        };
-        match explain_in(ClauseIn { weight, clause }, alloc, reader, doc, boost) {
-            Ok(mut detail) => {
-                detail.add_context(name)?;
-                explanation.add_detail(detail)?;
-            }
-            Err(QueryError::ScoreBound) => return Err(QueryError::ScoreBound),
-            Err(QueryError::Memory) => return Err(QueryError::Memory),
-            // else the clause doesn't match
-            Err(_) => {}
+        if let Some(name) = adding_name(clause.occur) {
+            let explained = explain_in(ClauseIn { weight, clause }, alloc, reader, doc, boost);
+            add_clause(&mut explanation, name, explained)?;
         }
     }
     Ok(explanation)

@@ -1,4 +1,7 @@
 //! One scorer of the clauses, as a Boolean puts them together.
+//!
+//! Scorers that outlive the weight and those that borrow its norms come from two loops: a trait over the lifetimes of both,
+//! by which one loop would do, is not one for which calls are proved.
 
 ghost use Rattle.std.specs.Prelude.{◌≤◌, IfErr, IfOk, IsOkUnless, IsTrue, OnOk};
 ghost use Rattle.qm_docset.specs.Entry.{greatest_score};
@@ -12,13 +15,12 @@ use crate::boolean_weight::{ClauseScorers, add_scorer, join_clauses};
 use crate::leaf_scorers::{IntoTree, scorer_of_leaf};
 use crate::terms_weight::TermsWeight;
 use crate::terms_weight::clause_in::ClauseIn;
-use crate::terms_weight::term_cursor::{TermCursor, Unscored, scorer_of_term};
+use crate::terms_weight::term_cursor::{Borrowing, TermCursor, Unscored, scorer_of_term};
 use qm_combine::Scorer;
 use qm_docset::DocSet;
 use qm_postings::SegmentReader;
 use qm_schema::QueryError;
 use qm_scorer::AnyScorer;
-use qm_term::BorrowedTermScorer;
 use std::alloc::Global;
 
 // Over the terms' own scorers, which outlive the weight.
@@ -48,9 +50,9 @@ pub(super) fn borrowed_scorer<'a>(
     alloc: Global,
     reader: &'a SegmentReader,
     boost: u64,
-) -> Result<AnyScorer<'a, BorrowedTermScorer<'a>>, QueryError>
+) -> Result<AnyScorer<'a, Borrowing<'a>>, QueryError>
     requires boost { boost ≤ greatest_score }
-    ensures scorer { IfOk result (IsScorerOf ⟦<AnyScorer<'a, BorrowedTermScorer<'a>> as DocSet>⟧ (terms_tree weight.now) boost reader.now.segment) }
+    ensures scorer { IfOk result (IsScorerOf ⟦<AnyScorer<'a, Borrowing<'a>> as DocSet>⟧ (terms_tree weight.now) boost reader.now.segment) }
     ensures refused { IfErr result (IsRefusalOf (terms_tree weight.now) boost) }
 {
     own_scorer(weight, alloc, reader, boost)

@@ -10,6 +10,7 @@ ghost use Rattle.qm_weight.specs.Weights.{terms_tree};
 use crate::shared_runs::{run_node, run_node_slices};
 use crate::terms_weight::TermsWeight;
 use crate::terms_weight::joined::borrowed_scorer;
+use crate::terms_weight::term_cursor::Borrowing;
 use crate::terms_weight::term_union::{
     are_all_should, disjunction_of_terms, is_one_enough, union_of_terms, unscored_disjunction,
     unscored_union,
@@ -19,7 +20,6 @@ use qm_docset::{DocId, Score};
 use qm_postings::SegmentReader;
 use qm_schema::QueryError;
 use qm_scorer::AnyCombiner;
-use qm_term::BorrowedTermScorer;
 use std::alloc::Global;
 
 // A call for each document that matches, with its score, over cursors that borrow the weight's norms.
@@ -77,12 +77,12 @@ fn run_by<C: ScoreCombiner, F: FnMut(DocId, Score)>(
     ensures refused { IfErr result (IsRefusalOf (terms_tree weight.now) 1) }
 {
     if is_one_enough(weight) {
-        let union: BufferedUnionScorer<BorrowedTermScorer<'_>, C> = union_of_terms(
+        let union: BufferedUnionScorer<Borrowing<'_>, C> = union_of_terms(
             weight, alloc, reader, 1, combiner,
         )?;
         run_node(weight, reader, union, callback);
     } else {
-        let disjunction: BufferedDisjunction<BorrowedTermScorer<'_>, C> = disjunction_of_terms(
+        let disjunction: BufferedDisjunction<Borrowing<'_>, C> = disjunction_of_terms(
             weight, alloc, reader, 1, combiner,
         )?;
         run_node(weight, reader, disjunction, callback);

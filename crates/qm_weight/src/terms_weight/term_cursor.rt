@@ -11,7 +11,10 @@ use qm_combine::{ConstScorer, Scorer};
 use qm_docset::DocSet;
 use qm_postings::{SegmentReader, TermDocuments};
 use qm_schema::QueryError;
-use qm_term::{BorrowedTermScorer, TermScorer};
+use qm_term::TermScorer;
+
+// The scorer of a term by norms that stand in the weight.
+pub(super) type Borrowing<'a> = TermScorer<'a, &'a [u32; 256]>;
 
 // The documents of a term, for whom no score is asked.
 pub(super) type Unscored<'a> = ConstScorer<TermDocuments<'a>>;
@@ -33,30 +36,17 @@ pub(super) trait TermCursor<'a>: Scorer {
         ensures refused { IfErr result (IsRefusalOf (tree_in clause.entry) boost) };
 }
 
-// Over norms that stand in the weight.
-impl<'a> TermCursor<'a> for BorrowedTermScorer<'a> {
+impl<'a> TermCursor<'a> for Borrowing<'a> {
     ghost gives_scores = { Unit {0} };
 
     fn of_term(
         clause: ClauseIn<'a>,
         reader: &'a SegmentReader,
         boost: u64,
-    ) -> Result<Option<BorrowedTermScorer<'a>>, QueryError> {
+    ) -> Result<Option<Borrowing<'a>>, QueryError> {
         let weight = clause.weight_at(boost)?;
         let option = clause.clause.index_record_option;
-        Ok(BorrowedTermScorer::for_term(reader, &clause.clause.term, option, weight))
-    }
-}
-
-impl<'a> TermCursor<'a> for TermScorer<'a> {
-    ghost gives_scores = { Unit {0} };
-
-    fn of_term(
-        clause: ClauseIn<'a>,
-        reader: &'a SegmentReader,
-        boost: u64,
-    ) -> Result<Option<TermScorer<'a>>, QueryError> {
-        scorer_of_term(clause, reader, boost)
+        Ok(TermScorer::for_term(reader, &clause.clause.term, option, &weight))
     }
 }
 

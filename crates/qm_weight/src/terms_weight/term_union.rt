@@ -20,13 +20,6 @@ use qm_postings::SegmentReader;
 use qm_schema::{Occur, QueryError};
 use std::alloc::Global;
 
-// Whether the terms should match, and one of them is enough.
-pub(super) fn is_term_union(weight: &TermsWeight) -> bool
-    ensures { result ≡ true → IsTermUnion weight.now }
-{
-    is_one_enough(weight) && are_all_should(weight)
-}
-
 // Whether one of the terms is enough, where they should match.
 pub(super) fn is_one_enough(weight: &TermsWeight) -> bool
     ensures { (result ≡ true) ↔ (weight.now.rule.minimum_number_should_match ≤ 1) }
@@ -44,6 +37,7 @@ pub(super) fn are_all_should(weight: &TermsWeight) -> bool
 fn each_should(clauses: &[TermClause]) -> bool
     ensures { result ≡ true → AreAllShould clauses.now }
 {
+    // all clauses before this one should match
     for clause in clauses {
         if !is_should(clause.occur) {
             return false;
@@ -152,6 +146,7 @@ pub(super) fn cursors_of_terms<'a, T: TermCursor<'a>>(
     ensures refused { IfErr result (IsClauseRefusal (clauses_in weight.now) boost) }
 {
     let mut cursors = Vec::with_capacity(alloc, weight.clauses.len())?;
+    // the cursors so far are those of the clauses so far whose terms are in some document
     for clause in &weight.clauses {
         if let Some(cursor) = T::of_term(ClauseIn { weight, clause }, reader, boost)? {
             cursors.push(cursor)?;

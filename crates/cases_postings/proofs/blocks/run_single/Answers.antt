@@ -5,4 +5,4 @@ use Rattle.cases_postings.proofs.blocks.run_single.Goals as goal
 
 pub block_wand_single_scorer-count-requires-clause-callable :
     goal.block_wand_single_scorer-count-requires-clause-callable
-block_wand_single_scorer-count-requires-clause-callable c = search (rules, MayPrune-always)
+block_wand_single_scorer-count-requires-clause-callable g c = search (rules, MayPrune-always)

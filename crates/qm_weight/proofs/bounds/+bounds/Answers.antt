@@ -26,9 +26,9 @@ bound_of_boolean-returns-in_err-bound t c =
     let b = c.args.boost in
     let item = c.loop-occur-item.result in
     let unfit = subst (λ x. ¬ Fits (tree_of x) b) c.deref.ensures c.in_err-bound.ensures in
-    let all = unfit-clause weight_occur weight_tree wt.scoring_enabled wt.minimum_number_should_match (combiner_of wt.score_combiner)
+    let all = unfit-clause weight_occur weight_tree wt.rule.scoring_enabled wt.rule.minimum_number_should_match (combiner_of wt.rule.score_combiner)
     c.as_slice-occur-items.result.now c.loop-occur.occur-index item b c.loop-occur-item.is c.loop-occur-test.true unfit in
-    let none = subst (λ ws. ¬ Fits (boolean wt.scoring_enabled wt.minimum_number_should_match (combiner_of wt.score_combiner) (clauses_from ws)) b)
+    let none = subst (λ ws. ¬ Fits (boolean wt.rule.scoring_enabled wt.rule.minimum_number_should_match (combiner_of wt.rule.score_combiner) (clauses_from ws)) b)
     c.as_slice-occur-items.ensures.value all in
     search (rules, none)
 
@@ -42,10 +42,10 @@ bound_of_boolean-returns-in_err-sum t c =
     let b = c.args.boost in
     let item = c.loop-occur-item.result in
     let one = subst (λ x. c.in_ok-bound.bound ≡ bound (tree_of x) b) c.deref.ensures c.in_ok-bound.ensures.1 in
-    let all = unfit-sum weight_occur weight_tree wt.scoring_enabled wt.minimum_number_should_match (combiner_of wt.score_combiner)
+    let all = unfit-sum weight_occur weight_tree wt.rule.scoring_enabled wt.rule.minimum_number_should_match (combiner_of wt.rule.score_combiner)
     c.as_slice-occur-items.result.now c.loop-occur.occur-index item b c.loop-occur.sum (bound_added item.0 c.in_ok-bound.bound) c.loop-occur-item.is
     c.loop-occur-test.true c.loop-occur.invariant (ap (bound_added item.0) one) (past_score c.in_err-sum.ensures) in
-    let none = subst (λ ws. ¬ Fits (boolean wt.scoring_enabled wt.minimum_number_should_match (combiner_of wt.score_combiner) (clauses_from ws)) b)
+    let none = subst (λ ws. ¬ Fits (boolean wt.rule.scoring_enabled wt.rule.minimum_number_should_match (combiner_of wt.rule.score_combiner) (clauses_from ws)) b)
     c.as_slice-occur-items.ensures.value all in
     search (rules, none)
 

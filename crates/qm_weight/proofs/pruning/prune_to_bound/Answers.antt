@@ -3,10 +3,9 @@ use Rattle.std.proofs.Common.{rules, ◌≡◌, ◌<◌, ◌≤ℤ◌, ◌⊎◌
 use Rattle.std.proofs.lemmas.Int.{to_z-of_z}
 use Rattle.qm_docset.specs.EntryFacts.{entries-at_end, head_document-bounds, length-entries}
 use Rattle.qm_docset.specs.declared.numbers.TheConstants.{TERMINATED}
-use Rattle.qm_term.specs.HitRuns.{calls_of}
+use Rattle.qm_term.specs.RunCounts.{calls_of}
 use Rattle.qm_term.specs.Runs.{InRange, MayPrune, Plain, Turn}
 use Rattle.qm_term.specs.RunsFacts.{MayPrune-step, Plain-step}
-use Rattle.qm_term.specs.TermBlocks.{hits}
 use Rattle.qm_weight.proofs.RunSteps.{Plain-none, calls-none, calls-nothing, calls-step, one_less}
 use Rattle.qm_weight.proofs.pruning.prune_to_bound.Goals as goal
 use Rattle.qm_weight.proofs.pruning.prune_to_bound.Goals.{then-loop-doc-test+else-threshold-most, else-loop-doc-test}
@@ -41,7 +40,7 @@ loop-doc-preserved g c =
           (subst (λ t. Plain call t c.turn-threshold.new.callback left thresholds last f) same run)) in (
             before.0,
             before.1,
-            omega (arith, before.2, calls-step (to_z w64 c.loop-doc.threshold-bits) thresholds es, ap (λ l. calls_of thresholds (hits l)) are),
+            omega (arith, before.2, calls-step (to_z w64 c.loop-doc.threshold-bits) thresholds es, ap (calls_of thresholds) are),
           );
       scored = omega (arith, invariant.scored, one_less es (omega (arith, below, invariant.here)), ap length are);
       here = c.advance-doc.ensures.head;
@@ -68,9 +67,9 @@ returns g c =
       | inl most ↦ Plain-none call threshold f 0 limits es are most
       | inr none ↦ subst (λ rest. Plain call threshold f rest (replicate (length rest) threshold) threshold f) (sym none) (refl, refl)
     ] in
-    let none : calls_of (replicate (length es) threshold) (hits es) ≡ 0 = elim ended [
+    let none : calls_of (replicate (length es) threshold) es ≡ 0 = elim ended [
       | inl most ↦ calls-none threshold 0 limits es are most
-      | inr none ↦ subst (λ rest. calls_of (replicate (length rest) threshold) (hits rest) ≡ 0) (sym none) (calls-nothing threshold)
+      | inr none ↦ subst (λ rest. calls_of (replicate (length rest) threshold) rest ≡ 0) (sym none) (calls-nothing threshold)
     ] in
     let all = invariant.calls _ threshold f quiet in
     record {

@@ -14,7 +14,7 @@ use Rattle.qm_term.proofs.TermEntryLemmas.{AreCovered-postings, bounded_by_ids, 
 use Rattle.qm_term.proofs.term_scorer.TermScorer.for_term.Goals as goal
 
 pub returns-clause-lists : goal.returns-clause-lists
-returns-clause-lists c =
+returns-clause-lists g c =
     let segment = c.args.segment.now.segment in
     let term = c.args.term.now in
     let weighs = weighing c.args.weight.now in
@@ -36,5 +36,5 @@ returns-clause-lists c =
 
 pub returns-clause-looked : goal.returns-clause-looked
 unfolding scored_looked
-returns-clause-looked c =
+returns-clause-looked g c =
     ap (scored_by c.args.weight.now c.length_ids.result) c.in_ok-postings.ensures.looked

@@ -10,22 +10,22 @@ use Rattle.qm_term.proofs.term_scorer.TermScorer.seek_block.Goals as goal
 
 pub returns-clause-looked : goal.returns-clause-looked
 unfolding scored_looked
-returns-clause-looked c =
+returns-clause-looked g c =
     let s = c.args.self.now in
     ap (scored_by s.similarity_weight s.fieldnorm_reader) c.seek_block.ensures.looked
 
 pub returns-clause-kept : goal.returns-clause-kept
-returns-clause-kept c = λ s. keeps_scoring s c.args.self.now _ refl refl c.seek_block.ensures.kept
+returns-clause-kept g c = λ s. keeps_scoring s c.args.self.now _ refl refl c.seek_block.ensures.kept
 
 pub returns-clause-entries : goal.returns-clause-entries
-returns-clause-entries c =
+returns-clause-entries g c =
     ap (scored_postings (weighing c.args.self.now.similarity_weight) (norm_ids c.args.self.now.fieldnorm_reader)) c.seek_block.ensures.entries
 
 pub returns-clause-limits : goal.returns-clause-limits
-returns-clause-limits c = ap (limited (bm25_bound (weighing c.args.self.now.similarity_weight))) c.seek_block.ensures.limits
+returns-clause-limits g c = ap (limited (bm25_bound (weighing c.args.self.now.similarity_weight))) c.seek_block.ensures.limits
 
 pub returns-clause-valid : goal.returns-clause-valid
-returns-clause-valid c = record {
+returns-clause-valid g c = record {
   postings = c.seek_block.ensures.valid;
   covered = subst (AreCovered (norm_ids c.args.self.now.fieldnorm_reader)) (sym c.seek_block.ensures.entries) c.requires.valid.covered;
   bounded = bounded_after c.args.self.now.fieldnorm_reader _ _ _ _

@@ -10,18 +10,18 @@ use Rattle.qm_term.specs.TermScorerFacts.{AreCovered-drop, IsBoundedBy-drop, bou
 use Rattle.qm_term.proofs.term_scorer.TermScorerDocSet.advance.Goals as goal
 
 pub returns-clause-head : goal.returns-clause-head
-returns-clause-head c = c.advance.ensures.head ∙ sym (head_document-rescored _ _)
+returns-clause-head g c = c.advance.ensures.head ∙ sym (head_document-rescored _ _)
 
 pub returns-clause-entries : goal.returns-clause-entries
-returns-clause-entries c =
+returns-clause-entries g c =
     ap (scored_postings (weighing c.args.self.now.similarity_weight) (norm_ids c.args.self.now.fieldnorm_reader)) c.advance.ensures.entries
     ∙ sym (drop-rescored _ 1 _)
 
 pub returns-clause-limits : goal.returns-clause-limits
-returns-clause-limits c = ap (limited (bm25_bound (weighing c.args.self.now.similarity_weight))) c.advance.ensures.limits
+returns-clause-limits g c = ap (limited (bm25_bound (weighing c.args.self.now.similarity_weight))) c.advance.ensures.limits
 
 pub returns-clause-valid : goal.returns-clause-valid
-returns-clause-valid c = record {
+returns-clause-valid g c = record {
   postings = c.advance.ensures.valid;
   covered = subst (AreCovered (norm_ids c.args.self.now.fieldnorm_reader)) (sym c.advance.ensures.entries) (AreCovered-drop _ 1 _ c.requires.valid.covered);
   bounded = bounded_after c.args.self.now.fieldnorm_reader _ _ _ _ (c.advance.ensures.kept c.args.self.now.postings (ReadsAs-self
@@ -29,10 +29,10 @@ returns-clause-valid c = record {
 }
 
 pub returns-clause-kept : goal.returns-clause-kept
-returns-clause-kept c = λ s. keeps_scoring s c.args.self.now _ refl refl c.advance.ensures.kept
+returns-clause-kept g c = λ s. keeps_scoring s c.args.self.now _ refl refl c.advance.ensures.kept
 
 pub returns-clause-looked : goal.returns-clause-looked
 unfolding scored_looked
-returns-clause-looked c =
+returns-clause-looked g c =
     let s = c.args.self.now in
     ap (scored_by s.similarity_weight s.fieldnorm_reader) c.advance.ensures.looked

@@ -6,16 +6,16 @@ use Rattle.qm_term.specs.TermScorerFacts.{AreCovered-nil, IsBoundedBy-nil, keeps
 use Rattle.qm_term.proofs.term_scorer.TermScorerDocSet.count_including_deleted.Goals as goal
 
 pub returns-clause-count : goal.returns-clause-count
-returns-clause-count c = grind (arith, scoring)
+returns-clause-count g c = grind (arith, scoring)
 
 pub returns-clause-entries : goal.returns-clause-entries
-returns-clause-entries c = grind (arith, scoring)
+returns-clause-entries g c = grind (arith, scoring)
 
 pub returns-clause-limits : goal.returns-clause-limits
-returns-clause-limits c = grind (arith, scoring)
+returns-clause-limits g c = grind (arith, scoring)
 
 pub returns-clause-valid : goal.returns-clause-valid
-returns-clause-valid c = record {
+returns-clause-valid g c = record {
   postings = c.count_including_deleted.ensures.valid;
   covered = subst (AreCovered (norm_ids c.args.self.now.fieldnorm_reader)) (sym c.count_including_deleted.ensures.entries) (AreCovered-nil _);
   bounded = subst (IsBoundedBy c.args.self.now.fieldnorm_reader _)
@@ -23,4 +23,4 @@ returns-clause-valid c = record {
 }
 
 pub returns-clause-kept : goal.returns-clause-kept
-returns-clause-kept c = λ s. keeps_scoring s c.args.self.now _ refl refl c.count_including_deleted.ensures.kept
+returns-clause-kept g c = λ s. keeps_scoring s c.args.self.now _ refl refl c.count_including_deleted.ensures.kept

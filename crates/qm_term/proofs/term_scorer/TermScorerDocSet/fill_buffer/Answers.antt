@@ -6,7 +6,7 @@ use Rattle.qm_term.specs.TermScorerFacts.{AreCovered-drop, IsBoundedBy-drop, bou
 use Rattle.qm_term.proofs.term_scorer.TermScorerDocSet.fill_buffer.Goals as goal
 
 pub returns-clause-valid : goal.returns-clause-valid
-returns-clause-valid c = record {
+returns-clause-valid g c = record {
   postings = c.fill_buffer.ensures.valid;
   covered =
       subst (AreCovered (norm_ids c.args.self.now.fieldnorm_reader)) (sym c.fill_buffer.ensures.entries) (AreCovered-drop _ 64 _ c.requires.valid.covered);
@@ -15,10 +15,10 @@ returns-clause-valid c = record {
 }
 
 pub returns-clause-kept : goal.returns-clause-kept
-returns-clause-kept c = λ s. keeps_scoring s c.args.self.now _ refl refl c.fill_buffer.ensures.kept
+returns-clause-kept g c = λ s. keeps_scoring s c.args.self.now _ refl refl c.fill_buffer.ensures.kept
 
 pub returns-clause-looked : goal.returns-clause-looked
 unfolding scored_looked
-returns-clause-looked c =
+returns-clause-looked g c =
     let s = c.args.self.now in
     ap (scored_by s.similarity_weight s.fieldnorm_reader) c.fill_buffer.ensures.looked

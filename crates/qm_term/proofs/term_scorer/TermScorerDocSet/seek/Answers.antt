@@ -10,18 +10,18 @@ use Rattle.qm_term.specs.TermScorerFacts.{AreCovered-from, IsBoundedBy-from, bou
 use Rattle.qm_term.proofs.term_scorer.TermScorerDocSet.seek.Goals as goal
 
 pub returns-clause-head : goal.returns-clause-head
-returns-clause-head c = c.seek.ensures.head ∙ sym (head_document-rescored _ _)
+returns-clause-head g c = c.seek.ensures.head ∙ sym (head_document-rescored _ _)
 
 pub returns-clause-entries : goal.returns-clause-entries
-returns-clause-entries c =
+returns-clause-entries g c =
     ap (scored_postings (weighing c.args.self.now.similarity_weight) (norm_ids c.args.self.now.fieldnorm_reader)) c.seek.ensures.entries
     ∙ sym (from-rescored _ _ _)
 
 pub returns-clause-limits : goal.returns-clause-limits
-returns-clause-limits c = ap (limited (bm25_bound (weighing c.args.self.now.similarity_weight))) c.seek.ensures.limits
+returns-clause-limits g c = ap (limited (bm25_bound (weighing c.args.self.now.similarity_weight))) c.seek.ensures.limits
 
 pub returns-clause-valid : goal.returns-clause-valid
-returns-clause-valid c = record {
+returns-clause-valid g c = record {
   postings = c.seek.ensures.valid;
   covered = subst (AreCovered (norm_ids c.args.self.now.fieldnorm_reader)) (sym c.seek.ensures.entries) (AreCovered-from _ _ _ c.requires.valid.covered);
   bounded = bounded_after c.args.self.now.fieldnorm_reader _ _ _ _ (c.seek.ensures.kept c.args.self.now.postings (ReadsAs-self c.args.self.now.postings)).blocks
@@ -29,10 +29,10 @@ returns-clause-valid c = record {
 }
 
 pub returns-clause-kept : goal.returns-clause-kept
-returns-clause-kept c = λ s. keeps_scoring s c.args.self.now _ refl refl c.seek.ensures.kept
+returns-clause-kept g c = λ s. keeps_scoring s c.args.self.now _ refl refl c.seek.ensures.kept
 
 pub returns-clause-looked : goal.returns-clause-looked
 unfolding scored_looked
-returns-clause-looked c =
+returns-clause-looked g c =
     let s = c.args.self.now in
     ap (scored_by s.similarity_weight s.fieldnorm_reader) c.seek.ensures.looked

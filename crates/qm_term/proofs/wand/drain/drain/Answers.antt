@@ -2,9 +2,8 @@
 use Rattle.std.proofs.Common.{◌≡◌, ◌∙◌, ℕ, ◌+◌, ◌*◌, List, false, arith, inl, inr, of_z, refl, subst, sym, to_z, w64}
 use Rattle.std.proofs.lemmas.Bool.{cases_Bool, cases_lt, false≢true}
 use Rattle.std.proofs.lemmas.Int.{to_z-of_z}
-use Rattle.qm_term.specs.Cells.{RunsOver, Shown, all_shown, cells_has, cells_start, hits_shown}
-use Rattle.qm_term.specs.HitRuns.{MayPrune}
-use Rattle.qm_term.specs.Runs.{InRange}
+use Rattle.qm_term.specs.Cells.{RunsOver, Shown, all_shown, cells_has, cells_start, entries_shown}
+use Rattle.qm_term.specs.Runs.{InRange, MayPrune}
 use Rattle.qm_term.specs.RunScorers.{ticks_of}
 use Rattle.qm_term.specs.Stretches.{GoesOn}
 use Rattle.qm_term.proofs.StretchShown.{all_few, all_nothing, goes_further, goes_nowhere, lacks_before}
@@ -63,7 +62,7 @@ loop-word-preserved g c =
       within = e.within;
       before = λ d from to. e.before d from (omega (arith, to, inv.taken.alike.start));
       room = omega (arith, e.room, inv.room);
-      may = subst (λ t. MayPrune call (goal.F-pre g) t run.new.callback (hits_shown (all_shown value run.new.cells))) (sym same) e.callable;
+      may = subst (λ t. MayPrune call (goal.F-pre g) t run.new.callback (entries_shown (all_shown value run.new.cells))) (sym same) e.callable;
       goes = goes_further call value start th after c.args.callback.now c.loop-word.callback run.new.callback c.args.cells.now c.loop-word.cells run.new.cells
           (ticks_of c.args.ticks.now) (ticks_of c.loop-word.ticks) (ticks_of run.new.ticks) inv.goes
           (subst (λ t. GoesOn call value th c.loop-word.callback c.loop-word.cells (ticks_of c.loop-word.ticks) t run.new.callback run.new.cells (ticks_of run.new.ticks))

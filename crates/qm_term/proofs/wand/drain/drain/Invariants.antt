@@ -1,8 +1,7 @@
 -- A run over what is left is one over all that was there.
 use Rattle.std.proofs.Common.{◌+◌, ◌*◌, ◌≤◌, length}
-use Rattle.qm_term.specs.Cells.{LackAll, all_shown, cells_start, hits_shown}
-use Rattle.qm_term.specs.HitRuns.{MayPrune}
-use Rattle.qm_term.specs.Runs.{InRange}
+use Rattle.qm_term.specs.Cells.{LackAll, all_shown, cells_start, entries_shown}
+use Rattle.qm_term.specs.Runs.{InRange, MayPrune}
 use Rattle.qm_term.specs.RunScorers.{ticks_of}
 use Rattle.qm_term.specs.Stretches.{AreWithin, GoesOn, TakenOut}
 use Rattle.qm_term.proofs.wand.drain.drain.Given as goal
@@ -15,6 +14,6 @@ invariant-loop-word g l =
       within : AreWithin (all_shown value l.cells);
       before : LackAll l.cells 0 (cells_start l.fn.cells + 64 * l.word);
       room : ticks_of l.ticks + length (all_shown value l.cells) ≤ ticks_of l.fn.ticks + length (all_shown value l.fn.cells);
-      may : MayPrune (InRange (goal.F-step g)) (goal.F-pre g) l.threshold l.callback (hits_shown (all_shown value l.cells));
+      may : MayPrune (InRange (goal.F-step g)) (goal.F-pre g) l.threshold l.callback (entries_shown (all_shown value l.cells));
       goes : GoesOn (InRange (goal.F-step g)) value l.fn.threshold l.fn.callback l.fn.cells (ticks_of l.fn.ticks) l.threshold l.callback l.cells (ticks_of l.ticks);
     }

@@ -3,9 +3,9 @@ use Rattle.std.proofs.Common.{◌≡◌, ◌∙◌, ℕ, ◌+◌, ◌*◌, ◌�
 use Rattle.std.proofs.lemmas.Int.{to_z-of_z}
 use Rattle.std.proofs.lemmas.List.Elements.{All-head, All-tail}
 use Rattle.qm_docset.specs.Entry.{greatest_score}
-use Rattle.qm_term.specs.Cells.{LackAll, Shown, all_shown, cell_of, cells_start, hits_shown}
-use Rattle.qm_term.specs.HitRuns.{MayPrune, one_if_above}
-use Rattle.qm_term.specs.Runs.{InRange, MayTurn, Turn}
+use Rattle.qm_term.specs.Cells.{LackAll, Shown, all_shown, cell_of, cells_start, entries_shown}
+use Rattle.qm_term.specs.RunCounts.{one_if_above}
+use Rattle.qm_term.specs.Runs.{InRange, MayTurn, Turn, MayPrune}
 use Rattle.qm_term.specs.RunScorers.{ticks_of}
 use Rattle.qm_term.specs.Stretches.{AreWithin}
 use Rattle.qm_term.specs.declared.wand.cells.Cell.{Cell}
@@ -79,7 +79,7 @@ score_cell-threshold-requires-clause-room g c =
 pub score_cell-threshold-requires-clause-callable : goal.score_cell-threshold-requires-clause-callable
 score_cell-threshold-requires-clause-callable g c =
     let th = to_z w64 c.loop-doc.threshold-bits in
-    let may = subst (λ (xs : List Shown). MayPrune (InRange (goal.F-step g)) (goal.F-pre g) th c.loop-doc.callback (hits_shown xs))
+    let may = subst (λ (xs : List Shown). MayPrune (InRange (goal.F-step g)) (goal.F-pre g) th c.loop-doc.callback (entries_shown xs))
     (shown g (goal.at.score_cell-threshold-requires-clause-callable g c).After-take-cell) c.loop-doc.invariant.may in
     subst (λ (x : Cell _). MayTurn (goal.F-pre g) th c.loop-doc.callback c.in-Some.doc (g.C.ScoreCombiner.value x.state))
     (sym c.take-cell.ensures.cell) may.0
@@ -105,7 +105,7 @@ loop-doc-preserved g c =
     subst (λ (x : Cell _). Turn call th c.loop-doc.callback doc (pos (value x.state)) after scored.new.callback) e.cell
     (subst (λ t. Turn call th c.loop-doc.callback doc (pos (value c.take-cell.result.state)) t scored.new.callback) (sym same_threshold) scored.ensures.turn) in
     let start = to_z w64 (of_z w64 c.args.threshold) in
-    let may = subst (λ (xs : List Shown). MayPrune call (goal.F-pre g) th c.loop-doc.callback (hits_shown xs)) is inv.may in
+    let may = subst (λ (xs : List Shown). MayPrune call (goal.F-pre g) th c.loop-doc.callback (entries_shown xs)) is inv.may in
     record {
       taken = record {
         had = λ d here. inv.taken.had d (was_there value old new doc c.in-Some.ensures.has e.has e.others d here);

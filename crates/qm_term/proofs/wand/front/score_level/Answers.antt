@@ -1,14 +1,15 @@
-use Rattle.std.proofs.Common.{◌≤◌, ◌≡◌, ◌+◌, ◌∙◌, ◌<◌, ap, arith, get_or, length, map, nat_abs, pos, rules, subst, sum, sym, take, w64}
+use Rattle.std.proofs.Common.{ℕ, ◌≤◌, ◌≡◌, ◌+◌, ◌∙◌, ◌<◌, [], ◌∷◌, ◌++◌, ap, arith, fold, get_or, length, map, nat_abs, pos, rules, subst, sum, sym, take, w64}
 use Rattle.std.proofs.lemmas.Int.{to_z-of_z}
-use Rattle.std.proofs.lemmas.List.{get_or-map, length-map, take_all}
+use Rattle.std.proofs.lemmas.List.{get_or-map, length-map, map-append, take_all, take_more}
 use Rattle.std.proofs.lemmas.List.Elements.{All-take}
-use Rattle.std.proofs.lemmas.List.Sums.{sum-map, sum_by_more_le}
+use Rattle.std.proofs.lemmas.List.Sums.{fold-append, sum-map, sum_by_more_le}
 use mir.Val.{SFits}
 use Rattle.qm_docset.specs.Entry.{greatest_score}
 use Rattle.qm_term.specs.HeadRow.{row_lists}
 use Rattle.qm_term.specs.Heads.{IsRecord, listed, no_member}
 use Rattle.qm_term.specs.Pivot.{front_scores}
 use Rattle.qm_term.specs.RunScorers.{first_score, wand_member}
+use Rattle.qm_term.specs.declared.wand.heads.Head.{Head}
 use Rattle.qm_term.proofs.RowLevel.{level_scores, scores_fit}
 use Rattle.qm_term.proofs.RowRecords.{row_members, zeros}
 use Rattle.qm_term.proofs.wand.front.score_level.Goals as goal
@@ -70,3 +71,23 @@ returns-clause-score g c = λ p level.
     to_z-of_z w64 c.score-2.result fits ∙ c.score-2.ensures
     ∙ ap pos (ap g.C.ScoreCombiner.value c.loop-head.invariant ∙ g.met.C.ScoreCombiner.combines c.args.combiner scores
     ∙ ap (g.C.ScoreCombiner.combined c.args.combiner) all)
+
+pub loop-head-preserved : goal.loop-head-preserved
+loop-head-preserved g c =
+    let ss = c.args.scorers.now in
+    let hs = c.args.heads.now in
+    let ms = map wand_member ss in
+    let items = take c.args.n hs in
+    let i = c.loop-head.head-index in
+    let h = get_or items i zeros in
+    let f : Head → ℕ = λ x. first_score (listed ms x) in
+    let step = g.C.ScoreCombiner.step in
+    let start = g.C.ScoreCombiner.cleared c.args.combiner in
+    let record_of = All-take (IsRecord ms) c.args.n hs c.requires.heads.records.each i zeros c.loop-head-test.true in
+    let inside : h.scorer < length ss = omega (arith, record_of.inside, length-map ss wand_member) in
+    let same : c.score.result ≡ f h = c.score.ensures ∙ ap (λ s. first_score (wand_member s)) c.index-scorers-head.is
+    ∙ ap first_score (sym (get_or-map wand_member ss h.scorer _ no_member inside)) in
+    let more : map f (take (i + 1) items) ≡ map f (take i items) ++ f h ∷ [] = ap (map f) (take_more items i zeros c.loop-head-test.true)
+    ∙ map-append f (take i items) (h ∷ []) in
+    c.update.ensures.state ∙ ap (step c.loop-head.state) (c.scored-one.ensures.score ∙ same) ∙ ap (λ s. step s (f h)) c.loop-head.invariant
+    ∙ sym (ap (fold step start) more ∙ fold-append step start (map f (take i items)) (f h ∷ []))

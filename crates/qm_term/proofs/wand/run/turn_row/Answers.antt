@@ -15,7 +15,7 @@ use Rattle.qm_term.proofs.WandOrder.{postings_permuted, total_permuted}
 use Rattle.qm_term.proofs.WandPlain.{score_may}
 use Rattle.qm_term.proofs.WandRows.{pivot_bounds_le}
 use Rattle.qm_term.proofs.WandSteps.{AreCut-one, fewer_cut, fewer_scored, passes_cut, passes_skip, pivot_scores, scores_pivot, tops_cut, tops_past, tops_to}
-use Rattle.qm_term.proofs.WandSteps.{total_top_to}
+use Rattle.qm_term.proofs.WandSteps.{AreCut-to}
 use Rattle.qm_term.specs.contracts.wand.run.turn_row.F-FnMut as fnmut
 use Rattle.qm_term.proofs.wand.run.turn_row.Goals as goal
 
@@ -143,24 +143,13 @@ pub score_pivot-after-requires-clause-fits : goal.score_pivot-after-requires-cla
 score_pivot-after-requires-clause-fits g c =
     let ss = c.args.scorers.now in
     let hs = c.args.heads.now in
-    let ms = map wand_member ss in
     let ls = row_lists ss hs in
     let p = c.find_pivot-p.result in
-    let th = c.args.threshold in
-    let is : to_z w64 (of_z w64 th) ≡ th = to_z-of_z w64 th c.ranges.threshold in
-    let h : AreMembers ls = row_members ss hs c.requires.row.heads in
-    let v : IsPivot th ls p = pivot_shown ms th p hs c.requires.row.heads.records.each
-    (subst (λ (t : ℤ). IsPivot t (map shown hs) p) is (c.find_pivot-p.ensures.pivot (omega arith))) in
     let bs = c.bounds_at-bounds.new.scorers in
     let bh = c.bounds_at-bounds.new.heads in
     let same : row_lists bs bh ≡ ls = c.bounds_at-bounds.ensures.lists in
-    let above : th <ℤ pos (pivot_bounds p ls) =
-    subst (λ (n : ℕ). th <ℤ pos n) c.bounds_at-bounds.ensures.bounds (rw is at (c.is_above.ensures.yes c.if-not-is_above.false)) in
     let al = row_lists c.align.new.scorers c.align.new.heads in
-    let on_p : all_on p ls ≡ true = ap (all_on p) (sym same) ∙ c.align.ensures.on c.if-not-align.false in
     let lists : al ≡ map (to p) ls = c.align.ensures.lists c.if-not-align.false ∙ ap (map (to p)) same in
-    let combined = g.C.ScoreCombiner.combined c.args.combiner in
-    let sum : combined (scores_of p ls) ≡ combined (front_scores p al) = ap combined (pivot_scores th p ls h v on_p ∙ ap (front_scores p) (sym lists)) in
     tops_to p ls al lists c.requires.fits
 
 pub score_pivot-after-requires-clause-callable : goal.score_pivot-after-requires-clause-callable
@@ -185,7 +174,7 @@ score_pivot-after-requires-clause-callable g c =
     let lists : al ≡ map (to p) ls = c.align.ensures.lists c.if-not-align.false ∙ ap (map (to p)) same in
     let combined = g.C.ScoreCombiner.combined c.args.combiner in
     let sum : combined (scores_of p ls) ≡ combined (front_scores p al) = ap combined (pivot_scores th p ls h v on_p ∙ ap (front_scores p) (sym lists)) in
-    let w = fnmut.words g.row.C g.row.F g.F.FnMut in
+    let w = fnmut.words g.row.C g.row.F g.row.N g.F.FnMut in
     let may = score_may combined (g.met.C.BoundedBySum.within_sum c.args.combiner) (InRange w.step) th p ls
     (map (past p) (map (to p) ls)) h (scores_pivot th p ls h v on_p above) w.pre c.args.callback.now c.requires.callable in
     rw (is, sym sum) may.0
@@ -194,26 +183,15 @@ pub returns-clause-fits : goal.returns-clause-fits
 returns-clause-fits g c =
     let ss = c.args.scorers.now in
     let hs = c.args.heads.now in
-    let ms = map wand_member ss in
     let ls = row_lists ss hs in
     let p = c.find_pivot-p.result in
-    let th = c.args.threshold in
-    let is : to_z w64 (of_z w64 th) ≡ th = to_z-of_z w64 th c.ranges.threshold in
-    let h : AreMembers ls = row_members ss hs c.requires.row.heads in
-    let v : IsPivot th ls p = pivot_shown ms th p hs c.requires.row.heads.records.each
-    (subst (λ (t : ℤ). IsPivot t (map shown hs) p) is (c.find_pivot-p.ensures.pivot (omega arith))) in
     let bs = c.bounds_at-bounds.new.scorers in
     let bh = c.bounds_at-bounds.new.heads in
     let same : row_lists bs bh ≡ ls = c.bounds_at-bounds.ensures.lists in
-    let above : th <ℤ pos (pivot_bounds p ls) =
-    subst (λ (n : ℕ). th <ℤ pos n) c.bounds_at-bounds.ensures.bounds (rw is at (c.is_above.ensures.yes c.if-not-is_above.false)) in
     let al = row_lists c.align.new.scorers c.align.new.heads in
-    let on_p : all_on p ls ≡ true = ap (all_on p) (sym same) ∙ c.align.ensures.on c.if-not-align.false in
     let lists : al ≡ map (to p) ls = c.align.ensures.lists c.if-not-align.false ∙ ap (map (to p)) same in
-    let combined = g.C.ScoreCombiner.combined c.args.combiner in
-    let sum : combined (scores_of p ls) ≡ combined (front_scores p al) = ap combined (pivot_scores th p ls h v on_p ∙ ap (front_scores p) (sym lists)) in
     total_permuted (λ m. m.top) (map (past p) al) (row_lists c.score_pivot-after.new.scorers c.score_pivot-after.new.heads) c.score_pivot-after.ensures.lists
-    ∙ tops_past p al ∙ ap total_top lists ∙ total_top_to p ls
+    ∙ tops_past p al ∙ ap total_top lists ∙ tops_cut p ls (map (to p) ls) (AreCut-to p ls)
 
 pub returns-clause-turn : goal.returns-clause-turn
 returns-clause-turn g c =

@@ -12,7 +12,7 @@ use Rattle.qm_term.proofs.WandRows.{pivot_bounds_le, sum_below, sum_done, sum_mo
 use Rattle.qm_term.proofs.wand.stretches.bounds_from.Goals as goal
 
 pub overflow_add-sum : goal.overflow_add-sum
-overflow_add-sum c =
+overflow_add-sum g c =
     let hs = c.args.heads.now in
     let ss = c.args.scorers.now in
     let ms = map wand_member ss in
@@ -29,7 +29,7 @@ overflow_add-sum c =
     search rules
 
 pub loop-k-preserved : goal.loop-k-preserved
-loop-k-preserved c =
+loop-k-preserved g c =
     let hs = c.args.heads.now in
     let ss = c.args.scorers.now in
     let ms = map wand_member ss in
@@ -51,10 +51,10 @@ loop-k-preserved c =
     }
 
 pub returns-clause-known : goal.returns-clause-known
-returns-clause-known c = λ k d l. c.loop-k.invariant.known k d (omega (arith, l, c.loop-k-test.false))
+returns-clause-known g c = λ k d l. c.loop-k.invariant.known k d (omega (arith, l, c.loop-k-test.false))
 
 pub returns-clause-bounds : goal.returns-clause-bounds
-returns-clause-bounds c =
+returns-clause-bounds g c =
     let hs = c.args.heads.now in
     let ms = map wand_member c.args.scorers.now in
     sum_done (listed ms) hs c.loop-k.k (pivot_bound c.args.low) c.loop-k.sum _ (omega (arith, c.loop-k-test.false)) c.loop-k.invariant.sum

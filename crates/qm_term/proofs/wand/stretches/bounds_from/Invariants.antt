@@ -8,7 +8,7 @@ use Rattle.qm_term.specs.declared.wand.heads.Head.{Head}
 use Rattle.qm_term.proofs.wand.stretches.bounds_from.Given as goal
 
 abbrev pub invariant-loop-k : goal.invariant-loop-k
-invariant-loop-k l = record {
+invariant-loop-k g l = record {
   heads : AreHeads l.scorers l.heads;
   lists : row_lists l.scorers l.heads ≡ row_lists l.fn.scorers l.fn.heads;
   known : (j : ℕ) (d : Head) → j < l.k → IsLookedAt l.low (get_or l.heads j d);

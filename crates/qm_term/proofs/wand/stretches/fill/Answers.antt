@@ -13,13 +13,12 @@ use Rattle.qm_term.specs.declared.wand.cells.Cell.{Cell}
 use Rattle.qm_term.proofs.RowAligns.{mapped_from, mapped_from-before, mapped_from-start, mapped_from-step}
 use Rattle.qm_term.proofs.RowRecords.{row_members}
 use Rattle.qm_term.proofs.RowStretch.{members_from, tops_from}
-use Rattle.qm_term.proofs.StretchCells.{blockbound_le_top, holds_more, holds_none}
+use Rattle.qm_term.proofs.StretchCells.{holds_more, holds_none}
 use Rattle.qm_term.proofs.StretchCuts.{AreCut-cuts, cuts_members}
-use Rattle.qm_term.proofs.WandBounds.{score_le_blockbound}
 use Rattle.qm_term.proofs.WandRows.{rest_at, rest_end}
-use Rattle.qm_term.proofs.WandScores.{sum_scores}
 use Rattle.qm_term.proofs.WandSteps.{tops_cut}
 use Rattle.qm_term.proofs.wand.stretches.fill.Goals as goal
+use Rattle.qm_term.proofs.WandBounds.{blockbound_le_top, scores_le_blockbound}
 
 pub loop-k-init : goal.loop-k-init
 loop-k-init g c =
@@ -67,7 +66,7 @@ take_list-requires-clause-cells g c =
       covered = omega (arith, inv.alike.end, c.requires.end);
       room = λ d after to.
           let bounded : sum (scores_of d rest) ≤ total_top rest =
-          omega (arith, sum_scores d rest, score_le_blockbound d rest are, blockbound_le_top d rest are) in
+          omega (arith, scores_le_blockbound d rest are, blockbound_le_top d rest are) in
           record {
             start = c.requires.begins.state.start;
             scores = scores_of d rest;

@@ -1,7 +1,7 @@
 use Rattle.std.proofs.Common.{◌≤◌, ap, arith, get_or, inl, inr, subst, sym}
 use Rattle.std.proofs.lemmas.Bool.{cases_eq}
+use Rattle.qm_combine.proofs.WindowWords.{get_or-there as any}
 use Rattle.qm_term.specs.declared.wand.heads.Head.{Head}
-use Rattle.qm_term.proofs.HeadRecords.{any}
 use Rattle.qm_term.proofs.RowRecords.{zeros}
 use Rattle.qm_term.proofs.wand.stretches.first_doc.Goals as goal
 

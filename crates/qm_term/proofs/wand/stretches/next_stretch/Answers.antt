@@ -53,7 +53,7 @@ returns-then-not-is_above-clause-past g c =
 
 pub returns-then-not-is_above-clause-run : goal.returns-then-not-is_above-clause-run
 returns-then-not-is_above-clause-run g c =
-    let w = fnmut.words g.row.C g.row.F g.F.FnMut in
+    let w = fnmut.words g.row.C g.row.F g.row.N g.F.FnMut in
     let ls = row_lists c.args.scorers.now c.args.heads.now in
     let gs = c.bounds_from-bounds.new.heads in
     let ts = c.bounds_from-bounds.new.scorers in
@@ -81,7 +81,7 @@ returns-then-not-is_above-clause-run g c =
 
 pub returns-then-not-is_above-clause-callable : goal.returns-then-not-is_above-clause-callable
 returns-then-not-is_above-clause-callable g c =
-    let w = fnmut.words g.row.C g.row.F g.F.FnMut in
+    let w = fnmut.words g.row.C g.row.F g.row.N g.F.FnMut in
     let ls = row_lists c.args.scorers.now c.args.heads.now in
     let gs = c.bounds_from-bounds.new.heads in
     let ts = c.bounds_from-bounds.new.scorers in
@@ -128,14 +128,12 @@ returns-clause-fits g c =
 
 pub returns-clause-past : goal.returns-clause-past
 returns-clause-past g c =
-    let us = row_lists c.bounds_from-bounds.new.scorers c.bounds_from-bounds.new.heads in
     let from = from_cuts c.bounds_from-bounds.new.scorers c.take_stretch-after.new.scorers c.bounds_from-bounds.new.heads c.take_stretch-after.new.heads
     c.stretch_end-end.result c.bounds_from-bounds.ensures.heads c.take_stretch-after.ensures.heads c.take_stretch-after.ensures.lists c.stretch_end-end.ensures.end in
     omega (arith, c.first_doc.ensures.from c.stretch_end-end.result c.stretch_end-end.ensures.end from, c.stretch_end-end.ensures.some)
 
 pub returns-clause-run : goal.returns-clause-run
 returns-clause-run g c =
-    let w = fnmut.words g.row.C g.row.F g.F.FnMut in
     let same = c.bounds_from-bounds.ensures.lists in
     let is = to_z-of_z w64 c.args.threshold c.ranges.threshold in
     let all = cuts_from c.take_stretch-after.new.scorers c.take_stretch-after.new.heads c.first_doc.result

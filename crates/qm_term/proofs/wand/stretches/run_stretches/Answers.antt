@@ -18,7 +18,7 @@ use Rattle.qm_term.proofs.wand.stretches.run_stretches.Goals as goal
 
 pub loop-low-init : goal.loop-low-init
 loop-low-init g c =
-    let w = fnmut.words g.row.C g.row.F g.F.FnMut in
+    let w = fnmut.words g.row.C g.row.F g.row.N g.F.FnMut in
     let hs = c.args.heads.now in
     let ss = c.args.scorers.now in
     let ls = row_lists ss hs in
@@ -50,7 +50,7 @@ next_stretch-moved-requires-clause-callable g c = rw c.loop-low.invariant.same c
 
 pub loop-low-preserved : goal.loop-low-preserved
 loop-low-preserved g c =
-    let w = fnmut.words g.row.C g.row.F g.F.FnMut in
+    let w = fnmut.words g.row.C g.row.F g.row.N g.F.FnMut in
     let inv = c.loop-low.invariant in
     let moved = c.next_stretch-moved in
     let combined = g.C.ScoreCombiner.combined (cells_clear c.args.cells.now).state in
@@ -76,7 +76,7 @@ loop-low-preserved g c =
 
 pub returns : goal.returns
 returns g c =
-    let w = fnmut.words g.row.C g.row.F g.F.FnMut in
+    let w = fnmut.words g.row.C g.row.F g.row.N g.F.FnMut in
     let inv = c.loop-low.invariant in
     let th = to_z w64 c.loop-low.threshold-bits in
     let is = to_z-of_z w64 c.args.threshold c.ranges.threshold in
@@ -88,7 +88,7 @@ returns g c =
     let none = pruned_none combined (g.met.C.BoundedBySum.within_sum own) (InRange w.step) th c.loop-low.callback
     (cuts c.loop-low.low ls) left (λ d held. absurd (omega (
       arith,
-      held_from c.loop-low.low d ls are held,
+      held_from c.loop-low.low d ls held,
       (held_started d (cuts c.loop-low.low ls) left held).1,
       c.loop-low-test.false,
     ))) in

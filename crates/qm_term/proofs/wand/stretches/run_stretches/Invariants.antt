@@ -4,17 +4,16 @@ use Rattle.qm_docset.specs.Entry.{greatest_score}
 use Rattle.qm_docset.specs.declared.numbers.TheConstants.{TERMINATED}
 use Rattle.qm_term.specs.Cells.{AreClear, cells_clear, cuts}
 use Rattle.qm_term.specs.HeadRow.{AreHeads, row_lists}
-use Rattle.qm_term.specs.HitRuns.{MayPrune}
+use Rattle.qm_term.specs.Runs.{InRange, MayPrune}
 use Rattle.qm_term.specs.Members.{united}
 use Rattle.qm_term.specs.Pivot.{Pruned, total_top}
-use Rattle.qm_term.specs.Runs.{InRange}
 use Rattle.qm_term.specs.RunScorers.{ticks_of}
 use Rattle.qm_term.specs.contracts.wand.stretches.run_stretches.F-FnMut as fnmut
 use Rattle.qm_term.proofs.wand.stretches.run_stretches.Given as goal
 
 abbrev pub invariant-loop-low : goal.invariant-loop-low
 invariant-loop-low g l =
-    let w = fnmut.words g.row.C g.row.F g.F.FnMut in
+    let w = fnmut.words g.row.C g.row.F g.row.N g.F.FnMut in
     let combined = g.C.ScoreCombiner.combined (cells_clear l.fn.cells).state in
     let ls = row_lists l.scorers l.heads in
     record {

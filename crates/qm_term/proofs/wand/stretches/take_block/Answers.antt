@@ -1,5 +1,6 @@
 -- A part of the list in one block is taken in.
 use Rattle.std.proofs.Common.{◌≡◌, ◌∙◌, ◌<◌, ◌≤◌, List, ap, arith, get_or, length, map, subst, sym}
+use Rattle.qm_combine.proofs.WindowWords.{get_or-there as any}
 use Rattle.qm_term.specs.Cells.{TakesIn, cells_start}
 use Rattle.qm_term.specs.HeadRow.{row_lists}
 use Rattle.qm_term.specs.Heads.{listed, moved_at, no_member}
@@ -8,7 +9,6 @@ use Rattle.qm_term.specs.Pivot.{cut, head}
 use Rattle.qm_term.specs.RunScorers.{wand_member}
 use Rattle.qm_term.specs.Stretches.{HasCellsFor}
 use Rattle.qm_term.specs.declared.wand.heads.Head.{Head}
-use Rattle.qm_term.proofs.HeadRecords.{any}
 use Rattle.qm_term.proofs.RowRecords.{doc_at, docs_at, zeros}
 use Rattle.std.proofs.lemmas.List.{get_or-map}
 use Rattle.qm_term.proofs.wand.stretches.take_block.Goals as goal

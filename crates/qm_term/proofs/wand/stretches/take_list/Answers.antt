@@ -13,9 +13,10 @@ use Rattle.qm_term.specs.declared.wand.cells.Cell.{Cell}
 use Rattle.qm_term.proofs.RowMoves.{cut_head, row_member}
 use Rattle.qm_term.proofs.RowStretch.{set_set}
 use Rattle.qm_term.proofs.StretchCells.{takes_none, takes_on}
-use Rattle.qm_term.proofs.StretchCuts.{cut_all, cut_cut, cut_reaches}
+use Rattle.qm_term.proofs.StretchCuts.{cut_all, cut_cut}
 use Rattle.qm_term.proofs.WandBounds.{IsMember-cut}
 use Rattle.qm_term.proofs.wand.stretches.take_list.Goals as goal
+use Rattle.qm_docset.proofs.Gathering.{head_document-from}
 
 pub stand_from-doc-requires-clause-below : goal.stand_from-doc-requires-clause-below
 stand_from-doc-requires-clause-below g c = omega (arith, c.requires.some, c.requires.below)
@@ -39,7 +40,7 @@ loop-doc-init g c =
         omega arith,
         c.stand_from-doc.ensures.lists,
         takes_none g.C.ScoreCombiner.step c.args.low (cut c.args.low m) c.args.cells.now (IsMember-cut c.args.low m is)
-            (cut_reaches c.args.low m is (omega (arith, c.requires.some, c.requires.below))),
+            (head_document-from c.args.low m.entries (omega (arith, c.requires.some, c.requires.below))),
       );
     }
 
@@ -58,7 +59,7 @@ take_block-doc-requires-clause-start g c =
     let l : k < length ls = omega (arith, c.requires.within, length-map hs (listed (map wand_member ss))) in
     let at : get_or (row_lists c.loop-doc.scorers c.loop-doc.heads) k no_member ≡ cut part.0 m =
     ap (λ (xs : List Member). get_or xs k no_member) part.3 ∙ get_or-set_same ls k (cut part.0 m) no_member l in
-    omega (arith, part.4.alike.start, c.requires.start, part.2, cut_reaches part.0 m is (omega (arith, part.1, c.requires.below)), ap head at)
+    omega (arith, part.4.alike.start, c.requires.start, part.2, head_document-from part.0 m.entries (omega (arith, part.1, c.requires.below)), ap head at)
 
 pub take_block-doc-requires-clause-cells : goal.take_block-doc-requires-clause-cells
 take_block-doc-requires-clause-cells g c =
@@ -74,7 +75,7 @@ take_block-doc-requires-clause-cells g c =
     let l : k < length ls = omega (arith, c.requires.within, length-map hs (listed (map wand_member ss))) in
     let at : get_or (row_lists c.loop-doc.scorers c.loop-doc.heads) k no_member ≡ cut part.0 m =
     ap (λ (xs : List Member). get_or xs k no_member) part.3 ∙ get_or-set_same ls k (cut part.0 m) no_member l in
-    let from : part.0 ≤ head (cut part.0 m) = cut_reaches part.0 m is (omega (arith, part.1, c.requires.below)) in
+    let from : part.0 ≤ head (cut part.0 m) = head_document-from part.0 m.entries (omega (arith, part.1, c.requires.below)) in
     let on : head m ≤ head (cut part.0 m) = cut_head part.0 m is in
     subst (λ (x : Member). HasCellsFor step cleared c.args.end x c.loop-doc.cells) (sym at) (record {
       covered = omega (arith, part.4.alike.end, c.requires.cells.covered);
@@ -101,7 +102,7 @@ loop-doc-preserved g c =
     let l : k < length ls = omega (arith, c.requires.within, length-map hs (listed (map wand_member ss))) in
     let was = row_lists c.loop-doc.scorers c.loop-doc.heads in
     let at : get_or was k no_member ≡ cut s m = ap (λ (xs : List Member). get_or xs k no_member) part.3 ∙ get_or-set_same ls k (cut s m) no_member l in
-    let from : s ≤ head (cut s m) = cut_reaches s m is (omega (arith, part.1, c.requires.below)) in
+    let from : s ≤ head (cut s m) = head_document-from s m.entries (omega (arith, part.1, c.requires.below)) in
     let block = c.take_block-doc.ensures.block in
     let t = block.stop in
     let more : s ≤ t = omega (arith, from, ap head at, block.past) in
@@ -140,7 +141,7 @@ loop-doc-smaller g c =
       c.loop-doc.invariant.here,
       c.take_block-doc.ensures.answer,
       ap head at,
-      cut_reaches t m (row_member ss hs k c.loop-doc.invariant.heads inside) (omega (arith, block.within, c.requires.below)),
+      head_document-from t m.entries (omega (arith, block.within, c.requires.below)),
       c.loop-doc-test.true,
     )
 

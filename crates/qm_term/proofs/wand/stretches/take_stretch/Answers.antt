@@ -61,7 +61,7 @@ drain-requires-clause-beyond g c = λ d past.
 
 pub drain-requires-clause-callable : goal.drain-requires-clause-callable
 drain-requires-clause-callable g c =
-    let w' = fnmut.words g.row.C g.row.F g.F.FnMut in
+    let w' = fnmut.words g.row.C g.row.F g.row.N g.F.FnMut in
     let hs = c.args.heads.now in
     let ss = c.args.scorers.now in
     let ls = row_lists ss hs in
@@ -81,7 +81,7 @@ returns-clause-same g c = c.drain.ensures.same ∙ c.fill.ensures.alike.clear �
 
 pub returns-clause-run : goal.returns-clause-run
 returns-clause-run g c =
-    let w' = fnmut.words g.row.C g.row.F g.F.FnMut in
+    let w' = fnmut.words g.row.C g.row.F g.row.N g.F.FnMut in
     let hs = c.args.heads.now in
     let ss = c.args.scorers.now in
     let ls = row_lists ss hs in
@@ -107,7 +107,7 @@ returns-clause-run g c =
 
 pub returns-clause-callable : goal.returns-clause-callable
 returns-clause-callable g c =
-    let w' = fnmut.words g.row.C g.row.F g.F.FnMut in
+    let w' = fnmut.words g.row.C g.row.F g.row.N g.F.FnMut in
     let hs = c.args.heads.now in
     let ss = c.args.scorers.now in
     let ls = row_lists ss hs in

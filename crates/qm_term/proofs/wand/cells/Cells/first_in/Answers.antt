@@ -2,8 +2,7 @@
 use Rattle.std.proofs.Common.{◌≡◌, ◌∙◌, ◌+◌, ◌-◌, ◌*◌, ◌<◌, arith, length}
 use Rattle.qm_docset.specs.Words.{words_have}
 use Rattle.qm_docset.proofs.MembersLemmas.{IsFirst}
-use Rattle.qm_combine.proofs.WindowWords.{has_at-from, none_in, unmasked}
-use Rattle.qm_combine.proofs.WindowWords.{first_in}
+use Rattle.qm_combine.proofs.WindowWords.{has_at-from, none_in, unmasked, first_in}
 use Rattle.qm_term.specs.Cells.{cells_has}
 use Rattle.qm_term.proofs.wand.cells.Cells.first_in.Goals as goal
 use Rattle.qm_term.proofs.wand.cells.Cells.first_in.Goals.{In_ok-lowest}

@@ -9,10 +9,12 @@ use Rattle.qm_term.specs.declared.wand.cells.Cell.{Cell}
 use Rattle.qm_term.proofs.RowMoves.{cut_head}
 use Rattle.qm_term.proofs.RunRows.{law, member_score_le}
 use Rattle.qm_term.proofs.StretchCells.{takes_first, takes_none, takes_on}
-use Rattle.qm_term.proofs.StretchCuts.{cut_all, cut_cut, cut_reaches}
+use Rattle.qm_term.proofs.StretchCuts.{cut_all, cut_cut}
 use Rattle.qm_term.proofs.WandBounds.{IsMember-cut}
-use Rattle.qm_term.proofs.WandSteps.{length-next_lt, next-cut}
+use Rattle.qm_term.proofs.WandSteps.{next-cut}
 use Rattle.qm_term.proofs.wand.front.TermScorerWithMaxScore.take_below.Goals as goal
+use Rattle.qm_docset.proofs.Gathering.{head_document-from}
+use Rattle.qm_combine.proofs.Chained.{length-stepped}
 
 pub loop-doc-init : goal.loop-doc-init
 loop-doc-init g c =
@@ -61,7 +63,7 @@ add-requires-clause-room g c =
     let top : (wand_member c.loop-doc.self).top ≡ m.top = ap (λ (n : Member). n.top) part.2 in
     let here : doc ≡ head (cut part.0 m) = c.loop-doc.invariant.here ∙ ap head part.2 in
     let from : part.0 ≤ doc =
-    omega (arith, here, cut_reaches part.0 m (law c.args.self.now c.requires.valid) (omega (arith, part.1, c.requires.end))) in
+    omega (arith, here, head_document-from part.0 m.entries (omega (arith, part.1, c.requires.end))) in
     let on : head m ≤ head (cut part.0 m) = cut_head part.0 m (law c.args.self.now c.requires.valid) in
     let room = c.requires.cells.room doc (omega (arith, on, here)) c.loop-doc-test.true in
     let same : cell_of c.loop-doc.cells doc ≡ cell_of c.args.cells.now doc = (part.3.beyond doc from).1 in
@@ -81,7 +83,7 @@ add-requires-clause-fits g c =
     let part = c.loop-doc.invariant.part in
     let doc = c.loop-doc.doc in
     let here : doc ≡ head (cut part.0 m) = c.loop-doc.invariant.here ∙ ap head part.2 in
-    let from : part.0 ≤ doc = omega (arith, here, cut_reaches part.0 m is (omega (arith, part.1, c.requires.end))) in
+    let from : part.0 ≤ doc = omega (arith, here, head_document-from part.0 m.entries (omega (arith, part.1, c.requires.end))) in
     let on : head m ≤ head (cut part.0 m) = cut_head part.0 m is in
     let same : cell_of c.loop-doc.cells doc ≡ cell_of c.args.cells.now doc = (part.3.beyond doc from).1 in
     omega (
@@ -104,7 +106,7 @@ loop-doc-preserved g c =
     let n = cut s m in
     let own : IsMember n = IsMember-cut s m is in
     let here : head n ≡ doc = sym (c.loop-doc.invariant.here ∙ ap head part.2) in
-    let from : s ≤ doc = omega (arith, here, cut_reaches s m is (omega (arith, part.1, c.requires.end))) in
+    let from : s ≤ doc = omega (arith, here, head_document-from s m.entries (omega (arith, part.1, c.requires.end))) in
     let on : head m ≤ doc = omega (arith, here, cut_head s m is) in
     let below : doc < TERMINATED = omega (arith, c.loop-doc-test.true, c.requires.end) in
     let score : c.score.result ≡ first_score n = c.score.ensures ∙ ap first_score part.2 in
@@ -128,7 +130,7 @@ loop-doc-smaller g c =
     omega (
       arith,
       ap (λ (n : Member). length n.entries) c.advance-doc.ensures.member,
-      length-next_lt m.entries (omega (arith, c.loop-doc.invariant.here, c.loop-doc-test.true, c.requires.end)),
+      length-stepped m.entries (omega (arith, c.loop-doc.invariant.here, c.loop-doc-test.true, c.requires.end)),
     )
 
 pub returns-clause-member : goal.returns-clause-member

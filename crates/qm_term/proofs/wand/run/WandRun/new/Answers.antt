@@ -23,12 +23,11 @@ returns-clause-made g c =
     let ss = c.in_ok-row.row.items in
     let ms = map wand_member ss in
     let hs = c.in_ok-heads.heads.items in
-    let hd = c.deref_mut.result.now in
     let gs = c.settle.new.heads in
     let hw = take c.in_ok-heads.heads.len (gs ++ drop (length gs) hs) in
     let wg : hw ≡ gs = whole _ hs gs c.in_ok-heads.heads.ok.0 (omega (arith, c.settle.auto.heads, ap length c.deref_mut.ensures.value)) in
-    let heads : AreHeads ss hs = subst (λ (xs : List TermScorerWithMaxScore). AreHeads xs hs) c.deref-2.ensures.value c.in_ok-heads.ensures.heads in
-    let lists : row_lists ss hs ≡ ls = subst (λ (xs : List TermScorerWithMaxScore). row_lists xs hs ≡ map wand_member xs)
+    let heads : AreHeads ss hs = subst (λ (xs : List (TermScorerWithMaxScore _ _)). AreHeads xs hs) c.deref-2.ensures.value c.in_ok-heads.ensures.heads in
+    let lists : row_lists ss hs ≡ ls = subst (λ (xs : List (TermScorerWithMaxScore _ _)). row_lists xs hs ≡ map wand_member xs)
     c.deref-2.ensures.value c.in_ok-heads.ensures.lists ∙ c.in_ok-row.ensures.members in
     let moved : IsPermutation hs gs = subst (λ (xs : List Head). IsPermutation xs gs) c.deref_mut.ensures.value c.settle.ensures.permutation in
     let row : IsRow ss hw =
@@ -36,7 +35,7 @@ returns-clause-made g c =
     let order : IsPermutation ls (row_lists ss hw) =
     subst (λ (ys : List Head). IsPermutation ls (row_lists ss ys)) (sym wg)
     (subst (λ (xs : List Member). IsPermutation xs (row_lists ss gs)) lists (lists_permuted ms hs gs moved)) in
-    let fits : total_top ls ≤ greatest_score = subst (λ (xs : List TermScorer). total_top (map member_of xs) ≤ greatest_score) c.deref.ensures.value
+    let fits : total_top ls ≤ greatest_score = subst (λ (xs : List (TermScorer _ _)). total_top (map member_of xs) ≤ greatest_score) c.deref.ensures.value
     (c.tops_fit.ensures.fits c.if-not-tops_fit.false) in
     let few : postings (row_lists ss hw) < 2 ^ 127 =
     omega (arith, postings_permuted ls (row_lists ss hw) order, few_postings scorers c.requires, c.args.scorers.ok.0, c.args.scorers.small) in

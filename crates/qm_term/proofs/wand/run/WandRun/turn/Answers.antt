@@ -1,17 +1,15 @@
 use Rattle.std.proofs.Common.{◌≡◌, ◌∙◌, ℕ, ℤ, ◌+◌, ◌<◌, ◌≤◌, ◌++◌, Bool, List, ap, arith, cond, drop, false, length, refl, rules, subst, sym, take, true, to_z}
-use Rattle.std.proofs.Common.{of_z, w64}
+use Rattle.std.proofs.Common.{of_z, w64, ◌^◌}
 use Rattle.std.specs.List.Sorted.{IsPermutation}
 use mir.Val.{SFits, bool_byte}
 use Rattle.std.proofs.lemmas.Int.{to_z-of_z}
 use Rattle.qm_term.specs.HeadRow.{IsRow, row_lists}
-use Rattle.qm_term.specs.HitRuns.{MayPrune}
+use Rattle.qm_term.specs.Runs.{InRange, MayPrune}
 use Rattle.qm_term.specs.Members.{Member, united}
 use Rattle.qm_term.specs.Pivot.{IsPivot, NoPivot, postings, total_top}
-use Rattle.qm_term.specs.Runs.{InRange}
 use Rattle.qm_term.specs.declared.wand.front.TermScorerWithMaxScore.{TermScorerWithMaxScore}
 use Rattle.qm_term.specs.declared.wand.heads.Head.{Head}
 use Rattle.std.proofs.lemmas.Bool.{true≢false}
-use Rattle.std.proofs.Common.{◌^◌}
 use Rattle.qm_term.proofs.RowRecords.{row_members}
 use Rattle.qm_term.proofs.WandSteps.{whole}
 use Rattle.qm_term.proofs.WandTurns.{no_pivot_above, turn_at}
@@ -34,12 +32,12 @@ ticks_after false true a b h n = absurd (true≢false (n refl))
 
 pub turn_row-turned-requires-clause-row : goal.turn_row-turned-requires-clause-row
 turn_row-turned-requires-clause-row g c =
-    subst (λ (xs : List TermScorerWithMaxScore). IsRow xs c.deref_mut.result.now) (sym c.deref_mut-2.ensures.value)
+    subst (λ (xs : List (TermScorerWithMaxScore _ _)). IsRow xs c.deref_mut.result.now) (sym c.deref_mut-2.ensures.value)
     (subst (λ (ys : List Head). IsRow c.args.self.now.scorers.items ys) (sym c.deref_mut.ensures.value) c.requires.valid.row)
 
 pub turn_row-turned-requires-clause-callable : goal.turn_row-turned-requires-clause-callable
 turn_row-turned-requires-clause-callable g c =
-    let w = fnmut.words g.row.C g.row.F g.F.FnMut in
+    let w = fnmut.words g.row.C g.row.N g.row.F g.F.FnMut in
     let self = c.args.self.now in
     let hs = self.heads.items in
     let ss = self.scorers.items in
@@ -48,7 +46,7 @@ turn_row-turned-requires-clause-callable g c =
     let th = self.threshold in
     let fits : SFits w64 th = search rules in
     let is : to_z w64 (of_z w64 th) ≡ th = to_z-of_z w64 th fits in
-    let same : row_lists sd hd ≡ row_lists ss hs = ap (λ (xs : List TermScorerWithMaxScore). row_lists xs hd) c.deref_mut-2.ensures.value
+    let same : row_lists sd hd ≡ row_lists ss hs = ap (λ (xs : List (TermScorerWithMaxScore _ _)). row_lists xs hd) c.deref_mut-2.ensures.value
     ∙ ap (row_lists ss) c.deref_mut.ensures.value in
     rw is (subst (λ (ms : List Member). MayPrune (InRange w.step) w.pre th c.args.callback.now (united (g.C.ScoreCombiner.combined self.combiner) ms))
     (sym same) c.requires.callable)
@@ -68,16 +66,16 @@ returns-clause-valid g c =
     let bar = c.turn_row-turned.result.threshold in
     let fits_bar : SFits w64 bar = search rules in
     let is_bar : to_z w64 (of_z w64 bar) ≡ bar = to_z-of_z w64 bar fits_bar in
-    let same : row_lists sd hd ≡ row_lists ss hs = ap (λ (xs : List TermScorerWithMaxScore). row_lists xs hd) c.deref_mut-2.ensures.value
+    let same : row_lists sd hd ≡ row_lists ss hs = ap (λ (xs : List (TermScorerWithMaxScore _ _)). row_lists xs hd) c.deref_mut-2.ensures.value
     ∙ ap (row_lists ss) c.deref_mut.ensures.value in
     let hw = take self.heads.len (gs ++ drop (length gs) hs) in
     let sw = take self.scorers.len (ts ++ drop (length ts) ss) in
     let wg : hw ≡ gs = whole _ hs gs self.heads.ok.0 (omega (arith, c.turn_row-turned.auto.heads, ap length c.deref_mut.ensures.value)) in
     let wt : sw ≡ ts = whole _ ss ts self.scorers.ok.0 (omega (arith, c.turn_row-turned.auto.scorers, ap length c.deref_mut-2.ensures.value)) in
-    let after : row_lists sw hw ≡ row_lists ts gs = ap (λ (xs : List TermScorerWithMaxScore). row_lists xs hw) wt ∙ ap (row_lists ts) wg in
+    let after : row_lists sw hw ≡ row_lists ts gs = ap (λ (xs : List (TermScorerWithMaxScore _ _)). row_lists xs hw) wt ∙ ap (row_lists ts) wg in
     let valid = c.requires.valid in
     record {
-      row = subst (λ (xs : List TermScorerWithMaxScore). IsRow xs hw) (sym wt) (subst (λ (ys : List Head). IsRow ts ys) (sym wg) c.turn_row-turned.ensures.row);
+      row = subst (λ (xs : List (TermScorerWithMaxScore _ _)). IsRow xs hw) (sym wt) (subst (λ (ys : List Head). IsRow ts ys) (sym wg) c.turn_row-turned.ensures.row);
       fits = omega (arith, ap total_top after, c.turn_row-turned.ensures.fits, ap total_top same, valid.fits);
       room = room_after c.turn_row-turned.result.found (2 ^ 127) self.turns (postings (row_lists ss hs)) (postings (row_lists sw hw)) valid.room
           (λ e. omega (arith, (c.turn_row-turned.ensures.turn e).fewer, ap postings after, ap postings same))
@@ -104,13 +102,13 @@ returns-clause-none g c =
     let bar = c.turn_row-turned.result.threshold in
     let fits_bar : SFits w64 bar = search rules in
     let is_bar : to_z w64 (of_z w64 bar) ≡ bar = to_z-of_z w64 bar fits_bar in
-    let same : row_lists sd hd ≡ row_lists ss hs = ap (λ (xs : List TermScorerWithMaxScore). row_lists xs hd) c.deref_mut-2.ensures.value
+    let same : row_lists sd hd ≡ row_lists ss hs = ap (λ (xs : List (TermScorerWithMaxScore _ _)). row_lists xs hd) c.deref_mut-2.ensures.value
     ∙ ap (row_lists ss) c.deref_mut.ensures.value in
     let hw = take self.heads.len (gs ++ drop (length gs) hs) in
     let sw = take self.scorers.len (ts ++ drop (length ts) ss) in
     let wg : hw ≡ gs = whole _ hs gs self.heads.ok.0 (omega (arith, c.turn_row-turned.auto.heads, ap length c.deref_mut.ensures.value)) in
     let wt : sw ≡ ts = whole _ ss ts self.scorers.ok.0 (omega (arith, c.turn_row-turned.auto.scorers, ap length c.deref_mut-2.ensures.value)) in
-    let after : row_lists sw hw ≡ row_lists ts gs = ap (λ (xs : List TermScorerWithMaxScore). row_lists xs hw) wt ∙ ap (row_lists ts) wg in
+    let after : row_lists sw hw ≡ row_lists ts gs = ap (λ (xs : List (TermScorerWithMaxScore _ _)). row_lists xs hw) wt ∙ ap (row_lists ts) wg in
     λ e.
     let r = c.turn_row-turned.ensures.none e in record {
       none = subst (λ (ms : List Member). NoPivot th ms) same (subst (λ (t : ℤ). NoPivot t (row_lists sd hd)) is r.none);
@@ -129,7 +127,7 @@ returns-clause-done g c =
     let th = self.threshold in
     let fits : SFits w64 th = search rules in
     let is : to_z w64 (of_z w64 th) ≡ th = to_z-of_z w64 th fits in
-    let same : row_lists sd hd ≡ row_lists ss hs = ap (λ (xs : List TermScorerWithMaxScore). row_lists xs hd) c.deref_mut-2.ensures.value
+    let same : row_lists sd hd ≡ row_lists ss hs = ap (λ (xs : List (TermScorerWithMaxScore _ _)). row_lists xs hd) c.deref_mut-2.ensures.value
     ∙ ap (row_lists ss) c.deref_mut.ensures.value in
     λ e.
     let none = (c.turn_row-turned.ensures.none e).none in
@@ -161,14 +159,14 @@ returns-clause-turn g c =
     let bar = c.turn_row-turned.result.threshold in
     let fits_bar : SFits w64 bar = search rules in
     let is_bar : to_z w64 (of_z w64 bar) ≡ bar = to_z-of_z w64 bar fits_bar in
-    let same : row_lists sd hd ≡ row_lists ss hs = ap (λ (xs : List TermScorerWithMaxScore). row_lists xs hd) c.deref_mut-2.ensures.value
+    let same : row_lists sd hd ≡ row_lists ss hs = ap (λ (xs : List (TermScorerWithMaxScore _ _)). row_lists xs hd) c.deref_mut-2.ensures.value
     ∙ ap (row_lists ss) c.deref_mut.ensures.value in
     let hw = take self.heads.len (gs ++ drop (length gs) hs) in
     let sw = take self.scorers.len (ts ++ drop (length ts) ss) in
     let wg : hw ≡ gs = whole _ hs gs self.heads.ok.0 (omega (arith, c.turn_row-turned.auto.heads, ap length c.deref_mut.ensures.value)) in
     let wt : sw ≡ ts = whole _ ss ts self.scorers.ok.0 (omega (arith, c.turn_row-turned.auto.scorers, ap length c.deref_mut-2.ensures.value)) in
-    let after : row_lists sw hw ≡ row_lists ts gs = ap (λ (xs : List TermScorerWithMaxScore). row_lists xs hw) wt ∙ ap (row_lists ts) wg in
-    let call = InRange (fnmut.words g.row.C g.row.F g.F.FnMut).step in
+    let after : row_lists sw hw ≡ row_lists ts gs = ap (λ (xs : List (TermScorerWithMaxScore _ _)). row_lists xs hw) wt ∙ ap (row_lists ts) wg in
+    let call = InRange (fnmut.words g.row.C g.row.N g.row.F g.F.FnMut).step in
     λ e.
     let r = c.turn_row-turned.ensures.turn e in
     let combined = g.C.ScoreCombiner.combined self.combiner in
