@@ -1,6 +1,6 @@
 -- An index whose open segment has no document, before and after it was bytes.
 use Rattle.std.proofs.Common.{◌≡◌, ◌⊎◌, ℕ, List, [], ◌∷◌, Some, length, map, refl, sym, ap, subst, ◌∙◌, inl, inr, arith}
-use Rattle.std.specs.Prelude.{Err, IsErrOf, Ok, Result}
+use Rattle.std.specs.Prelude.{Err, Ok, Result}
 use Rattle.qm_docset.specs.Members.{members_between}
 use Rattle.qm_folder.specs.Disk.{Contents}
 use Rattle.qm_index.specs.Indexed.{Indexed, indexed, statistics}
@@ -17,8 +17,8 @@ use Rattle.qm_store.specs.Manifest.{IsManifest, ManifestFacts, facts_of, manifes
 use Rattle.qm_store.specs.declared.kept_segment.KeptSegment.{KeptSegment}
 use Rattle.qm_store.specs.declared.store_error.StoreError.{StoreError}
 use Rattle.qm_store.specs.declared.store_error.StoreError.TheVariants.{Damaged, Failed, Memory as StoreMemory, OtherFile, OtherVersion}
-use Rattle.birchagain_bytes.specs.Bytes.{AreBytesOf, AreKnownHeld, IsIndexPacked}
-use Rattle.birchagain_bytes.specs.Refusals.{of_reading}
+use Rattle.birchagain_bytes.specs.Bytes.{AreBytesOf, AreKnownHeld, IsIndexPacked, TellsManifest}
+use Rattle.birchagain_bytes.specs.Refusals.{IsOfOtherBlocks, of_reading}
 use Rattle.birchagain_bytes.specs.declared.refusal.BytesRefusal.{BytesRefusal}
 use Rattle.birchagain_bytes.specs.declared.refusal.BytesRefusal.TheVariants.{Memory, OtherBlocks}
 use Rattle.birchagain_bytes.specs.Packed.{AreThere}
@@ -76,6 +76,11 @@ packed-same known i j bytes holds says is = record {
 pub all-hold : (saved : Index) (bytes : List ℕ) (c : Contents) (are : AreBytesOf [] saved bytes) → AreThere c are.packed.files → HoldsIndex saved c
 all-hold saved bytes c are there = are.packed.holds c there (nothing-known c are.packed.kept (indexed saved).ended)
 
+-- it has the manifest
+pub manifest-there : (saved : Index) (c : Contents) {bytes : List ℕ} (packed : IsIndexPacked [] saved bytes) → AreThere c packed.files →
+    TellsManifest c (manifest_with saved packed.kept)
+manifest-there saved c packed there = record { fits = packed.fits; spelled = packed.manifest c there }
+
 -- an error of a folder in memory is want of memory
 pub folder-refusal : (e : StoreError) → IsFolderRefusal e → of_reading e ≡ Memory
 folder-refusal StoreMemory is = refl
@@ -87,12 +92,11 @@ folder-refusal Damaged is = absurd is
 -- ---- an index of other blocks
 
 -- what is refused is not done
-pub not-done : {X : Type 0} (x : X) → IsErrOf (Ok x) OtherBlocks ⊎ IsErrOf (Ok x) Memory → ⊥
+pub not-done : {X : Type 0} (x : X) → IsOfOtherBlocks (Ok x) → ⊥
 not-done x (inl is) = absurd (cc is)
 not-done x (inr is) = absurd (cc is)
 
 -- a refusal that is passed on is the same
-pub passed-on : {X Y : Type 0} (r : Result Y BytesRefusal) (e : BytesRefusal) → r ≡ Err e → IsErrOf {T = X} (Err e) OtherBlocks ⊎ IsErrOf {T = X} (Err e) Memory →
-    IsErrOf r OtherBlocks ⊎ IsErrOf r Memory
+pub passed-on : {X Y : Type 0} (r : Result Y BytesRefusal) (e : BytesRefusal) → r ≡ Err e → IsOfOtherBlocks {X = X} (Err e) → IsOfOtherBlocks r
 passed-on r e is (inl why) = let same : e ≡ OtherBlocks = cc in inl (is ∙ ap Err same)
 passed-on r e is (inr why) = let same : e ≡ Memory = cc in inr (is ∙ ap Err same)

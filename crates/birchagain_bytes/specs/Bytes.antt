@@ -11,7 +11,7 @@ use Rattle.qm_index.specs.SavedIndex.{AreHeld, IsFileOf, IsHeld, TellsDeleted}
 use Rattle.qm_index.specs.Saving.{HoldsIndex, manifest_with}
 use Rattle.qm_index.specs.declared.index.Index.{Index}
 use Rattle.qm_postings.specs.Segment.{Segment, empty_segment}
-use Rattle.qm_store.specs.Manifest.{IsManifest, manifest_spelled}
+use Rattle.qm_store.specs.Manifest.{IsManifest, ManifestFacts, manifest_spelled}
 use Rattle.qm_store.specs.declared.kept_segment.KeptSegment.{KeptSegment}
 use Rattle.birchagain_bytes.specs.Packed.{AreThere, File, IsFile, IsThere, file_bytes, files_bytes, packed, there_of}
 
@@ -97,6 +97,11 @@ pub record IsManifestAdded (i : Index) (kept : List KeptSegment) (before after :
   pub there : (c : Contents) → IsThere c file → c MANIFEST.now ≡ Some (manifest_spelled (manifest_with i kept))
 
 -- ---- an index
+
+-- Under its name a folder has the manifest that says this.
+pub record TellsManifest (c : Contents) (m : ManifestFacts) : Type 0 where
+  pub fits : IsManifest m
+  pub spelled : c MANIFEST.now ≡ Some (manifest_spelled m)
 
 -- Some bytes are those of an index, but for files of known numbers: a folder that has the others, and of the known ones what
 -- there is, holds the index.

@@ -3,3 +3,4 @@ pub mod Packed
 pub mod PackedFolder
 pub mod Refusals
 pub mod Bytes
+pub mod Fills

@@ -1,5 +1,5 @@
 -- Why an index may not be made bytes, or bytes no index.
-use Rattle.std.specs.Prelude.{◌≢◌, ◌<◌, ℕ, List, [], length}
+use Rattle.std.specs.Prelude.{◌≢◌, ◌<◌, ◌⊎◌, ℕ, IsErrOf, List, [], Result, length}
 use Rattle.qm_index.specs.Indexed.{Indexed}
 use Rattle.qm_store.specs.declared.store_error.StoreError.{StoreError}
 use Rattle.qm_store.specs.declared.store_error.StoreError.TheVariants.{Failed, Memory as StoreMemory, OtherFile as StoreOtherFile, OtherVersion as StoreOtherVersion, Damaged as StoreDamaged}
@@ -41,6 +41,10 @@ IsFromBytesRefusal OpenSegment = ⊥
 IsFromBytesRefusal NoNumber = ⊥
 IsFromBytesRefusal NoRoom = ⊥
 IsFromBytesRefusal refusal = Unit {0}
+
+-- it is refused for blocks of another length, or for want of memory
+abbrev pub IsOfOtherBlocks : {X : Type 0} → Result X BytesRefusal → Type 0
+IsOfOtherBlocks result = IsErrOf result OtherBlocks ⊎ IsErrOf result Memory
 
 -- the first bytes are not those of an index of this version; what stands behind them is not files; or there is no memory
 abbrev pub IsFilesRefusal : BytesRefusal → Type 0

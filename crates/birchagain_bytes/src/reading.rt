@@ -1,14 +1,14 @@
 //! Bytes of which an index is made.
 
-ghost use Rattle.std.specs.Prelude.{◌≡◌, ◌≢◌, ◌↔◌, ◌⊎◌, [], Err, IfErr, IfOk, IsErrOf, IsOkUnless, OnOk, Some};
+ghost use Rattle.std.specs.Prelude.{◌≡◌, ◌≢◌, ◌↔◌, [], Err, IfErr, IfOk, IsErrOf, IsOkUnless, OnOk};
 ghost use Rattle.std.specs.List.Sorted.{IsNonDecreasing};
 ghost use Rattle.qm_index.specs.Indexed.{indexed, statistics};
 ghost use Rattle.qm_index.specs.declared.index.Index.{Index};
-ghost use Rattle.qm_store.specs.Manifest.{IsManifest, ManifestFacts, manifest_spelled};
-ghost use Rattle.birchagain_bytes.specs.Bytes.{AreBytesOf, AreOfOtherBlocks};
+ghost use Rattle.qm_store.specs.Manifest.{ManifestFacts};
+ghost use Rattle.birchagain_bytes.specs.Bytes.{AreBytesOf, AreOfOtherBlocks, TellsManifest};
 ghost use Rattle.birchagain_bytes.specs.Packed.{AreFiles, head_at};
 ghost use Rattle.birchagain_bytes.specs.PackedFolder.{contents_in};
-ghost use Rattle.birchagain_bytes.specs.Refusals.{IsBlocksRefusal, IsFromBytesRefusal};
+ghost use Rattle.birchagain_bytes.specs.Refusals.{IsBlocksRefusal, IsFromBytesRefusal, IsOfOtherBlocks};
 
 use crate::index_files::BLOCK_LEN;
 use crate::packed_files::PackedFiles;
@@ -32,8 +32,7 @@ pub fn from_bytes(alloc: Global, bytes: &[u8]) -> Result<Index, BytesRefusal>
     // What is the bytes of an index is refused for want of memory alone; its norms do not fall, as no searcher's do.
     ensures whole { (saved : Index) → AreBytesOf [] saved bytes.now → IsNonDecreasing (statistics saved).norms
         → IsOkUnless result BytesRefusal.Memory }
-    ensures other_blocks { (saved : Index) → AreOfOtherBlocks saved bytes.now
-        → IsErrOf result BytesRefusal.OtherBlocks ⊎ IsErrOf result BytesRefusal.Memory }
+    ensures other_blocks { (saved : Index) → AreOfOtherBlocks saved bytes.now → IsOfOtherBlocks result }
     // Nothing else is read than files, each once.
     ensures only { OnOk result (AreFiles bytes.now) }
     ensures other_file { IsErrOf result BytesRefusal.OtherFile ↔ (head_at bytes.now ≡ Err BytesRefusal.OtherFile) }
@@ -51,10 +50,10 @@ pub fn from_bytes(alloc: Global, bytes: &[u8]) -> Result<Index, BytesRefusal>
 
 // Whether a manifest is among the files, by which postings are cut into blocks of the length of this library.
 fn check_blocks(alloc: Global, files: &PackedFiles<'_>) -> Result<(), BytesRefusal>
-    ensures whole { (m : ManifestFacts) → IsManifest m → m.block_len ≡ 128 → contents_in files.now.files MANIFEST.now ≡ Some (manifest_spelled m)
+    ensures whole { (m : ManifestFacts) → TellsManifest (contents_in files.now.files) m → m.block_len ≡ 128
         → IsOkUnless result BytesRefusal.Memory }
-    ensures others { (m : ManifestFacts) → IsManifest m → m.block_len ≢ 128 → contents_in files.now.files MANIFEST.now ≡ Some (manifest_spelled m)
-        → IsErrOf result BytesRefusal.OtherBlocks ⊎ IsErrOf result BytesRefusal.Memory }
+    ensures others { (m : ManifestFacts) → TellsManifest (contents_in files.now.files) m → m.block_len ≢ 128
+        → IsOfOtherBlocks result }
     ensures refused { IfErr result IsBlocksRefusal }
 {
     let Some(bytes) = files.file(MANIFEST) else {

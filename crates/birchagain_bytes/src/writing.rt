@@ -1,11 +1,12 @@
 //! An index that is made bytes.
 
-ghost use Rattle.std.specs.Prelude.{◌≡◌, ◌≢◌, ◌↔◌, ◌++◌, [], List, ℕ, All, IfErr, IfOk, IsErrOf, OnErr, OnOk, drop, length, map};
+ghost use Rattle.std.specs.Prelude.{◌≡◌, ◌≢◌, ◌↔◌, [], List, All, IfErr, IfOk, IsErrOf, OnErr, OnOk, map};
 ghost use Rattle.std.specs.List.Sorted.{IsNonDecreasing};
 ghost use Rattle.qm_folder.specs.Names.{AreDistinct};
 ghost use Rattle.qm_index.specs.Indexed.{indexed, statistics};
 ghost use Rattle.qm_index.specs.Saving.{IsSaved};
 ghost use Rattle.birchagain_bytes.specs.Bytes.{AreBytesOf, AreLeftOut};
+ghost use Rattle.birchagain_bytes.specs.Fills.{Fills};
 ghost use Rattle.birchagain_bytes.specs.Packed.{File, IsFile, packed};
 ghost use Rattle.birchagain_bytes.specs.Refusals.{IsPackRefusal, IsToBytesRefusal, IsWriteRefusal};
 
@@ -81,10 +82,9 @@ pub fn write_bytes(
     out: &mut [u8],
     size: &mut usize,
 ) -> Result<(), BytesRefusal>
-    ensures bytes { (indexed index.old).current.block_len ≡ 128 → OnOk result ((bytes : List ℕ) × AreBytesOf known.now index.old bytes
-        × (size.new ≡ length bytes) × (out.new ≡ bytes ++ drop size.new out.old)) }
+    ensures bytes { (indexed index.old).current.block_len ≡ 128 → OnOk result (Fills (AreBytesOf known.now index.old) out.old out.new size.new) }
     ensures left_out { (indexed index.old).current.block_len ≡ 128 → IsNonDecreasing known.now
-        → OnOk result ((bytes : List ℕ) × AreLeftOut known.now bytes × (size.new ≡ length bytes) × (out.new ≡ bytes ++ drop size.new out.old)) }
+        → OnOk result (Fills (AreLeftOut known.now) out.old out.new size.new) }
     ensures saved { OnOk result (IsSaved index.new) }
     ensures untouched { OnErr result (out.new ≡ out.old) }
     ensures size { ¬ IsErrOf result BytesRefusal.NoRoom → OnErr result (size.new ≡ size.old) }

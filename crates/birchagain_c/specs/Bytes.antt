@@ -1,8 +1,9 @@
 -- An index in a handle as bytes, and what calls of it are refused for.
-use Rattle.std.specs.Prelude.{◌≡◌, ◌⊎◌, ◌++◌, ℕ, List, Option, None, Some, Result, Ok, Err, drop, length}
+use Rattle.std.specs.Prelude.{◌≡◌, ◌⊎◌, ℕ, List, Option, None, Some, Result, Ok, Err}
 use Rattle.qm_index.specs.Indexed.{indexed}
 use Rattle.qm_index.specs.declared.index.Index.{Index}
 use Rattle.birchagain_bytes.specs.Bytes.{AreBytesOf}
+use Rattle.birchagain_bytes.specs.Fills.{Fills}
 use Rattle.birchagain_bytes.specs.Statuses.{status_of}
 use Rattle.birchagain_bytes.specs.declared.refusal.BytesRefusal.{BytesRefusal}
 
@@ -18,5 +19,4 @@ IsBytesStatus P (Some i) status = (status ≡ 0) ⊎ ((refusal : BytesRefusal) �
 
 -- so many bytes at the front of an array are those of an index, of which postings are cut into blocks as in this library
 abbrev pub IsWritten : List ℕ → List ℕ → List ℕ → ℕ → Index → Type 0
-IsWritten known before after size i = (indexed i).current.block_len ≡ 128 → (bytes : List ℕ) × AreBytesOf known i bytes
-    × (size ≡ length bytes) × (after ≡ bytes ++ drop size before)
+IsWritten known before after size i = (indexed i).current.block_len ≡ 128 → Fills (AreBytesOf known i) before after size

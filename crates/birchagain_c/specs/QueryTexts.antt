@@ -29,6 +29,10 @@ AreWordsOf number text laid = (q : Query) × SaysBy number text q × AreLaid (we
 abbrev pub AreTold : LaidWords → ℕ → ℕ → Type 0
 AreTold laid bytes words = (bytes ≡ length laid.bytes.items) × (words ≡ length laid.ends.items)
 
+-- words are those of a query, and their lengths are told
+abbrev pub TellsWords : ℕ → List ℕ → ℕ → ℕ → LaidWords → Type 0
+TellsWords number text bytes words laid = AreWordsOf number text laid × AreTold laid bytes words
+
 -- the fronts of two arrays have these words, and the rest is what it was
 pub record HaveWords (laid : LaidWords) (bytes bytes_after ends ends_after : List ℕ) : Type 0 where
   pub letters : bytes_after ≡ laid.bytes.items ++ drop (length laid.bytes.items) bytes

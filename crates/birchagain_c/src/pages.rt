@@ -2,8 +2,9 @@
 //!
 //! Nothing is kept between two calls, so no iterator has to be freed; the buffer is the caller's.
 
-ghost use Rattle.std.specs.Prelude.{◌≡◌, ◌≢◌, ◌↔◌, ◌++◌, IfErr, List, ℕ, None, OnErr, OnOk, drop, length};
+ghost use Rattle.std.specs.Prelude.{◌≡◌, ◌≢◌, ◌↔◌, IfErr, None, OnErr, OnOk, length};
 ghost use Rattle.birchagain.specs.Changes.{IsSame};
+ghost use Rattle.birchagain_bytes.specs.Fills.{Fills};
 ghost use Rattle.birchagain_c.specs.Held.{Holds, content};
 ghost use Rattle.birchagain_c.specs.Statuses.{IsQueryStatus};
 ghost use Rattle.birchagain_queries.specs.Found.{IsPageOf, IsQueryRefusal};
@@ -30,8 +31,7 @@ pub extern "C" fn birchagain_page(
     filled: &mut usize,
 ) -> u32
     ensures same { content index.new.held ≡ content index.old.held }
-    ensures page { result ≡ 0 → Holds (λ i. (documents : List ℕ) × IsPageOf language query.now from (length out.old) i documents
-        × (filled.new ≡ length documents) × (out.new ≡ documents ++ drop filled.new out.old)) index.old.held }
+    ensures page { result ≡ 0 → Holds (λ i. Fills (IsPageOf language query.now from (length out.old) i) out.old out.new filled.new) index.old.held }
     ensures untouched { result ≢ 0 → (out.new ≡ out.old) × (filled.new ≡ filled.old) }
     ensures empty { result ≡ 64 ↔ (index.old.held ≡ None) }
     ensures status { IsQueryStatus (IsQueryRefusal language query.now) index.old.held result }
@@ -57,8 +57,7 @@ fn write_page(
     filled: &mut usize,
 ) -> Result<(), QueryRefusal>
     ensures same { IsSame index.old index.new }
-    ensures page { OnOk result ((documents : List ℕ) × IsPageOf language text.now from (length out.old) index.old documents
-        × (filled.new ≡ length documents) × (out.new ≡ documents ++ drop filled.new out.old)) }
+    ensures page { OnOk result (Fills (IsPageOf language text.now from (length out.old) index.old) out.old out.new filled.new) }
     ensures untouched { OnErr result ((out.new ≡ out.old) × (filled.new ≡ filled.old)) }
     ensures refused { IfErr result (IsQueryRefusal language text.now) }
 {

@@ -2,13 +2,13 @@
 //!
 //! Answers are made before the first is written, so that a refused call leaves the buffer as it was.
 
-ghost use Rattle.std.specs.Prelude.{◌≡◌, ◌≢◌, ◌↔◌, ◌++◌, IfErr, IfOk, List, None, OnErr, OnOk, drop, length};
+ghost use Rattle.std.specs.Prelude.{◌≡◌, ◌≢◌, ◌↔◌, IfErr, IfOk, None, OnErr, OnOk, length};
 ghost use Rattle.birchagain.specs.Changes.{IsSame};
+ghost use Rattle.birchagain_bytes.specs.Fills.{Fills};
 ghost use Rattle.birchagain_c.specs.Held.{Holds, content};
 ghost use Rattle.birchagain_c.specs.Statuses.{IsQueryStatus};
 ghost use Rattle.birchagain_queries.specs.Found.{AreBestOf, IsCountOf, IsQueryRefusal, SaysBy};
 ghost use Rattle.qm_script.specs.Spelled.{query_of};
-ghost use Rattle.qm_script.specs.declared.searching.Hit.{Hit};
 
 use crate::query_statuses::status_after_query;
 use crate::statuses::EMPTY;
@@ -55,8 +55,7 @@ pub extern "C" fn birchagain_top(
     filled: &mut usize,
 ) -> u32
     ensures same { content index.new.held ≡ content index.old.held }
-    ensures best { result ≡ 0 → Holds (λ i. (hits : List Hit) × AreBestOf language query.now (length out.old) i hits
-        × (filled.new ≡ length hits) × (out.new ≡ hits ++ drop filled.new out.old)) index.old.held }
+    ensures best { result ≡ 0 → Holds (λ i. Fills (AreBestOf language query.now (length out.old) i) out.old out.new filled.new) index.old.held }
     ensures untouched { result ≢ 0 → (out.new ≡ out.old) × (filled.new ≡ filled.old) }
     ensures empty { result ≡ 64 ↔ (index.old.held ≡ None) }
     ensures status { IsQueryStatus (IsQueryRefusal language query.now) index.old.held result }
@@ -114,8 +113,7 @@ fn write_best(
     filled: &mut usize,
 ) -> Result<(), QueryRefusal>
     ensures same { IsSame index.old index.new }
-    ensures best { OnOk result ((hits : List Hit) × AreBestOf language text.now (length out.old) index.old hits
-        × (filled.new ≡ length hits) × (out.new ≡ hits ++ drop filled.new out.old)) }
+    ensures best { OnOk result (Fills (AreBestOf language text.now (length out.old) index.old) out.old out.new filled.new) }
     ensures untouched { OnErr result ((out.new ≡ out.old) × (filled.new ≡ filled.old)) }
     ensures refused { IfErr result (IsQueryRefusal language text.now) }
 {

@@ -3,7 +3,7 @@
 //! Where a query isn't understood is told by a call of its own, so that all others have a parameter fewer.
 
 ghost use Rattle.std.specs.Prelude.{◌≡◌, ◌≢◌, ◌<◌, ◌≤◌, IfErr, IfOk, IsErrOf, OnErr, OnOk, length};
-ghost use Rattle.birchagain_c.specs.QueryTexts.{AreTold, AreWordsOf, HaveLess, HaveWords, IsUnderstood, IsUntypedAt, IsWordsRefusal};
+ghost use Rattle.birchagain_c.specs.QueryTexts.{AreTold, AreWordsOf, HaveLess, HaveWords, IsUnderstood, IsUntypedAt, IsWordsRefusal, TellsWords};
 ghost use Rattle.birchagain_c.specs.Statuses.{IsTextStatus};
 ghost use Rattle.birchagain_queries.specs.Found.{IsQueryRefusal};
 ghost use Rattle.birchagain_queries.specs.declared.laid_words.LaidWords.{LaidWords};
@@ -27,9 +27,9 @@ pub extern "C" fn birchagain_query_words(
     bytes_filled: &mut usize,
     words: &mut usize,
 ) -> u32
-    ensures told { result ≡ 0 → (laid : LaidWords) × AreWordsOf language query.now laid × AreTold laid bytes_filled.new words.new
+    ensures told { result ≡ 0 → (laid : LaidWords) × TellsWords language query.now bytes_filled.new words.new laid
         × HaveWords laid bytes.old bytes.new ends.old ends.new }
-    ensures room { result ≡ 86 → (laid : LaidWords) × AreWordsOf language query.now laid × AreTold laid bytes_filled.new words.new }
+    ensures room { result ≡ 86 → (laid : LaidWords) × TellsWords language query.now bytes_filled.new words.new laid }
     ensures untouched { result ≢ 0 → (bytes.new ≡ bytes.old) × (ends.new ≡ ends.old) }
     ensures numbers { result ≢ 0 → result ≢ 86 → (bytes_filled.new ≡ bytes_filled.old) × (words.new ≡ words.old) }
     ensures status { IsTextStatus (IsWordsRefusal language query.now (length bytes.old) (length ends.old)) result }
@@ -47,10 +47,10 @@ fn write_words(
     bytes_filled: &mut usize,
     words: &mut usize,
 ) -> Result<(), QueryRefusal>
-    ensures told { OnOk result ((laid : LaidWords) × AreWordsOf language text.now laid × AreTold laid bytes_filled.new words.new
+    ensures told { OnOk result ((laid : LaidWords) × TellsWords language text.now bytes_filled.new words.new laid
         × HaveWords laid bytes.old bytes.new ends.old ends.new) }
     ensures room { IsErrOf result QueryRefusal.NoRoom
-        → (laid : LaidWords) × AreWordsOf language text.now laid × AreTold laid bytes_filled.new words.new }
+        → (laid : LaidWords) × TellsWords language text.now bytes_filled.new words.new laid }
     ensures untouched { OnErr result ((bytes.new ≡ bytes.old) × (ends.new ≡ ends.old)) }
     ensures numbers { IfErr result (λ why. why ≢ QueryRefusal.NoRoom → (bytes_filled.new ≡ bytes_filled.old) × (words.new ≡ words.old)) }
     ensures refused { IfErr result (IsWordsRefusal language text.now (length bytes.old) (length ends.old)) }

@@ -2,11 +2,12 @@
 use Rattle.std.specs.Prelude.{◌≡◌, ℕ, ℤ, ◌⊎◌, ◌&&◌, ◌++◌, All, Bool, IsTrue, List, Ok, Option, drop, filter, length, nat_le, option_and_then, slice_get}
 use Rattle.std.specs.List.{list_any, range_with_len}
 use Rattle.std.specs.Ordering.{eq_by_cmp}
-use Rattle.birchagain_partitions.specs.BestOverIndexes.{listed}
+use Rattle.birchagain_partitions.specs.BestOverIndexes.{HasSegmentsOf, listed}
 use Rattle.qm_docset.specs.Entry.{Entry, head_document}
 use Rattle.qm_docset.specs.Gather.{documents_below, scores_at}
 use Rattle.qm_docset.specs.declared.numbers.TheConstants.{TERMINATED}
-use Rattle.qm_index.specs.Indexed.{Deletes, Indexed, with_document_of}
+use Rattle.qm_index.specs.Indexed.{Deletes, Indexed, indexed, with_document_of}
+use Rattle.qm_index.specs.declared.index.Index.{Index}
 use Rattle.qm_postings.specs.Blocks.{Block, looked_at, term_blocks}
 use Rattle.qm_postings.specs.Document.{Draft}
 use Rattle.qm_postings.specs.Segment.{Segment, holds, postings_of}
@@ -77,6 +78,10 @@ pub record HasBestIn (q : language.Query) (s : Indexed) (words : Searched) (befo
   pub best : AreBestIn q s words (length before) (listed hits)
   pub counted : length hits ≡ count
   pub front : after ≡ hits ++ drop count before
+
+-- of an index that has the segments of two this holds
+abbrev pub HoldsOfBoth : Index → Index → (Indexed → Type 0) → Type 0
+HoldsOfBoth first second P = (both : Indexed) → HasSegmentsOf (indexed first) (indexed second) both → P both
 
 -- So many documents of all segments of a searcher match a query that is spelled so, and were not deleted.
 pub record IsCountOfSpelled (q : language.Query) (searcher : Searched) (count : ℕ) : Type 0 where

@@ -1,9 +1,8 @@
 //! Callers of what several indexes answer, each of which holds a part of the documents.
 
 ghost use Rattle.std.specs.Prelude.{◌≡◌, IfOk, IfSome};
-ghost use Rattle.birchagain_partitions.specs.BestOverIndexes.{HasSegmentsOf};
-ghost use Rattle.example_callers.specs.Found.{HasBestIn};
-ghost use Rattle.qm_index.specs.Indexed.{Indexed, indexed, statistics};
+ghost use Rattle.example_callers.specs.Found.{HasBestIn, HoldsOfBoth};
+ghost use Rattle.qm_index.specs.Indexed.{statistics};
 ghost use Rattle.qm_script.specs.Searching.{IsCountIn};
 ghost use Rattle.qm_script.specs.Spelled.{query_of};
 
@@ -39,8 +38,8 @@ pub fn best_of_both(
     out: &mut [Hit],
 ) -> Result<usize, PartitionError>
     requires alike { statistics first.old ≡ statistics second.old }
-    ensures best { IfOk result (λ count. (both : Indexed) → HasSegmentsOf (indexed first.old) (indexed second.old) both
-        → HasBestIn (query_of query.now) both (statistics first.old) out.old out.new count) }
+    ensures best { IfOk result (λ count. HoldsOfBoth first.old second.old
+        (λ both. HasBestIn (query_of query.now) both (statistics first.old) out.old out.new count)) }
 {
     let best = best_hits(alloc, first, query, out.len())?;
     let others = best_hits(alloc, second, query, out.len())?;
@@ -60,8 +59,8 @@ pub fn count_in_both(
     first: &mut Index,
     second: &mut Index,
 ) -> Result<Option<u64>, QueryError>
-    ensures count { IfOk result (λ count. IfSome count (λ n. (both : Indexed) → HasSegmentsOf (indexed first.old) (indexed second.old) both
-        → IsCountIn (query_of query.now) both n)) }
+    ensures count { IfOk result (λ count. IfSome count (λ n.
+        HoldsOfBoth first.old second.old (λ both. IsCountIn (query_of query.now) both n))) }
 {
     let count = count_hits(alloc, first, query)?;
     let others = count_hits(alloc, second, query)?;

@@ -3,8 +3,7 @@
 //! A weight is made where it is kept, since each `Result` on its way would copy it.
 
 ghost use Rattle.std.specs.Prelude.{◌≡◌, IfOk, IsOkUnless};
-ghost use Rattle.qm_query.specs.SharedTerms.{shared_tree};
-ghost use Rattle.qm_weight.specs.Weights.{combiner_of, tree_of};
+ghost use Rattle.qm_query.specs.SharedTerms.{JoinsTerms};
 ghost use Rattle.qm_weight.specs.declared.any_weight.AnyWeight.TheVariants.{Boolean, Boost, Const};
 
 use crate::enable_scoring::EnableScoring;
@@ -70,8 +69,8 @@ pub(crate) fn boxed_terms<P: Bm25StatisticsProvider>(
     minimum_number_should_match: usize,
     score_combiner: AnyCombiner,
 ) -> Result<Box<AnyWeight>, QueryError>
-    ensures tree { IfOk result (λ weight. tree_of weight.value
-        ≡ shared_tree P.Bm25StatisticsProvider enable_scoring.entry minimum_number_should_match (combiner_of score_combiner) clauses.items) }
+    ensures tree { IfOk result (λ weight.
+        JoinsTerms P.Bm25StatisticsProvider enable_scoring.entry minimum_number_should_match score_combiner clauses.items weight.value) }
     ensures refused { IsOkUnless result QueryError.Memory }
 {
     let weight = TermsWeight::new(

@@ -5,11 +5,10 @@
 ghost use Rattle.std.specs.Prelude.{◌≡◌, ◌⊎◌, ◌≤ℤ◌, IfErr, IfOk, nat_abs, pos};
 ghost use Rattle.std.specs.List.Sorted.{IsNonDecreasing};
 ghost use Rattle.qm_schema.specs.declared.error.QueryError.TheVariants.{Memory};
-ghost use Rattle.qm_weight.specs.Weights.{shared_weighing, weighing_of};
-ghost use Rattle.qm_query.specs.EnableScoring.{is_enabled};
+ghost use Rattle.qm_weight.specs.Weights.{weighing_of};
 ghost use Rattle.qm_query.specs.Offsets.{terms_of};
 ghost use Rattle.qm_query.specs.QueryTree.{leaf_weighing};
-ghost use Rattle.qm_query.specs.SharedTerms.{shared_norms};
+ghost use Rattle.qm_query.specs.SharedTerms.{WeighsTerms, shared_norms};
 ghost use Rattle.qm_query.specs.WeightRefusals.{IsByProvider};
 
 use crate::enable_scoring::EnableScoring;
@@ -93,8 +92,7 @@ pub(crate) fn shared_weight<P: Bm25StatisticsProvider>(
     terms: &[Term],
 ) -> Result<Score, QueryError>
     ensures weighs { IfOk result (λ weight. pos 0 ≤ℤ weight) }
-    ensures weighing { IfOk result (λ weight. shared_weighing (is_enabled enable_scoring.entry)
-        (shared_norms P.Bm25StatisticsProvider enable_scoring.entry) (nat_abs weight) ≡ leaf_weighing P.Bm25StatisticsProvider enable_scoring.entry terms.now) }
+    ensures weighing { IfOk result (λ weight. WeighsTerms P.Bm25StatisticsProvider enable_scoring.entry terms.now (nat_abs weight)) }
     ensures refused { IfErr result (IsByProvider P.Bm25StatisticsProvider enable_scoring.entry terms.now) }
 {
     match enable_scoring {

@@ -7,7 +7,7 @@ ghost use Rattle.qm_query.specs.EnableScoring.{schema_of};
 ghost use Rattle.qm_query.specs.Fields.{is_served};
 ghost use Rattle.qm_query.specs.QueryScorers.{ScoresIfEnabled};
 ghost use Rattle.qm_query.specs.QueryTree.{query_tree};
-ghost use Rattle.qm_query.specs.SharedTerms.{shared_clause_tree};
+ghost use Rattle.qm_query.specs.SharedTerms.{StandsForQuery};
 ghost use Rattle.qm_query.specs.WeightRefusals.{IsWeightRefusal};
 
 use crate::boxed::boxed;
@@ -114,8 +114,7 @@ impl TermQuery {
         occur: Occur,
     ) -> Result<TermClause, QueryError>
         ensures occur { IfOk result (λ clause. clause_occur clause ≡ occur) }
-        ensures tree { IfOk result (λ clause. shared_clause_tree P.Bm25StatisticsProvider enable_scoring.entry clause
-            ≡ query_tree P.Bm25StatisticsProvider enable_scoring.entry (term_query self.now)) }
+        ensures tree { IfOk result (λ clause. StandsForQuery P.Bm25StatisticsProvider enable_scoring.entry (term_query self.now) clause) }
         ensures served { IfOk result (λ _. IsTrue (is_served (schema_of enable_scoring.entry) (term_query self.now))) }
         ensures refused { IfErr result (IsWeightRefusal P.Bm25StatisticsProvider enable_scoring.entry (term_query self.now)) }
     {

@@ -5,7 +5,7 @@ use Rattle.birchagain_c.proofs.query_texts.write_words.Goals as goal
 
 pub returns-clause-told : goal.returns-clause-told
 returns-clause-told c =
-    on_ok_weaker c.write_laid.result (λ has. (c.in_ok-laid.laid, c.in_ok-laid.ensures.words, c.write_laid.ensures.told, has)) c.write_laid.ensures.written
+    on_ok_weaker c.write_laid.result (λ has. (c.in_ok-laid.laid, (c.in_ok-laid.ensures.words, c.write_laid.ensures.told), has)) c.write_laid.ensures.written
 
 pub returns-clause-refused : goal.returns-clause-refused
 returns-clause-refused c =
