@@ -6,9 +6,9 @@
 
 wrong_edit.py says what an edit is. A function's proof stands on the contracts of what it calls and not on
 their bodies, so edits of different functions are tried in one check. A batch has at most one edit of a
-function, and of a cycle of functions, which have one proof. An edit counts only where the check says of its
-own function that it is not proved and shows which goal fails; that a function only calls another which is
-not proved, or that a proof only lost a name, does not count (refusals.py). What a batch leaves undecided so is
+function. Functions of a cycle have one proof, whose goals are named by the functions. An edit counts only where the
+check says of its own function that it is not proved and shows which goal fails; that a function only calls another
+which is not proved, or that a proof only lost a name, does not count (refusals.py). What a batch leaves undecided so is
 tried once more, and at last alone, with the names that it lost changed along in its proof (renamed_proof.py). First the crate as it stands must be proved for these functions; each check of a
 batch begins with the work that this one kept. Right behind `rt ci`, which has proved it, the first batch goes
 without that, and the others begin with the work that the first one kept, two beside each other where there are
@@ -46,7 +46,7 @@ sys.path.insert(0, HERE)
 
 import kit  # noqa: E402
 import refused_before  # noqa: E402
-from refusals import Verdict, messages, own_folders  # noqa: E402
+from refusals import Verdict, goals_of, messages, own_folders  # noqa: E402
 from renamed_proof import renamed, renames_of  # noqa: E402
 from wrong_edit import COMPILER, BadEdit, Edit, batches_of  # noqa: E402
 
@@ -227,7 +227,7 @@ class Trial:
             if len(batch) == 1 and status is not None and verdict.is_undecided():
                 verdict, along = self.with_renamed_proof(edit, lines, seed, room), ", its proof's names changed along"
             refusal = verdict.refusal() if status is not None else None
-            if refusal:
+            if refusal and is_told_apart(edit, batch, refusal[1]):
                 self.settle(edit, *refusal, f"{how}{along}", is_kept)
             elif len(batch) > 1 and (status is not None or self.is_read(edit, seed)):
                 left.append(edit)
@@ -306,6 +306,13 @@ class Trial:
                 it.write("\n".join(lines))
         is_answer = re.fullmatch(r"only=\d+ proved=\d+", lines[-1]) and status in (0, 1)
         return (status if is_answer else None), lines
+
+
+def is_told_apart(edit, batch, message):
+    """Whether a message is about this edit: that of a proof which a cycle's functions share names a goal of one of them,
+    where other edits of the batch are of that cycle too."""
+    is_shared = any(edit.cycles() & other.cycles() for other in batch if other is not edit)
+    return not is_shared or any("::" in it for it in goals_of(message))
 
 
 def linked(folder, to):

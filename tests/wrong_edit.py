@@ -40,7 +40,7 @@ class Edit:
             raise BadEdit(f"there is no {self.path}: {lacking}")
         if says_the_same(*("\n".join(it[at] for it in self.pairs) for at in (1, 2))):
             raise BadEdit("it says what the code says, by other names or in another order")
-        # what it can break the proof of: two edits of one unit are not told apart by one check
+        # what it can break the proof of: two edits of one function are not told apart by one check
         self.units = {self.path}
         self.apply(crate, {}, self.units)
         if not self.changes_checked():
@@ -55,7 +55,7 @@ class Edit:
             if found != 1:
                 raise BadEdit(f"a text old: is in {file} {found} times, and not once")
             if units is not None:
-                units.add(unit_at(file, text, old))
+                units |= units_at(file, text, old)
             texts[file] = text.replace(old, new)
         return texts
 
@@ -73,6 +73,10 @@ class Edit:
     def is_of_bodies(self):
         """Whether it changes functions alone, and no type or number that others use."""
         return not self.units & {file for file, _, _ in self.pairs}
+
+    def functions(self):
+        """The functions that it changes."""
+        return {it for it in self.units if not it.startswith("+")}
 
     def cycles(self):
         """The cycles of functions that it changes."""
@@ -99,27 +103,28 @@ def pairs_of(text):
     return found
 
 
-def unit_at(file, text, old):
-    """The function in which a text stands, by its file, name and place, or the cycle of functions that it is
-    in, since those have one proof; or the file alone where it stands in no function."""
+def units_at(file, text, old):
+    """The function in which a text stands, by its file, name and place, and the cycle of functions that it is in, since
+    those have one proof; or the file alone where it stands in no function."""
     before = text[: text.index(old)] + old.split("\n")[0]
     heads = list(HEAD.finditer(before))
     items = re.findall(r"^[a-z].*", before, re.M)
     if not heads or (items and BARE.match(items[-1])):
-        return file
+        return {file}
     # its attributes stand right above it
     above = before[: heads[-1].start()].rpartition("\n\n")[2]
     cycle = re.findall(r"#\[cycle\((\w+)\)\]", above)
-    return f"+{cycle[-1]}" if cycle else f"{file} {heads[-1][1]} {len(heads)}"
+    return {f"{file} {heads[-1][1]} {len(heads)}", *(f"+{it}" for it in cycle[-1:])}
 
 
 def batches_of(crate, edits):
-    """The edits in batches, none of which has two of one unit, or two that do not fit together: each with the
-    texts that it makes, by path. An edit of more than bodies can break other proofs too, and stands alone."""
+    """The edits in batches, none of which has two of one function, or two that do not fit together: each with the
+    texts that it makes, by path. The goals of a cycle's functions are named by these, so that one proof tells them
+    apart. An edit of more than bodies can break other proofs too, and stands alone."""
     batches = []
     for edit in sorted(edits, key=Edit.is_of_bodies, reverse=True):
         for batch in batches:
-            if not edit.units & batch["units"] and edit.is_of_bodies() and fits(crate, edit, batch):
+            if not edit.functions() & batch["units"] and edit.is_of_bodies() and fits(crate, edit, batch):
                 break
         else:
             batch = {"texts": {}, "units": set(), "edits": []}
