@@ -43,14 +43,14 @@ module _ (g : Over) (c : After-fill-count g) where
   past =
       let s = g.Self.WindowedUnion.shown c.args.self.now in
       let h = g.met.Self.WindowedUnion.going c.args.self.now c.requires.standing in
-      last-past w (kept_score g.C.ScoreCombiner.combined g.C.ScoreCombiner.value w) doc s.ahead (g.C.ScoreCombiner.combined (window_combiner w))
+      last-past s.least h.some w (kept_score g.C.ScoreCombiner.combined g.C.ScoreCombiner.value w) doc s.ahead (g.C.ScoreCombiner.combined (window_combiner w))
       (united_limits s.bounds) s.bounds s.lists h.members h.standing c.fill-count.result few c.fill-count.new.places last 0 some filled refl
 
   before : last < (g.Self.WindowedUnion.shown c.args.self.now).ahead
   before =
       let s = g.Self.WindowedUnion.shown c.args.self.now in
       let h = g.met.Self.WindowedUnion.going c.args.self.now c.requires.standing in
-      last-before w (kept_score g.C.ScoreCombiner.combined g.C.ScoreCombiner.value w) doc s.ahead (g.C.ScoreCombiner.combined (window_combiner w))
+      last-before s.least h.some w (kept_score g.C.ScoreCombiner.combined g.C.ScoreCombiner.value w) doc s.ahead (g.C.ScoreCombiner.combined (window_combiner w))
       (united_limits s.bounds) s.bounds s.lists h.members h.standing c.fill-count.result few c.fill-count.new.places last 0 some filled refl
 
   most : (g.Self.WindowedUnion.shown c.args.self.now).ahead ≤ TERMINATED
@@ -80,7 +80,7 @@ returns-clause-within g c =
     let at = (goal.at.returns-clause-within g c).After-fill-count in
     let s = g.Self.WindowedUnion.shown c.args.self.now in
     let h = g.met.Self.WindowedUnion.going c.args.self.now c.requires.standing in
-    taken-within s.window (kept_score g.C.ScoreCombiner.combined g.C.ScoreCombiner.value s.window) s.document s.ahead
+    taken-within s.least h.some s.window (kept_score g.C.ScoreCombiner.combined g.C.ScoreCombiner.value s.window) s.document s.ahead
     (g.C.ScoreCombiner.combined (window_combiner s.window)) (united_limits s.bounds) s.bounds s.lists h.members h.standing c.fill-count.result (few g at)
 
 pub returns-clause-documents : goal.returns-clause-documents
@@ -89,7 +89,7 @@ returns-clause-documents g c =
     let s = g.Self.WindowedUnion.shown c.args.self.now in
     let h = g.met.Self.WindowedUnion.going c.args.self.now c.requires.standing in
     filled g at
-    ∙ window-taken s.window (kept_score g.C.ScoreCombiner.combined g.C.ScoreCombiner.value s.window) s.document s.ahead
+    ∙ window-taken s.least h.some s.window (kept_score g.C.ScoreCombiner.combined g.C.ScoreCombiner.value s.window) s.document s.ahead
     (g.C.ScoreCombiner.combined (window_combiner s.window)) (united_limits s.bounds) s.bounds s.lists h.members h.standing c.fill-count.result (few g at)
 
 pub returns-clause-entries : goal.returns-clause-entries
@@ -98,6 +98,6 @@ returns-clause-entries g c =
     let s = g.Self.WindowedUnion.shown c.args.self.now in
     let h = g.met.Self.WindowedUnion.going c.args.self.now c.requires.standing in
     c.go_to.ensures.entries
-    ∙ behind-last s.window (kept_score g.C.ScoreCombiner.combined g.C.ScoreCombiner.value s.window) s.document s.ahead
+    ∙ behind-last s.least h.some s.window (kept_score g.C.ScoreCombiner.combined g.C.ScoreCombiner.value s.window) s.document s.ahead
     (g.C.ScoreCombiner.combined (window_combiner s.window)) (united_limits s.bounds) s.bounds s.lists h.members h.standing c.fill-count.result (few g at)
     c.fill-count.new.places (last g at) 0 (some g at) (filled g at) refl
