@@ -73,7 +73,7 @@ kept_score = kept_by any_combined any_value
 
 -- what a union lists from a document on of what its window keeps and its members have left
 abbrev pub united : Window AnyCombiner → ℕ → List (List Entry) → List Entry
-united = united_by any_combined any_value
+united = united_by any_combined any_value 1
 
 -- a window with a combiner that was cleared and has room for all scores of the members, and the bound on
 -- what it makes of them
@@ -82,7 +82,7 @@ HasParts = HasPartsBy any_cleared
 
 -- a union that stands on its first document
 abbrev pub IsUnited : Window AnyCombiner → ℕ → ℕ → ℕ → List Limits → List (List Entry) → Type 0
-IsUnited = IsUnitedBy any_combined any_value any_cleared
+IsUnited = IsUnitedBy any_combined any_value 1 any_cleared
 
 -- ---- trees
 

@@ -2,7 +2,6 @@
 use Rattle.std.proofs.Common.{◌≡◌, ◌≤◌, arith, length, max}
 use Rattle.qm_docset.specs.declared.numbers.TheConstants.{TERMINATED}
 use Rattle.qm_combine.specs.Union.{ListsGathered}
-use Rattle.qm_combine.specs.contracts.union.buffered_disjunction.BufferedDisjunctionDocSet.TheImpl.{ghosts}
 use Rattle.qm_weight.specs.Scorers.{IsScorerOf}
 use Rattle.qm_weight.specs.TermUnions.{clauses_in}
 use Rattle.qm_weight.specs.Weights.{clause_occur, clause_tree, terms_tree}
@@ -24,14 +23,12 @@ returns-clause-scorer g c =
     let cursors = c.in_ok-cursors.cursors.items in
     let few : length segment.documents ≤ TERMINATED = omega (arith, c.max_doc.ensures.number, c.max_doc.ensures.room) in
     let combined = g.C.ScoreCombiner.combined c.args.combiner in
-    let E = ghosts g.row.T g.row.C g.T.Scorer g.T.Scorer-dict g.T.DocSet g.T.DocSet-dict g.C.ScoreCombiner g.C.ScoreCombiner-dict
-    g.C.Default g.C.Default-dict g.C.Clone g.C.Clone-dict g.T.Destruct-dict in
     let least = w.rule.minimum_number_should_match in
     let needed : max least 1 ≡ least = omega (arith, c.requires.several) in
     let alone = should-alone clause_occur (clause_tree w.rule.scoring_enabled w.norms) w.clauses.items c.requires.should in
-    if_ok (ListsGathered E g.T.DocSet least combined cursors) (IsScorerOf E (terms_tree w) c.args.boost segment)
+    if_ok (ListsGathered _ g.T.DocSet least combined cursors) (IsScorerOf _ (terms_tree w) c.args.boost segment)
     (λ s made. united g.T.DocSet w.rule (clauses_in w) c.args.boost segment few alone least needed cursors c.in_ok-cursors.ensures.cursors
-    E combined c.requires.combiner s made)
+    _ combined c.requires.combiner s made)
     c.build.result c.build.ensures.lists
 
 pub returns-clause-refused : goal.returns-clause-refused

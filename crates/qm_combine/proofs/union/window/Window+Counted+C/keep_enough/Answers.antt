@@ -1,5 +1,5 @@
 -- Word by word those documents stay that have enough scores.
-use Rattle.std.proofs.Common.{◌≡◌, ℕ, ◌+◌, ◌-◌, ◌*◌, ◌/◌, ◌%◌, ◌<◌, ◌&&◌, ◌||◌, Bool, true, false, cond, nat_le, get_or, length, set, ap, ap₂, sym, refl, arith, ◌∙◌}
+use Rattle.std.proofs.Common.{◌≡◌, ℕ, ◌+◌, ◌-◌, ◌*◌, ◌/◌, ◌%◌, ◌<◌, ◌&&◌, ◌||◌, Bool, true, false, List, cond, nat_le, get_or, length, set, ap, ap₂, sym, refl, arith, ◌∙◌}
 use Rattle.std.proofs.Common.{inl, inr}
 use Rattle.std.proofs.lemmas.Bool.{and_parts, cases_Bool, cases_eq, cases_lt, le-leb, lt-leb}
 use Rattle.std.proofs.lemmas.List.{get_or-set_same, length-set}
@@ -8,18 +8,18 @@ use Rattle.qm_docset.specs.TinySet.{tiny_has}
 use Rattle.qm_docset.specs.Words.{words_have}
 use Rattle.qm_docset.specs.declared.tiny_set.TinySet.{TinySet}
 use Rattle.qm_combine.specs.Window.{window_has, window_state}
+use Rattle.qm_combine.specs.declared.counted.Counted.{Counted}
 use Rattle.qm_combine.proofs.Refilled.{window_has-before_end}
 use Rattle.qm_combine.proofs.WindowWords.{has_at, has_at-before, has_at-from, state_at-same, words_have-other, words_have-was}
 use Rattle.qm_combine.proofs.union.window.Window+Counted+C.keep_enough.Goals as goal
-use Rattle.qm_combine.proofs.union.window.Window+Counted+C.keep_enough.Goals.{After-loop-bucket, Start}
+use Rattle.qm_combine.proofs.union.window.Window+Counted+C.keep_enough.Goals.{After-loop-bucket}
 use Rattle.qm_combine.proofs.union.window.Window+Counted+C.keep_enough.Given.{Over}
 
 -- whether a place has enough scores
-enough : (g : Over) → Start g → ℕ → Bool
-enough g c x = nat_le c.args.minimum (get_or c.args.self.now.states.items x c.args.self.now.combiner).count
+abbrev enough : {C : Type 0} → ℕ → List (Counted C) → Counted C → ℕ → Bool
+enough minimum states cleared x = nat_le minimum (get_or states x cleared).count
 
 pub loop-bucket-preserved : goal.loop-bucket-preserved
-unfolding enough
 loop-bucket-preserved g c =
     let old = c.args.self.now in
     let l = c.loop-bucket.self in
@@ -29,7 +29,7 @@ loop-bucket-preserved g c =
     let was : TinySet = c.index.result.now in
     let word : TinySet = c.keep_counted.result in
     let has : ℕ → Bool = words_have old.buckets.items in
-    let asked : ℕ → Bool = enough g (goal.at.loop-bucket-preserved g c).Start in
+    let asked : ℕ → Bool = enough c.args.minimum old.states.items old.combiner in
     let inside : i < length words = omega (arith, l.sixty_four, l.buckets.ok.0, c.loop-bucket-test.true, c.words-bucket-end.ensures.within) in
     record {
       start = inv.start;
@@ -63,13 +63,13 @@ loop-bucket-preserved g c =
 -- the documents that stay; no word behind that of the last has one
 left : (g : Over) (c : After-loop-bucket g) → (d : ℕ)
     → window_has c.loop-bucket.self d ≡ (window_has c.args.self.now d && nat_le c.args.minimum (window_state c.args.self.now d).count)
-unfolding enough window_has window_state
+unfolding window_has window_state
 left g c d =
     let old = c.args.self.now in
     let l = c.loop-bucket.self in
     let inv = c.loop-bucket.invariant in
     let x : ℕ = d - old.start in
-    let asked = enough g c.Start in
+    let asked : ℕ → Bool = enough c.args.minimum old.states.items old.combiner in
     let kept : Bool → Bool = λ b. b && nat_le c.args.minimum (cond b (get_or old.states.items x old.combiner) old.combiner).count in
     ap (λ s. has_at s l.buckets.items d) inv.start ∙ elim (cases_lt d old.start) [
       | inl before ↦ has_at-before old.start l.buckets.items d before ∙ sym (ap kept (has_at-before old.start old.buckets.items d before))
