@@ -4,7 +4,7 @@ use Rattle.std.specs.Option.{IsNone}
 use Rattle.std.specs.declared.option.Option.{Option}
 use Rattle.std.proofs.Common.{◌≡◌, ℕ, ◌+◌, ◌++◌, ◌<◌, ◌≤◌, true, false, List, Some, None, drop, fold, length, max, subst, take, arith, ap, sym, slice_get}
 use Rattle.std.proofs.Common.{true≢false, ◌∙◌}
-use Rattle.qm_docset.specs.Entry.{Entry, head_document}
+use Rattle.qm_docset.specs.Entry.{Entry}
 use Rattle.qm_docset.specs.Gather.{AreMembers, gather}
 use Rattle.qm_docset.specs.GatherFacts.{AreMembers-map}
 use Rattle.qm_docset.specs.Lists.{bounds, lists}
@@ -13,7 +13,7 @@ use Rattle.qm_combine.specs.BufferedUnion.{IsBufferedUnion, IsPassed, union_entr
 use Rattle.qm_combine.specs.CombineFacts.{value-fold}
 use Rattle.qm_combine.specs.Combiner.{IsCleared}
 use Rattle.qm_combine.specs.Union.{least_head, total_top}
-use Rattle.qm_combine.specs.United.{HasParts, kept_score}
+use Rattle.qm_combine.specs.United.{kept_score}
 use Rattle.qm_combine.specs.Window.{window_combiner, window_end, window_from, window_has}
 use Rattle.qm_combine.specs.Windowed.{windowed}
 use Rattle.qm_combine.specs.declared.union.window.Window.{Window}

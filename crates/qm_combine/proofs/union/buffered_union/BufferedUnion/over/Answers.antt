@@ -1,9 +1,13 @@
--- It goes on from its members' first documents.
+-- It goes on from its members' first documents; their order is of no consequence.
 use Rattle.std.proofs.Common.{◌≡◌, ◌≤◌, ap, arith, max, nat_abs, of_z, rules, sym, to_z, true≢false, w64, ◌∙◌}
+use Rattle.std.proofs.lemmas.List.Sorted.{IsPermutation-map}
 use Rattle.qm_docset.specs.Entry.{greatest_score}
 use Rattle.qm_docset.specs.Gather.{gather}
 use Rattle.qm_docset.specs.Lists.{bounds, lists}
+use Rattle.qm_docset.proofs.Gathering.{gather-permutation}
+use Rattle.qm_combine.specs.CombineFacts.{combined-permutation}
 use Rattle.qm_combine.specs.Union.{least_head, total_top, united_limits}
+use Rattle.qm_combine.proofs.Chained.{united-permutation}
 use Rattle.qm_combine.proofs.union.buffered_union.BufferedUnion.over.Goals as goal
 
 -- the window is empty
@@ -38,4 +42,18 @@ returns-clause-lists g c =
       limits = left.limits ∙ ap united_limits c.ended_if_few-members.ensures.limits;
       valid = left.valid;
       placed = left.placed;
+    }
+
+pub returns-clause-any_order : goal.returns-clause-any_order
+returns-clause-any_order g c = λ members moved.
+    let given = c.args.docsets.items in
+    let listed = returns-clause-lists g c in
+    let any = combined-permutation g.C.ScoreCombiner g.met.C.ScoreCombiner.combines g.met.C.ScoreCombiner.commutes c.args.combiner in
+    let combined = g.C.ScoreCombiner.combined c.args.combiner in
+    let least = g.L.LeastMembers.least c.args.least in
+    record {
+      entries = listed.entries ∙ gather-permutation least combined _ _ any (IsPermutation-map g.S.DocSet.entries given members moved);
+      limits = listed.limits ∙ united-permutation _ _ (IsPermutation-map g.S.DocSet.limits given members moved);
+      valid = listed.valid;
+      placed = listed.placed;
     }

@@ -1,5 +1,5 @@
 -- The window has the document, so that nothing is lost from there on.
-use Rattle.std.proofs.Common.{◌≡◌, arith, map}
+use Rattle.std.proofs.Common.{◌≡◌, map}
 use Rattle.qm_docset.specs.Entry.{from}
 use Rattle.qm_docset.specs.GatherFacts.{AreMembers-map}
 use Rattle.qm_docset.specs.Lists.{bounds, lists}

@@ -1,10 +1,9 @@
 -- Word by word those documents stay that have enough scores.
-use Rattle.std.proofs.Common.{◌≡◌, ℕ, ◌+◌, ◌-◌, ◌*◌, ◌/◌, ◌%◌, ◌<◌, ◌&&◌, ◌||◌, Bool, true, false, List, cond, nat_le, get_or, length, set, ap, ap₂, sym, refl, arith, ◌∙◌}
+use Rattle.std.proofs.Common.{◌≡◌, ℕ, ◌+◌, ◌-◌, ◌*◌, ◌/◌, ◌%◌, ◌<◌, ◌&&◌, ◌||◌, Bool, true, false, List, cond, nat_le, get_or, length, set, ap, ap₂, sym, arith, ◌∙◌}
 use Rattle.std.proofs.Common.{inl, inr}
 use Rattle.std.proofs.lemmas.Bool.{and_parts, cases_Bool, cases_eq, cases_lt, le-leb, lt-leb}
 use Rattle.std.proofs.lemmas.List.{get_or-set_same, length-set}
 use Rattle.qm_docset.proofs.MembersLemmas.{and_true}
-use Rattle.qm_docset.specs.TinySet.{tiny_has}
 use Rattle.qm_docset.specs.Words.{words_have}
 use Rattle.qm_docset.specs.declared.tiny_set.TinySet.{TinySet}
 use Rattle.qm_combine.specs.Window.{window_has, window_state}

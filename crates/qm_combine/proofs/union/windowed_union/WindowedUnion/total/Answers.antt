@@ -2,8 +2,7 @@
 use Rattle.std.proofs.Common.{◌≡◌, ℕ, ◌+◌, ◌≤◌, length, arith, ap, ap₂, ◌∙◌}
 use Rattle.qm_docset.specs.EntryFacts.{length-entries}
 use Rattle.qm_docset.specs.Gather.{gather}
-use Rattle.qm_combine.specs.United.{kept_score, shown_list}
-use Rattle.qm_combine.specs.Union.{united_limits}
+use Rattle.qm_combine.specs.United.{shown_list}
 use Rattle.qm_combine.specs.Window.{window_combiner, window_from}
 use Rattle.qm_combine.specs.declared.union.window.Window.{Window}
 use Rattle.qm_combine.proofs.WindowTaken.{window-some, windowed-length}
@@ -24,11 +23,9 @@ parts : (g : Over) (c : After-len_from-count g)
 parts g c =
     let s = g.Self.WindowedUnion.shown c.loop-self.self in
     let h = g.met.Self.WindowedUnion.going c.loop-self.self c.loop-self.invariant.standing in
-    let w = s.window in
     let own = ap₂ (λ (v : Window g.row.C.Denot) (d : ℕ). length (window_from v d)) c.window.ensures c.document-in-loop-self.ensures in
-    let all = windowed-length s.least h.some w (kept_score g.C.ScoreCombiner.combined g.C.ScoreCombiner.value w) s.document s.ahead
-    (g.C.ScoreCombiner.combined (window_combiner w)) (united_limits s.bounds) s.bounds s.lists h.members h.standing in
-    let first = window-some w s.document (h.standing.here (omega (arith, c.document.ensures, c.loop-self-test.true))) in
+    let all = windowed-length g.C.ScoreCombiner.combined g.C.ScoreCombiner.value s h in
+    let first = window-some s.window s.document (h.standing.here (omega (arith, c.document.ensures, c.loop-self-test.true))) in
     record { all = omega (arith, all, own, c.len_from-count.ensures); some = omega (arith, own, first, c.len_from-count.ensures) }
 
 pub overflow_add-count : goal.overflow_add-count
