@@ -62,6 +62,7 @@ returns-clause-entries g c =
     false_from_ne_true (window_has s.window d) (λ here. let low = h.own.standing.behind d here in absurd (omega (arith, c.if-target-self-2.false))) in
     c.go_to_least.ensures.left.entries ∙ ap (λ xs. gather least (g.C.ScoreCombiner.combined (window_combiner s.window)) (lists g.S.DocSet xs))
     (same g (goal.at.returns-clause-entries g c).After-seek_below-self)
-    ∙ goes_past least (g.met.L.LeastMembers.some s.least) (window_has s.window) (kept_score g.C.ScoreCombiner.combined g.C.ScoreCombiner.value s.window) s.doc s.ahead
+    ∙ goes_past least (g.met.L.LeastMembers.some s.least) (window_has s.window)
+    (kept_score g.C.ScoreCombiner.combined g.C.ScoreCombiner.value s.window) s.doc s.ahead
     (g.C.ScoreCombiner.combined (window_combiner s.window)) (united_limits (map g.S.DocSet.limits old)) _ _ before h.own.standing c.args.target _ _
     after (omega (arith, c.if-target-self.false)) none reached kept

@@ -19,5 +19,6 @@ returns-clause-score g c =
     let below : s.doc < TERMINATED = omega (arith, h.own.standing.first, c.requires.here) in
     let members = AreMembers-map g.S.DocSet.limits g.S.DocSet.entries s.members.items (λ k d inside. g.met.S.DocSet.ascending _ (h.placed.valid k d inside)) in
     to_z-of_z w64 c.score.result (record { sfits = c.score.type_inv }) ∙ c.score.ensures
-    ∙ ap pos (sym (score_here (g.L.LeastMembers.least s.least) (g.met.L.LeastMembers.some s.least) (window_has s.window) (kept_score g.C.ScoreCombiner.combined g.C.ScoreCombiner.value s.window) s.doc s.ahead
+    ∙ ap pos (sym (score_here (g.L.LeastMembers.least s.least) (g.met.L.LeastMembers.some s.least) (window_has s.window)
+    (kept_score g.C.ScoreCombiner.combined g.C.ScoreCombiner.value s.window) s.doc s.ahead
     (g.C.ScoreCombiner.combined (window_combiner s.window)) (united_limits (map g.S.DocSet.limits s.members.items)) _ _ members h.own.standing below))

@@ -14,17 +14,19 @@ use Rattle.qm_combine.proofs.union.buffered_union.BufferedUnionWindowedUnion.sta
 use Rattle.qm_combine.proofs.union.buffered_union.BufferedUnionWindowedUnion.stand_on.Given.{Over}
 
 stood : (g : Over) (c : Start g)
-    → (union_entries g.S.DocSet g.C.ScoreCombiner.combined g.C.ScoreCombiner.value (g.L.LeastMembers.least c.args.self.now.least) c.args.self.now.window c.args.doc
-    c.args.self.now.members.items ≡ from c.args.doc (union_entries g.S.DocSet g.C.ScoreCombiner.combined g.C.ScoreCombiner.value
+    → (union_entries g.S.DocSet g.C.ScoreCombiner.combined g.C.ScoreCombiner.value (g.L.LeastMembers.least c.args.self.now.least)
+    c.args.self.now.window c.args.doc c.args.self.now.members.items ≡ from c.args.doc (union_entries g.S.DocSet g.C.ScoreCombiner.combined g.C.ScoreCombiner.value
     (g.L.LeastMembers.least c.args.self.now.least) c.args.self.now.window c.args.self.now.doc c.args.self.now.members.items))
-    × IsWindowed (g.L.LeastMembers.least c.args.self.now.least) (window_has c.args.self.now.window) (kept_score g.C.ScoreCombiner.combined g.C.ScoreCombiner.value c.args.self.now.window) c.args.doc
+    × IsWindowed (g.L.LeastMembers.least c.args.self.now.least) (window_has c.args.self.now.window)
+    (kept_score g.C.ScoreCombiner.combined g.C.ScoreCombiner.value c.args.self.now.window) c.args.doc
     c.args.self.now.ahead (g.C.ScoreCombiner.combined (window_combiner c.args.self.now.window))
     (united_limits (bounds g.S.DocSet c.args.self.now.members.items)) (lists g.S.DocSet c.args.self.now.members.items)
 stood g c =
     let s = c.args.self.now in
     let h = c.requires.standing in
     let members = AreMembers-map g.S.DocSet.limits g.S.DocSet.entries s.members.items (λ k d inside. g.met.S.DocSet.ascending _ (h.placed.valid k d inside)) in
-    stands_on (g.L.LeastMembers.least s.least) (g.met.L.LeastMembers.some s.least) (window_has s.window) (kept_score g.C.ScoreCombiner.combined g.C.ScoreCombiner.value s.window) s.doc s.ahead
+    stands_on (g.L.LeastMembers.least s.least) (g.met.L.LeastMembers.some s.least) (window_has s.window)
+    (kept_score g.C.ScoreCombiner.combined g.C.ScoreCombiner.value s.window) s.doc s.ahead
     (g.C.ScoreCombiner.combined (window_combiner s.window)) (united_limits (map g.S.DocSet.limits s.members.items)) _ _ members h.own.standing
     c.args.doc c.requires.behind c.requires.there
 
