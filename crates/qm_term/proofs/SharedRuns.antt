@@ -1,5 +1,5 @@
 -- Runs over the documents that all of several scorers have.
-use Rattle.std.proofs.Common.{◌≡◌, ◌∙◌, ℕ, ℤ, suc, ◌+◌, ◌<◌, ◌≤◌, ◌≤ℤ◌, false, true, List, [], ◌∷◌, ◌++◌, length, ltb, map, max, pos, replicate, sum}
+use Rattle.std.proofs.Common.{◌≡◌, ◌∙◌, ℕ, ℤ, ◌+◌, ◌<◌, ◌≤◌, ◌≤ℤ◌, false, true, List, [], ◌∷◌, ◌++◌, length, ltb, map, max, pos, replicate, sum}
 use Rattle.std.proofs.Common.{ap, arith, inl, inr, length-append, refl, subst, sym}
 use Rattle.std.specs.Prelude.{All, Any, drop, nat_le}
 use Rattle.std.proofs.lemmas.Bool.{cases_eq, cases_lt, cond-false, cond-true, le-ltb, lt-ltb}
@@ -264,6 +264,10 @@ module _ {N : Type 0} {G : NormGhosts N} where
   ended_common leader others valid end =
       entries-at_end (head_document (scored_left leader)) (held_limits (scored_limits leader ∷ map scored_limits others)) (common_left (leader ∷ others))
       (AreEntries-common leader others valid)
-      (omega (arith, end, leader_bound-common_entries IsTermScorer scored_limits scored_left AreEntries-scored held_sum (head_document (scored_left leader))
-      (scored_limits leader) (scored_left leader) others (omega arith) (AreEntries-scored leader (All-head IsTermScorer leader others valid))
-      (All-tail IsTermScorer leader others valid)))
+      (omega (
+        arith,
+        end,
+        leader_bound-common_entries IsTermScorer scored_limits scored_left AreEntries-scored held_sum (head_document (scored_left leader))
+            (scored_limits leader) (scored_left leader) others (omega arith) (AreEntries-scored leader (All-head IsTermScorer leader others valid))
+            (All-tail IsTermScorer leader others valid),
+      ))

@@ -1,11 +1,9 @@
 -- What the block looked at bounds.
-use Rattle.std.proofs.Common.{◌≡◌, ◌∙◌, ℕ, ◌≤◌, ap, arith, nat_abs, of_z, to_z, w64}
-use Rattle.std.specs.Prelude.{All}
+use Rattle.std.proofs.Common.{◌≡◌, ◌∙◌, ap, arith}
 use Rattle.qm_combine.proofs.EachMember.{score_cast}
-use Rattle.qm_term.specs.Members.{Block, IsMember}
+use Rattle.qm_term.specs.Members.{Block}
 use Rattle.qm_term.specs.Pivot.{looked_at}
 use Rattle.qm_term.specs.TermBlocks.{member_of, scored_looked}
-use Rattle.qm_term.specs.TermScorer.{scored_left}
 use Rattle.qm_term.proofs.SharedRuns.{looks_bounds, looks_on}
 use Rattle.qm_term.proofs.WandMembers.{IsMember-scorer, looks-member}
 use Rattle.qm_term.proofs.wand.conjunction.look_from.Goals as goal

@@ -1,5 +1,5 @@
 -- A turn leaves the run over what all have left still to be made.
-use Rattle.std.proofs.Common.{◌≡◌, ◌∙◌, ℕ, ℤ, ◌+◌, ◌<◌, ◌^◌, List, [], ◌∷◌, cond, get_or, map, rules, ap, arith, subst, sym, of_z, to_z, w64}
+use Rattle.std.proofs.Common.{◌≡◌, ◌∙◌, ℕ, ℤ, ◌+◌, ◌<◌, ◌^◌, List, [], ◌∷◌, cond, get_or, rules, ap, arith, subst, sym, of_z, to_z, w64}
 use Rattle.std.proofs.lemmas.Int.{to_z-of_z}
 use Rattle.std.proofs.lemmas.List.Elements.{All-head}
 use mir.Val.{SFits, bool_byte}
@@ -8,7 +8,7 @@ use Rattle.qm_docset.specs.Entry.{Entry, head_document}
 use Rattle.qm_docset.specs.Gather.{common_entries}
 use Rattle.qm_term.specs.Conjunction.{IsBoundedIn, PrunesBy, common_left, turns_of}
 use Rattle.qm_term.specs.Runs.{InRange, MayPrune}
-use Rattle.qm_term.specs.TermScorer.{IsTermScorer, scored_left}
+use Rattle.qm_term.specs.TermScorer.{IsTermScorer}
 use Rattle.qm_term.proofs.SharedRuns.{ended, ended_common}
 use Rattle.qm_term.proofs.WandTurns.{at_most, counted}
 use Rattle.qm_term.proofs.wand.conjunction.run_all.Goals as goal

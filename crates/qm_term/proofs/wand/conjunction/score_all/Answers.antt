@@ -1,5 +1,5 @@
 -- The sum has one score more.
-use Rattle.std.proofs.Common.{◌≡◌, ◌<◌, List, length, map, ap, arith, subst, sym}
+use Rattle.std.proofs.Common.{◌<◌, length, map, ap, arith, subst, sym}
 use Rattle.std.proofs.lemmas.List.{length-map}
 use Rattle.std.proofs.lemmas.List.Elements.{All-get_or, All-head, All-tail}
 use Rattle.std.proofs.lemmas.List.Sums.{sum_by_more}

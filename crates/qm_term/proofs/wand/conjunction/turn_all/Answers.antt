@@ -1,12 +1,10 @@
 -- The stretch is passed, or the leader goes on to where another is, or its document is scored.
-use Rattle.std.proofs.Common.{◌≡◌, ◌∙◌, ℕ, ℤ, ◌<◌, ◌≤◌, ◌<ℤ◌, ◌≤ℤ◌, List, ◌∷◌, false, map, pos, true, ap, arith, refl, subst, sym, of_z, to_z, w64}
-use Rattle.std.specs.Prelude.{All}
+use Rattle.std.proofs.Common.{◌≡◌, ◌∙◌, ℕ, ℤ, ◌<◌, ◌≤◌, ◌<ℤ◌, ◌≤ℤ◌, List, ◌∷◌, false, map, pos, true, ap, arith, subst, sym, of_z, to_z, w64}
 use Rattle.std.proofs.lemmas.Int.{to_z-of_z}
 use Rattle.std.proofs.lemmas.List.Elements.{All-cons, All-head, All-tail}
 use Rattle.qm_combine.specs.HeldSum.{held_limits, held_sum}
 use Rattle.qm_docset.proofs.Gathering.{head_document-from}
 use Rattle.qm_docset.specs.Entry.{Entry, from, head_document, head_score}
-use Rattle.qm_docset.specs.EntryFacts.{head_document-bounds, AreEntries-from}
 use Rattle.qm_docset.specs.Gather.{scored}
 use Rattle.qm_docset.specs.declared.numbers.TheConstants.{TERMINATED}
 use Rattle.qm_term.specs.Conjunction.{IsBoundedIn, TurnsInto, common_left}
