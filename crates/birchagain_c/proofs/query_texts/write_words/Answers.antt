@@ -7,6 +7,9 @@ pub returns-clause-told : goal.returns-clause-told
 returns-clause-told c =
     on_ok_weaker c.write_laid.result (λ has. (c.in_ok-laid.laid, (c.in_ok-laid.ensures.words, c.write_laid.ensures.told), has)) c.write_laid.ensures.written
 
+pub returns-clause-room : goal.returns-clause-room
+returns-clause-room c = λ why. (c.in_ok-laid.laid, (c.in_ok-laid.ensures.words, c.write_laid.ensures.told))
+
 pub returns-clause-refused : goal.returns-clause-refused
 returns-clause-refused c =
     let IsRefusal = IsWordsRefusal c.args.language c.args.text.now (length c.args.bytes.now) (length c.args.ends.now) in
