@@ -9,7 +9,7 @@ LISTED = ("docs", "scores", "count")
 # what each of these asks for, in the order of the tables
 ASKED = {
     BEST: "the best ten",
-    ABOVE: "those above a threshold that starts at 300 and rises",
+    ABOVE: "those above a threshold that rises",
     "docs": "all documents",
     "scores": "all documents with their scores",
     "count": "how many documents",
