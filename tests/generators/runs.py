@@ -95,6 +95,12 @@ def united(combiner, parts):
     return [(doc, combined(combiner, scores[doc])) for doc in sorted(scores)], bounds
 
 
+def shared(parts):
+    """The documents that all of several scorers have, with the sum of their scores."""
+    docs = sorted(set.intersection(*({*it.left} for it in parts)))
+    return [(doc, min(sum(it.left[doc] for it in parts), GREATEST)) for doc in docs]
+
+
 def several_runs(random, segment, length):
     """Runs over one to six terms of a segment, of which some may be the same."""
     combiner = random.choice(COMBINERS)
@@ -109,6 +115,17 @@ def several_runs(random, segment, length):
         if fits:
             most_turns = sum(len(it.left) for it in parts)
             yield row(f"bounded {run.ticks(pairs, bounds)} {most_turns} {run.words}", "true")
+    yield from runs_over_all(random, parts[: random.randint(1, len(parts))])
+
+
+def runs_over_all(random, parts):
+    """Runs over what all of these have. Each turn scores a document of these."""
+    yield " ; ".join(["several sum", *(it.words for it in parts)])
+    pairs = shared(parts)
+    for _ in range(2):
+        run = Run(random, [points for _, points in pairs] or [0])
+        yield row(f"all {run.words}", run.calls(pairs))
+        yield row(f"bounded_all {len(pairs)} {len(pairs)} {run.words}", "true")
 
 
 def document(random, frequent, is_padded):

@@ -15,7 +15,7 @@ use qm_combine::{BoundedBySum, DisjunctionMaxCombiner, SumCombiner};
 use qm_docset::{DocId, DocSet, TERMINATED};
 use qm_postings::SegmentReader;
 use qm_schema::{Field, IndexRecordOption, Term};
-use qm_term::{Bm25Weight, TermScorer, WandCount, WandRun, block_wand};
+use qm_term::{Bm25Weight, TermScorer, WandCount, WandRun, block_wand, block_wand_all};
 use std::alloc::Global;
 
 // What a scorer is made of, the document that it is sent to, and the one whose block it then looks at.
@@ -28,6 +28,14 @@ struct Part {
     look: DocId,
     ghost place: { at ≤ TERMINATED },
     ghost looked_at: { look ≤ TERMINATED },
+}
+
+// How a run goes: over what any of the scorers has, at once or turn by turn, or over what all of them have.
+#[derive(Clone, Copy)]
+enum Way {
+    AtOnce,
+    ByTurns,
+    OverAll,
 }
 
 /// Rows on a run over the scorers of several terms, which each row makes anew.
@@ -72,56 +80,52 @@ impl<'b> SeveralRows<'b> {
         Ok(row)
     }
 
-    // The run, turn by turn or at once: what it counted. Its calls are written behind the text.
+    // The run, this way: what it counted. Its calls are written behind the text.
     fn run(
         &self,
         alloc: Global,
-        by_turns: bool,
+        way: Way,
         call: &str,
         memory: Memory,
         text: &mut String,
     ) -> Result<WandCount, Fault> {
         let row = self.scorers(alloc)?;
         match self.tie_breaker {
-            None => run_over(
-                alloc,
-                row,
-                SumCombiner::default(),
-                by_turns,
-                call,
-                memory,
-                text,
-            ),
+            None => run_over(alloc, row, SumCombiner::default(), way, call, memory, text),
             Some(tie_breaker) => {
                 let greatest = DisjunctionMaxCombiner::with_tie_breaker(tie_breaker)?;
-                run_over(alloc, row, greatest, by_turns, call, memory, text)
+                run_over(alloc, row, greatest, way, call, memory, text)
             }
         }
     }
 
     // Whether the run of `TICKS TURNS T ..` scores at most so many documents, and at least one for each
-    // call, in at most so many turns and at least one for each of these, at once and turn by turn.
-    fn is_bounded(&self, alloc: Global, bounds: &str) -> Result<bool, Fault> {
+    // call, in at most so many turns and at least one for each of these, each of these ways.
+    fn is_bounded(&self, alloc: Global, ways: &[Way], bounds: &str) -> Result<bool, Fault> {
         let (ticks, run) = cut(bounds);
         let (turns, _) = cut(run);
         let most = WandCount {
             ticks: u128::from(read_number(ticks)?),
             turns: u128::from(read_number(turns)?),
         };
-        let is_bounded = self.is_within(alloc, false, run, most)?;
-        Ok(self.is_within(alloc, true, run, most)? && is_bounded)
+        let mut is_bounded = true;
+        // the run is bounded in each way before this one, where it is said to be
+        for way in ways {
+            is_bounded = self.is_within(alloc, *way, run, most)? && is_bounded;
+        }
+        Ok(is_bounded)
     }
 
-    // The same of one of the two.
+    // The same of one way.
     fn is_within(
         &self,
         alloc: Global,
-        by_turns: bool,
+        way: Way,
         run: &str,
         most: WandCount,
     ) -> Result<bool, Fault> {
         let mut calls = String::new(alloc);
-        let count = self.run(alloc, by_turns, run, Memory::Ample, &mut calls)?;
+        let count = self.run(alloc, way, run, Memory::Ample, &mut calls)?;
         let called = words_of(alloc, calls.as_str())?.len() as u128;
         let is_scored = called <= count.ticks && count.ticks <= most.ticks;
         Ok(is_scored && count.ticks <= count.turns && count.turns <= most.turns)
@@ -139,12 +143,22 @@ impl<'b> Asker for SeveralRows<'b> {
         let (name, rest) = cut(call);
         match name {
             "wand" => {
-                self.run(alloc, false, call, memory, text)?;
+                self.run(alloc, Way::AtOnce, call, memory, text)?;
             }
             "turns" => {
-                self.run(alloc, true, call, memory, text)?;
+                self.run(alloc, Way::ByTurns, call, memory, text)?;
             }
-            "bounded" => write!(text, "{}", self.is_bounded(alloc, rest)?)?,
+            "all" => {
+                self.run(alloc, Way::OverAll, call, memory, text)?;
+            }
+            "bounded" => {
+                let is_bounded = self.is_bounded(alloc, &[Way::AtOnce, Way::ByTurns], rest)?;
+                write!(text, "{is_bounded}")?;
+            }
+            "bounded_all" => {
+                let is_bounded = self.is_bounded(alloc, &[Way::OverAll], rest)?;
+                write!(text, "{is_bounded}")?;
+            }
             _ => return Err(Fault::NotUnderstood),
         }
         Ok(())
@@ -205,22 +219,22 @@ fn scorer_of<'s>(segment: &'s SegmentReader, part: &Part) -> Result<TermScorer<'
     Ok(scorer)
 }
 
-// The run over these scorers, turn by turn or at once.
+// The run over these scorers, this way. What all have is summed up, whatever the combiner.
 fn run_over<C: BoundedBySum>(
     alloc: Global,
     row: Vec<TermScorer<'_>>,
     combiner: C,
-    by_turns: bool,
+    way: Way,
     call: &str,
     memory: Memory,
     text: &mut String,
 ) -> Result<WandCount, Fault>
     requires { All IsTermScorer row.items }
 {
-    if by_turns {
-        run_by_turns(alloc, row, combiner, call, memory, text)
-    } else {
-        run_at_once(alloc, row, combiner, call, memory, text)
+    match way {
+        Way::AtOnce => run_at_once(alloc, row, combiner, call, memory, text),
+        Way::ByTurns => run_by_turns(alloc, row, combiner, call, memory, text),
+        Way::OverAll => run_over_all(alloc, row, call, memory, text),
     }
 }
 
@@ -253,6 +267,33 @@ fn run_at_once<C: BoundedBySum>(
     );
     end_refusals(alloc);
     Ok(counted?)
+}
+
+// The run over what all of the scorers have, of which there is one at least. It takes no memory.
+fn run_over_all(
+    alloc: Global,
+    row: Vec<TermScorer<'_>>,
+    call: &str,
+    memory: Memory,
+    text: &mut String,
+) -> Result<WandCount, Fault>
+    requires { All IsTermScorer row.items }
+{
+    if row.is_empty() {
+        return Err(Fault::NotAllowed);
+    }
+    let threshold = threshold_of(alloc, call)?;
+    let replies = replies_of(alloc, call)?;
+    let mut pruning = Pruning {
+        text,
+        replies: replies.as_slice(),
+        last: Reply::ItsScore,
+        has_scores: true,
+    };
+    memory.begin(alloc);
+    let count = block_wand_all(row, threshold, &mut |doc, score| pruning.call(doc, score));
+    end_refusals(alloc);
+    Ok(count)
 }
 
 // The run turn by turn. No turn takes memory.

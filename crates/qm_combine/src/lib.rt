@@ -39,5 +39,6 @@ pub use score_combiner::ScoreCombiner;
 pub use scorer::Scorer;
 pub use sum_combiner::SumCombiner;
 pub use union::{
-    BufferedDisjunction, BufferedUnionScorer, FIRST_SPAN, HORIZON, SEEK_SPAN, Window, WindowedUnion,
+    AnyMember, AtLeast, BufferedDisjunction, BufferedUnion, BufferedUnionScorer, FIRST_SPAN,
+    HORIZON, LeastMembers, SEEK_SPAN, Window, WindowedUnion,
 };

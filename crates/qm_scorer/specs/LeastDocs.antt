@@ -1,5 +1,5 @@
 -- Documents in a row, with the least of each 32 of them, and the least of each 32 of these.
-use Rattle.std.specs.Prelude.{◌≡◌, ℕ, ◌*◌, ◌<◌, ◌≤◌, Bool, List, [], ◌∷◌, drop, length, min, take}
+use Rattle.std.specs.Prelude.{◌≡◌, ℕ, ◌≤◌, List, [], ◌∷◌, drop, length, min, take}
 use Rattle.qm_docset.specs.declared.numbers.TheConstants.{TERMINATED}
 use Rattle.qm_scorer.specs.declared.least_docs.LeastDocs.{LeastDocs}
 

@@ -1,9 +1,9 @@
 -- What a tree of scorers lists, by recursion over its nodes: each node lists what the combinator of
 -- its kind does. `D` are the ghost members of the caller's own scorers.
-use Rattle.std.specs.Prelude.{◌≡◌, ℕ, ◌*◌, ◌<◌, ◌≤◌, List, [], ◌∷◌, map, max, sum}
+use Rattle.std.specs.Prelude.{◌≡◌, ℕ, ◌*◌, ◌<◌, ◌≤◌, List, [], ◌∷◌, map, sum}
 use Rattle.std.specs.List.{All as Each}
 use Rattle.qm_docset.specs.BitSetDocSet.{IsBitSetCursor, IsOnMember, remaining_members}
-use Rattle.qm_docset.specs.Entry.{Entry, Limits, greatest_score, head_document, no_limits}
+use Rattle.qm_docset.specs.Entry.{Entry, Limits, head_document, no_limits}
 use Rattle.qm_docset.specs.Exclusion.{has_document}
 use Rattle.qm_docset.specs.Gather.{common_entries, gather, scores_at}
 use Rattle.qm_docset.specs.declared.bitset_docset.BitSetDocSet.{BitSetDocSet}
@@ -73,7 +73,7 @@ kept_score = kept_by any_combined any_value
 
 -- what a union lists from a document on of what its window keeps and its members have left
 abbrev pub united : Window AnyCombiner → ℕ → List (List Entry) → List Entry
-united = united_by any_combined any_value
+united = united_by any_combined any_value 1
 
 -- a window with a combiner that was cleared and has room for all scores of the members, and the bound on
 -- what it makes of them
@@ -82,7 +82,7 @@ HasParts = HasPartsBy any_cleared
 
 -- a union that stands on its first document
 abbrev pub IsUnited : Window AnyCombiner → ℕ → ℕ → ℕ → List Limits → List (List Entry) → Type 0
-IsUnited = IsUnitedBy any_combined any_value any_cleared
+IsUnited = IsUnitedBy any_combined any_value 1 any_cleared
 
 -- ---- trees
 

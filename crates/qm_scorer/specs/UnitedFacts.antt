@@ -1,4 +1,5 @@
 -- A union of trees is one over a window.
+use Rattle.std.proofs.Math.Nat.{le_refl}
 use Rattle.qm_docset.specs.Entry.{AreEntries}
 use Rattle.qm_docset.specs.GatherFacts.{AreMembers-map}
 use Rattle.qm_docset.specs.declared.docset.DocSet.{Ghosts}
@@ -14,6 +15,7 @@ pub union-going : {S : Type 0} (D : Ghosts S) → ((s : S) → D.valid s → Are
     (node : UnionNode S) → IsUnionNode D node → IsGoing any_combined any_value (union_shown D node)
 union-going D law node h = record {
   until = h.own.parts.until;
+  some = le_refl 1;
   standing = h.own.standing;
   members = AreMembers-map (tree_limits D) (tree_entries D) node.members.items (λ k d inside. tree-ascends D law _ (h.members.valid k d inside));
 }

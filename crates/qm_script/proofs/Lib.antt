@@ -1,5 +1,6 @@
 mod LineBytes
 mod ListingTexts
+mod Decimals
 mod Written
 mod PartLemmas
 mod Ranges

@@ -1,5 +1,6 @@
 -- What serves a query: the segments of a script as they are, or narrowed for it.
 use Rattle.std.specs.Prelude.{◌≡◌, ◌⊎◌, List, Ok, Option, None, Some, false}
+use Rattle.std.specs.Global.{Box}
 use Rattle.qm_index.specs.Indexed.{AreMerged, AreSearched}
 use Rattle.qm_postings.specs.Reading.{Reader}
 use Rattle.qm_postings.specs.Statistics.{Searched}
@@ -30,12 +31,12 @@ pub record IsNarrowedFor (q : Query) (c : Corpus) (searcher : Searched) : Type 0
 
 -- Where none was narrowed for a query, the segments serve it as they are: the open one has one part at most, or each
 -- prefix begins at most as many terms of its parts as it is expanded to.
-abbrev pub IsServed : Query → Corpus → Option Searched → Type 0
+abbrev pub IsServed : Query → Corpus → Option (Box Searched) → Type 0
 IsServed q c None = IsWhole c ⊎ IsReachedBy q c
-IsServed q c (Some searcher) = IsNarrowedFor q c searcher
+IsServed q c (Some searcher) = IsNarrowedFor q c searcher.value
 
 -- a query that is spelled so is built, and served
-pub record ServesQuery (query : built.Query) (c : Corpus) (narrowed : Option Searched) : Type 0 where
+pub record ServesQuery (query : built.Query) (c : Corpus) (narrowed : Option (Box Searched)) : Type 0 where
   pub spelled : Query
   pub is_built : asked spelled ≡ Ok query
   pub served : IsServed spelled c narrowed

@@ -1,6 +1,5 @@
 -- What a writer of documents has written.
-use Rattle.std.specs.Prelude.{◌≡◌, ◌≤◌, ◌++◌, ℕ, ℤ, List, Option, OnOk, Result, length, string_bytes, false, true}
-use Rattle.std.specs.Fmt.{IsPlainFormatter, formatter_writer}
+use Rattle.std.specs.Prelude.{◌≡◌, ◌≤◌, ◌++◌, ℕ, ℤ, List, Option, OnOk, Result, length, false, true}
 use Rattle.qm_script.specs.Pruned.{rising, threshold_after}
 use Rattle.qm_script.specs.Text.{IsListing}
 use Rattle.qm_script.specs.declared.item_writer.ItemWriter.{ItemWriter}
@@ -8,10 +7,9 @@ use Rattle.qm_script.specs.declared.listing.Listing.{Listing}
 
 -- it has written these, and knows whether that is nothing
 pub record HasListed (items : List (ℕ × Option ℤ)) (w : ItemWriter) : Type 0 where
-  pub plain : IsPlainFormatter w.out
-  pub listed : IsListing items (string_bytes (formatter_writer w.out))
-  pub begun : w.is_begun ≡ false → length (string_bytes (formatter_writer w.out)) ≡ 0
-  pub some : w.is_begun ≡ true → 1 ≤ length (string_bytes (formatter_writer w.out))
+  pub listed : IsListing items w.bytes.items
+  pub begun : w.is_begun ≡ false → length w.bytes.items ≡ 0
+  pub some : w.is_begun ≡ true → 1 ≤ length w.bytes.items
 
 -- where the call succeeds, what it had written before has these behind it
 abbrev pub AddsToListing : {T E : Type 0} → Result T E → List (ℕ × Option ℤ) → ItemWriter → ItemWriter → Type 0

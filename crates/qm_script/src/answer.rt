@@ -150,7 +150,7 @@ fn answer_query(
 fn write_asked(
     alloc: Global,
     corpus: &Corpus,
-    narrowed: &Option<Searcher>,
+    narrowed: &Option<Box<Searcher>>,
     question: Question,
     query: &AnyQuery,
     text: &mut String,

@@ -115,7 +115,7 @@ impl Corpus {
         &mut self,
         alloc: Global,
         query: &SpelledQuery,
-    ) -> Result<Option<Searcher>, AllocError>
+    ) -> Result<Option<Box<Searcher>>, AllocError>
         ensures script { script self.new ≡ script self.old }
         ensures weights { statistics self.new.index ≡ statistics self.old.index }
         ensures built { OnOk result (IsBuilt self.new) }
@@ -132,7 +132,8 @@ impl Corpus {
             return Ok(None);
         }
         match narrowed(alloc, searcher, ended, query) {
-            Ok(narrowed) => Ok(Some(narrowed)),
+            // apart, since a searcher is more than a kilobyte, and most lines are answered none
+            Ok(narrowed) => Ok(Some(Box::new(alloc, narrowed)?)),
             Err(_) => Err(AllocError),
         }
     }
@@ -149,7 +150,7 @@ impl Corpus {
 
     /// What is searched for a query, where [`Corpus::build_segments`] answered this for it after the last document.
     /// Constant time.
-    pub(crate) fn searched<'a>(&'a self, narrowed: &'a Option<Searcher>) -> &'a Searcher
+    pub(crate) fn searched<'a>(&'a self, narrowed: &'a Option<Box<Searcher>>) -> &'a Searcher
         requires built { IsBuilt self.now }
         ensures serve { (q : Query) → IsServed q self.now narrowed.now → Serve q (script self.now) result.now.segments }
         ensures few { (q : Query) → IsServed q self.now narrowed.now → document_count (map (λ r. r.segment) result.now.segments) ≤ most_segments * TERMINATED }

@@ -1,35 +1,34 @@
 //! A text to which documents are added, one after another.
-//!
-//! The text stands in one formatter for a whole listing, since `write!` would move it for each number.
 
-ghost use Rattle.std.specs.Prelude.{◌≡◌, ℕ, ℤ, ◌∷◌, [], IsOkUnless, List, None, Option, Some, length, string_bytes};
+ghost use Rattle.std.specs.Prelude.{◌≡◌, ℕ, ℤ, ◌∷◌, [], IsAscii, IsOkUnless, List, None, Option, Some, length, string_bytes};
 ghost use Rattle.qm_script.specs.Text.{IsListing};
-ghost use Rattle.qm_script.specs.Written.{AddsToListing, HasListed};
 
+use crate::decimal::{push_behind, push_number};
 use qm_docset::Score;
 use qm_schema::QueryError;
 use std::alloc::{AllocError, Global};
-use std::fmt::{self, Formatter};
 
 /// A text to which documents are added, joined by one space.
 ///
-/// It stands in a formatter from the first document to the last: `write!` would move it into one and back for
-/// each number, which takes longer than to write the number.
+/// It is bytes from the first document to the last, since a text is asked of each piece whether it is UTF-8.
 #[derive(Drop)]
 pub(crate) struct ItemWriter {
-    out: Formatter<String>,
+    bytes: Vec<u8>,
     // whether some document was written
     is_begun: bool,
+    ghost ascii: { IsAscii bytes.items },
 }
 
 impl ItemWriter {
+    ghost use Rattle.qm_script.specs.Written.{AddsToListing, HasListed};
+
     /// Takes an empty text, to write to it. It comes back by [`finish`](ItemWriter::finish).
     pub(crate) fn new(alloc: Global, text: &mut String) -> ItemWriter
         requires { length (string_bytes text.old) ≡ 0 }
         ensures { HasListed [] result }
     {
         ItemWriter {
-            out: Formatter::new(std::mem::replace(text, String::new(alloc))),
+            bytes: std::mem::replace(text, String::new(alloc)).into_bytes(),
             is_begun: false,
         }
     }
@@ -39,7 +38,10 @@ impl ItemWriter {
         ensures listed { (items : List (ℕ × Option ℤ)) → HasListed items self → IsListing items (string_bytes text.new) }
         ensures refused { IsOkUnless result QueryError.Memory }
     {
-        *text = self.out.into_inner();
+        match String::from_utf8(self.bytes) {
+            Ok(listed) => *text = listed,
+            Err(_) => unreachable!(),
+        }
         reserve_line_end(text)
     }
 
@@ -47,9 +49,11 @@ impl ItemWriter {
     pub(crate) fn write_document(&mut self, document: u64) -> Result<(), AllocError>
         ensures { AddsToListing result ((document, None) ∷ []) self.old self.new }
     {
-        match self.put_document(document) {
-            Ok(()) => Ok(()),
-            Err(_) => Err(AllocError),
+        if self.is_begun {
+            push_behind(&mut self.bytes, b' ', document)
+        } else {
+            self.is_begun = true;
+            push_number(&mut self.bytes, document)
         }
     }
 
@@ -57,28 +61,13 @@ impl ItemWriter {
     pub(crate) fn write_score(&mut self, document: u64, score: Score) -> Result<(), AllocError>
         ensures { AddsToListing result ((document, Some score) ∷ []) self.old self.new }
     {
-        match self.put_score(document, score) {
-            Ok(()) => Ok(()),
-            Err(_) => Err(AllocError),
+        self.write_document(document)?;
+        if score < 0 {
+            self.bytes.push(b':')?;
+            push_behind(&mut self.bytes, b'-', score.unsigned_abs())
+        } else {
+            push_behind(&mut self.bytes, b':', score.unsigned_abs())
         }
-    }
-
-    fn put_document(&mut self, document: u64) -> fmt::Result
-        ensures { AddsToListing result ((document, None) ∷ []) self.old self.new }
-    {
-        if self.is_begun {
-            self.out.write_str(" ")?;
-        }
-        self.is_begun = true;
-        self.out.write(document)
-    }
-
-    fn put_score(&mut self, document: u64, score: Score) -> fmt::Result
-        ensures { AddsToListing result ((document, Some score) ∷ []) self.old self.new }
-    {
-        self.put_document(document)?;
-        self.out.write_str(":")?;
-        self.out.write(score)
     }
 }
 

@@ -11,6 +11,7 @@ mod best;
 mod corpus;
 mod counting;
 mod cut_prefixes;
+mod decimal;
 mod document_line;
 mod form;
 mod item_writer;

@@ -46,7 +46,7 @@ each_after P low limits bs (e ∷ es) h b k = (
   each_after P (e.document + 1) limits bs es h.others (All-tail (IsBelow bs) e es b) (λ x a c. k x (omega (arith, a, h.here.from_low)) c),
 )
 
-each_here : (P : Entry → Type 0) (m : Member) → IsMember m → ((e : Entry) → head m ≤ e.document → e.score ≤ bound_at e.document m.blocks → P e) →
+pub each_here : (P : Entry → Type 0) (m : Member) → IsMember m → ((e : Entry) → head m ≤ e.document → e.score ≤ bound_at e.document m.blocks → P e) →
     Each P m.entries
 each_here P m h k = each_after P (head m) h.limits m.blocks m.entries (AreEntries-head 0 h.limits m.entries h.entries) h.bounded k
 

@@ -15,6 +15,6 @@ pub use explanation::Explanation;
 pub use norms::Norms;
 pub use term_scorer::TermScorer;
 pub use wand::{
-    TermScorerWithMaxScore, Ticks, WandCount, WandRun, block_wand, block_wand_single_scorer,
-    score_front,
+    TermScorerWithMaxScore, Ticks, WandCount, WandRun, block_wand, block_wand_all,
+    block_wand_single_scorer, score_front,
 };

@@ -4,6 +4,7 @@
 //! blocks' bounds are above the threshold together.
 
 pub(crate) mod cells;
+mod conjunction;
 mod drain;
 mod front;
 pub(crate) mod heads;
@@ -13,6 +14,7 @@ mod single;
 mod stretches;
 mod ticks;
 
+pub use conjunction::block_wand_all;
 pub use front::{TermScorerWithMaxScore, score_front};
 pub use run::{WandRun, block_wand};
 pub use single::block_wand_single_scorer;

@@ -1,5 +1,5 @@
--- Clauses that are terms that should match, one of which is enough, and the cursors of these terms.
-use Rattle.std.specs.Prelude.{◌≡◌, ℕ, ◌≤◌, Bool, All, List, [], ◌∷◌, Option, None, Some, if◌then◌else◌}
+-- Clauses that are terms, and the cursors of these terms.
+use Rattle.std.specs.Prelude.{◌≡◌, ℕ, ◌≤◌, Bool, All, List, [], ◌∷◌, Option, None, Some, if◌then◌else◌, map}
 use Rattle.qm_docset.specs.Entry.{greatest_score}
 use Rattle.qm_docset.specs.Gather.{gather}
 use Rattle.qm_docset.specs.Lists.{ArePlaced, bounds, lists}
@@ -11,7 +11,6 @@ use Rattle.qm_schema.specs.declared.occur.Occur.TheVariants.{Should}
 use Rattle.qm_scorer.specs.AnyCombiner.{any_combined}
 use Rattle.qm_scorer.specs.declared.any_combiner.AnyCombiner.{AnyCombiner}
 use Rattle.qm_term.specs.Bm25.{Weighing}
-use Rattle.qm_weight.specs.ClauseScorers.{clause_trees}
 use Rattle.qm_weight.specs.LeafScorers.{IsLeafOf}
 use Rattle.qm_weight.specs.Scorers.{IsListOf}
 use Rattle.qm_weight.specs.Tree.{Clauses, Fits, Tree}
@@ -29,6 +28,10 @@ clauses_in w = term_clauses w.rule.scoring_enabled w.norms w.clauses.items
 abbrev pub clause_of : TermsWeight → TermClause → Tree
 clause_of w c = clause_tree w.rule.scoring_enabled w.norms c
 
+-- all clauses, in order
+abbrev pub trees_in : TermsWeight → List Tree
+trees_in w = map (clause_of w) w.clauses.items
+
 abbrev pub tree_in : ClauseIn → Tree
 tree_in c = clause_of c.weight.now c.clause.now
 
@@ -42,13 +45,14 @@ is_scored_in c = c.weight.now.rule.scoring_enabled
 abbrev pub clause_weighing : ClauseIn → ℕ → Weighing
 clause_weighing c b = record { weight = c.clause.now.weight; norms = c.weight.now.norms; boost = if is_scored_in c then b else 0 }
 
-abbrev pub AreAllShould : List TermClause → Type 0
-AreAllShould clauses = All (λ c. clause_occur c ≡ Should) clauses
+-- all terms occur so
+abbrev pub AreAll : Occur → List TermClause → Type 0
+AreAll occur clauses = All (λ c. clause_occur c ≡ occur) clauses
 
 -- all terms should match, and one of them is enough
 pub record IsTermUnion (weight : TermsWeight) : Type 0 where
   pub least : weight.rule.minimum_number_should_match ≤ 1
-  pub should : AreAllShould weight.clauses.items
+  pub should : AreAll Should weight.clauses.items
 
 -- scores are combined as this combiner combines them
 abbrev pub CombinesAs : AnyCombiner → (List ℕ → ℕ) → Type 0
@@ -69,13 +73,14 @@ there [] = []
 there (None ∷ found) = there found
 there (Some s ∷ found) = s ∷ there found
 
--- the cursors of those Should clauses whose terms are there, in order
-abbrev pub AreClauseCursors : {S : Type 0} → Ghosts S → Clauses → ℕ → Segment → List S → Type 0
-AreClauseCursors {S} D clauses b segment cursors =
-    (found : List (Option S)) × AreFound D b segment (clause_trees clauses Should) found × (cursors ≡ there found)
+-- the cursors of those trees that are there, in order
+abbrev pub AreTreeCursors : {S : Type 0} → Ghosts S → List Tree → ℕ → Segment → List S → Type 0
+AreTreeCursors {S} D trees b segment cursors = (found : List (Option S)) × AreFound D b segment trees found × (cursors ≡ there found)
 
--- placed cursors that together list what the tree does, and whose bounds together are a score where the tree fits
-pub record ListTogether {S : Type 0} (D : Ghosts S) (combined : List ℕ → ℕ) (tree : Tree) (b : ℕ) (segment : Segment) (cursors : List S) : Type 0 where
+-- placed cursors: what at least so many of them have, each document with what is made of its scores, is the list of the
+-- tree, and their bounds together are a score where the tree fits
+pub record ListTogether {S : Type 0} (D : Ghosts S) (least : ℕ) (combined : List ℕ → ℕ)
+    (tree : Tree) (b : ℕ) (segment : Segment) (cursors : List S) : Type 0 where
   pub placed : ArePlaced D cursors
-  pub list : IsListOf tree b segment (gather 1 combined (lists D cursors))
+  pub list : IsListOf tree b segment (gather least combined (lists D cursors))
   pub within : Fits tree b → total_top (bounds D cursors) ≤ greatest_score

@@ -137,9 +137,9 @@ impl Weight for BooleanWeight {
         Ok(())
     }
 
-    /// Passes over blocks whose documents cannot score above the threshold, where scoring is on, the
-    /// combiner is the sum or the greatest score, and the clauses are 2 to 300 terms, one of which is
-    /// enough, or one scorer is left and is that of a term. For more of them the plain loop is faster.
+    /// Passes over blocks whose documents cannot score above the threshold, where scoring is on, and the
+    /// clauses are 2 to 300 terms that must match, or one of which is enough, by the sum or the greatest
+    /// score, or one scorer is left and is that of a term. For more of them the plain loop is faster.
     /// Where one clause alone decides what matches and scores, the run is that clause's. It takes memory
     /// before the first call alone.
     fn for_each_pruning_counted<F: FnMut(DocId, Score) -> Score>(

@@ -5,24 +5,26 @@
 //!   at worst.
 //! - The plain loop ends where no score can pass the threshold; a constant gains no more by another way.
 
-ghost use Rattle.std.specs.Prelude.{◌≡◌, ◌≤◌, IfErr, IfOk, OnErr, true};
+ghost use Rattle.std.specs.Prelude.{◌≡◌, ◌≤◌, All, IfErr, IfOk, IsOkUnless, OnErr, length, sum, true};
+ghost use Rattle.qm_combine.specs.Union.{IsRefusedByBounds};
 ghost use Rattle.qm_docset.specs.Lists.{IsPlaced};
 ghost use Rattle.qm_scorer.specs.AnyCombiner.{any_combined};
+ghost use Rattle.qm_term.specs.Conjunction.{PrunesBy};
 ghost use Rattle.qm_term.specs.Runs.{InRange, MayPrune};
 ghost use Rattle.qm_weight.specs.ClauseScorers.{KeepsOneScore};
 ghost use Rattle.qm_weight.specs.Scorers.{IsRefusalOf};
 ghost use Rattle.qm_weight.specs.TermUnions.{ListTogether};
-ghost use Rattle.qm_weight.specs.TreeRuns.{MayPruneTreeAt, PrunesBy, PrunesTreeBy};
+ghost use Rattle.qm_weight.specs.TreeRuns.{MayPruneTreeAt, PrunesTreeBy};
 
 use crate::boolean_weight::{BooleanRule, keeps_one_score};
 use crate::shared_runs::StandsFor;
 use crate::weight::turn;
-use qm_combine::Scorer;
+use qm_combine::{Scorer, sum_of_bounds};
 use qm_docset::{DocId, DocSet, Score, TERMINATED};
 use qm_postings::SegmentReader;
 use qm_schema::QueryError;
 use qm_scorer::{AnyCombiner, AnyScorer};
-use qm_term::{Norms, TermScorer, WandCount, block_wand, block_wand_single_scorer};
+use qm_term::{Norms, TermScorer, WandCount, block_wand, block_wand_all, block_wand_single_scorer};
 use std::alloc::Global;
 
 // The run over what the scorer has left: where it is that of a term, by the bounds of its blocks, and else up
@@ -80,6 +82,7 @@ pub(crate) fn counted_none() -> WandCount
 /// The most clauses of one run that passes over blocks. Up to them it takes some two thirds of the time that the plain
 /// loop over the union takes, or less. But to pass a block it looks at all its terms. Where the bounds of a third of
 /// them only just reach the threshold, it takes twice that time for 300 terms, and three to five times for thousands.
+/// A run over the documents that all terms have looks at all of them too; that one was not measured.
 const MOST_TERMS_BY_BLOCKS: usize = 300;
 
 // Whether a run over so many terms that should match may pass over blocks: scoring is on, one of them is enough, what the
@@ -90,6 +93,16 @@ pub(crate) fn may_pass_over_blocks(rule: BooleanRule, terms: usize) -> bool
 {
     let is_enough = rule.scoring_enabled && rule.minimum_number_should_match <= 1;
     is_enough && terms <= MOST_TERMS_BY_BLOCKS && keeps_one_score(rule.score_combiner)
+}
+
+// Whether a run over so many terms that must match may pass over blocks: scoring is on, no clause is needed of those that
+// should match, and they are two or more, and no more than such a run is fast for.
+pub(crate) fn may_run_over_all(rule: BooleanRule, terms: usize) -> bool
+    ensures least { result ≡ true → rule.minimum_number_should_match ≡ 0 }
+    ensures several { result ≡ true → 2 ≤ terms }
+{
+    let is_free = rule.scoring_enabled && rule.minimum_number_should_match == 0;
+    is_free && terms >= 2 && terms <= MOST_TERMS_BY_BLOCKS
 }
 
 // The run over the scorers of terms, which passes over blocks. What they list together is the list of the weight's
@@ -105,7 +118,7 @@ pub(crate) fn prune_by_blocks<'a, W: StandsFor, F: FnMut(DocId, Score) -> Score,
     callback: &mut F,
 ) -> Result<WandCount, QueryError>
     requires kept { KeepsOneScore combiner }
-    requires terms { ListTogether ⟦<TermScorer<'a, N> as DocSet>⟧ (any_combined combiner) (W.tree weight.now) boost reader.now.segment terms.items }
+    requires terms { ListTogether ⟦<TermScorer<'a, N> as DocSet>⟧ 1 (any_combined combiner) (W.tree weight.now) boost reader.now.segment terms.items }
     requires allowed { MayPruneTreeAt F.step F.pre (W.tree weight.now) boost reader.now.segment threshold callback.old }
     ensures calls { IfOk result (λ count.
         PrunesTreeBy F.step (W.tree weight.now) boost reader.now.segment threshold callback.old count callback.new) }
@@ -118,5 +131,39 @@ pub(crate) fn prune_by_blocks<'a, W: StandsFor, F: FnMut(DocId, Score) -> Score,
             block_wand(alloc, terms, greatest, threshold, callback)
         }
         AnyCombiner::DoNothing(_) => unreachable!(),
+    }
+}
+
+// The run over the documents that all of several terms have, which passes over blocks. These are the list of the weight's
+// tree at the boost, each with the sum of its scores. Refused where the scorers' bounds together are no score.
+pub(crate) fn prune_over_all<'a, W: StandsFor, F: FnMut(DocId, Score) -> Score, N: Norms>(
+    weight: &W,
+    reader: &SegmentReader,
+    terms: Vec<TermScorer<'a, N>>,
+    boost: u64,
+    threshold: Score,
+    callback: &mut F,
+) -> Result<WandCount, QueryError>
+    requires some { 1 ≤ length terms.items }
+    requires terms { ListTogether ⟦<TermScorer<'a, N> as DocSet>⟧ (length terms.items) sum (W.tree weight.now) boost reader.now.segment terms.items }
+    requires allowed { MayPruneTreeAt F.step F.pre (W.tree weight.now) boost reader.now.segment threshold callback.old }
+    ensures calls { IfOk result (λ count.
+        PrunesTreeBy F.step (W.tree weight.now) boost reader.now.segment threshold callback.old count callback.new) }
+    ensures unchanged { OnErr result (callback.new ≡ callback.old) }
+    ensures refused { IfErr result (IsRefusalOf (W.tree weight.now) boost) }
+{
+    check_bounds(&terms)?;
+    Ok(block_wand_all(terms, threshold, callback))
+}
+
+// Refuses scorers whose bounds together are no score.
+pub(crate) fn check_bounds<S: Scorer>(scorers: &[S]) -> Result<(), QueryError>
+    requires valid { All S.valid scorers.now }
+    ensures refused { IsRefusedByBounds S.DocSet scorers.now result }
+    ensures only { IsOkUnless result QueryError.ScoreBound }
+{
+    match sum_of_bounds(scorers) {
+        Some(_) => Ok(()),
+        None => Err(QueryError::ScoreBound),
     }
 }

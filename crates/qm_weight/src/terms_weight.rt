@@ -20,7 +20,7 @@ use qm_scorer::{AnyCombiner, AnyScorer};
 use qm_term::{Explanation, WandCount};
 use runs::{run_should_slices, run_terms};
 use std::alloc::Global;
-use term_union::are_all_should;
+use term_union::are_all;
 
 mod clause_in;
 mod counted;
@@ -177,7 +177,7 @@ impl Weight for TermsWeight {
         if self.rule.scoring_enabled {
             let scorer: AnyScorer<EmptyScorer> = boxed_scorer(self, alloc, reader, 1)?;
             run_node_slices(self, reader, scorer, callback);
-        } else if are_all_should(self) {
+        } else if are_all(self, Occur::Should) {
             run_should_slices(self, alloc, reader, callback)?;
         } else {
             let scorer = unscored_scorer(self, alloc, reader, 1)?;
@@ -186,9 +186,9 @@ impl Weight for TermsWeight {
         Ok(())
     }
 
-    /// Passes over blocks whose documents cannot score above the threshold, where scoring is on, the combiner is the
-    /// sum or the greatest score, and the clauses are up to 300 terms that should match, one of which is enough, or one
-    /// scorer is left and is that of a term. It takes memory before the first call alone.
+    /// Passes over blocks whose documents cannot score above the threshold, where scoring is on, and the clauses are up
+    /// to 300 terms that must match, or that should match, one of which is enough, by the sum or the greatest score, or
+    /// one scorer is left and is that of a term. It takes memory before the first call alone.
     fn for_each_pruning_counted<F: FnMut(DocId, Score) -> Score>(
         &self,
         alloc: Global,

@@ -6,11 +6,11 @@
 //! - The first window has 64 documents, and a further one up to 4096, so that rare cursors that seek pay for little.
 //! - A state is made when its place is first reached: to make all 4096 costs more than a query over two rare words.
 
-ghost use Rattle.std.specs.Prelude.{◌≡◌, ℕ, ◌+◌, ◌-◌, ◌*◌, ◌<◌, ◌≤◌, ◌≢◌, ◌==◌, ◌||◌, ◌++◌, All};
-ghost use Rattle.std.specs.Prelude.{length, map, min, not, slice_index_or, take, vec_capacity, vec_len};
+ghost use Rattle.std.specs.Prelude.{◌≡◌, ℕ, ◌+◌, ◌-◌, ◌*◌, ◌<◌, ◌≤◌, ◌≢◌, ◌==◌, ◌||◌, ◌&&◌, ◌++◌, All};
+ghost use Rattle.std.specs.Prelude.{length, map, min, nat_le, not, slice_index_or, take, vec_capacity, vec_len};
 ghost use Rattle.qm_docset.specs.Entry.{head_document, head_score};
 ghost use Rattle.qm_docset.specs.Lists.{IsPlaced, Lists};
-ghost use Rattle.qm_docset.specs.TinySet.{tiny_members};
+ghost use Rattle.qm_docset.specs.TinySet.{tiny_has, tiny_members};
 ghost use Rattle.qm_docset.specs.Words.{words_have};
 ghost use Rattle.qm_docset.specs.declared.numbers.TheConstants.{TERMINATED};
 ghost use Rattle.std.specs.List.{list_any};
@@ -18,6 +18,7 @@ ghost use Rattle.qm_combine.specs.WindowStates.{last_or, state_of_place};
 
 use crate::all_scorer::AllScorer;
 use crate::const_scorer::ConstScorer;
+use crate::counted::Counted;
 use crate::score_combiner::ScoreCombiner;
 use crate::scorer::Scorer;
 use qm_docset::{COLLECT_BLOCK_BUFFER_LEN, DocId, DocSet, Score, TERMINATED, TinySet};
@@ -56,7 +57,7 @@ pub struct Window<C> {
 }
 
 impl<C: ScoreCombiner> Window<C> {
-    ghost use Rattle.std.specs.Prelude.{◌≤ℤ◌, ◌&&◌, nat_le, nat_abs, false, true, pos, slice_get, IfOk, IsOkUnless};
+    ghost use Rattle.std.specs.Prelude.{◌≤ℤ◌, nat_abs, false, true, pos, slice_get, IfOk, IsOkUnless};
     ghost use Rattle.std.specs.List.{fold};
     ghost use Rattle.qm_docset.specs.Entry.{from};
     ghost use Rattle.qm_combine.specs.Combiner.{HasRoomFor};
@@ -408,6 +409,62 @@ impl<C: ScoreCombiner> Window<C> {
             span
         }
     }
+}
+
+impl<C: ScoreCombiner> Window<Counted<C>> {
+    ghost use Rattle.std.specs.Prelude.{true};
+    ghost use Rattle.qm_combine.specs.Window.{IsUntil, window_combiner, window_has, window_start, window_state};
+
+    /// Leaves of its documents those of which it has at least so many scores. Goes through its words, looks at the
+    /// state of each document once, and clears none.
+    pub fn keep_enough(&mut self, minimum: usize)
+        requires until { IsUntil self.old }
+        ensures start { window_start self.new ≡ window_start self.old }
+        ensures documents { (d : ℕ) → window_has self.new d ≡ (window_has self.old d && nat_le minimum (window_state self.old d).count) }
+        ensures states { (d : ℕ) → window_has self.new d ≡ true → window_state self.new d ≡ window_state self.old d }
+        ensures until { IsUntil self.new }
+        ensures combiner { window_combiner self.new ≡ window_combiner self.old }
+    {
+        // the words before have the documents with enough scores, and the others what they had
+        for bucket in 0..self.words() {
+            self.buckets[bucket] = keep_counted(
+                self.buckets[bucket],
+                &self.states,
+                self.combiner,
+                bucket * 64,
+                minimum,
+            );
+        }
+    }
+}
+
+/// Leaves of a word those numbers whose states, from the place `first` on, have at least so many scores.
+fn keep_counted<C: ScoreCombiner>(
+    word: TinySet,
+    states: &[Counted<C>],
+    cleared: Counted<C>,
+    first: usize,
+    minimum: usize,
+) -> TinySet
+    requires first { first ≤ 4096 }
+    ensures { (x : ℕ) → tiny_has result x
+        ≡ (tiny_has word x && nat_le minimum (slice_index_or states.now (first + x) cleared).count) }
+{
+    let mut kept = word;
+    let mut left = word;
+    // of the numbers that are not left those with enough scores are kept
+    while let Some(lowest) = left.pop_lowest() {
+        let place = first + lowest as usize;
+        let state = if place < states.len() {
+            states[place]
+        } else {
+            cleared
+        };
+        if state.count() < minimum {
+            kept = kept.remove(lowest);
+        }
+    }
+    kept
 }
 
 /// Makes the states up to a place that were not made yet, each cleared. Takes no memory.

@@ -5,7 +5,7 @@
 ghost use Rattle.std.specs.Prelude.{◌≡◌, ◌<◌, ◌≤◌, List, [], drop, length, min, take, true};
 ghost use Rattle.qm_docset.specs.Entry.{documents, from, head_document};
 ghost use Rattle.qm_docset.specs.Gather.{gather};
-ghost use Rattle.qm_combine.specs.United.{IsGoing, Shown, shown_list};
+ghost use Rattle.qm_combine.specs.United.{HasSameMembers, IsGoing, Shown, shown_list};
 ghost use Rattle.qm_combine.specs.Window.{window_combiner, window_has};
 
 use crate::score_combiner::ScoreCombiner;
@@ -41,18 +41,18 @@ pub trait WindowedUnion<C: ScoreCombiner> {
         requires there { window_has (shown self.old).window doc ≡ true }
         ensures document { (shown self.new).document ≡ doc }
         ensures entries { shown_list C.combined C.value (shown self.new) ≡ from doc (shown_list C.combined C.value (shown self.old)) }
-        ensures bounds { (shown self.new).bounds ≡ (shown self.old).bounds }
+        ensures members { HasSameMembers (shown self.old) (shown self.new) }
         ensures standing { standing self.new };
 
-    /// Goes to the least document of its members, and fills the window from there on, out of so many
-    /// documents: at least one, and at most [`HORIZON`]. Whatever the window has is passed over.
+    /// Fills the window from the least document of its members on, out of so many documents at first: at least
+    /// one, and at most [`HORIZON`]. Goes to its first document there. Whatever the window has is passed over.
     fn go_on(&mut self, span: u32) -> DocId
         requires standing { standing self.old }
         requires span { (1 ≤ span) × (span ≤ 4096) }
         ensures head { result ≡ head_document (shown_list C.combined C.value (shown self.new)) }
         ensures entries { shown_list C.combined C.value (shown self.new)
-            ≡ gather 1 (C.combined (window_combiner (shown self.old).window)) (shown self.old).lists }
-        ensures bounds { (shown self.new).bounds ≡ (shown self.old).bounds }
+            ≡ gather (shown self.old).least (C.combined (window_combiner (shown self.old).window)) (shown self.old).lists }
+        ensures members { HasSameMembers (shown self.old) (shown self.new) }
         ensures standing { standing self.new };
 
     /// Goes to its first document at or past a target, which lies past its own document and not past the members'
@@ -63,7 +63,7 @@ pub trait WindowedUnion<C: ScoreCombiner> {
         requires reach { min target TERMINATED ≤ (shown self.old).ahead }
         ensures head { result ≡ head_document (shown_list C.combined C.value (shown self.new)) }
         ensures entries { shown_list C.combined C.value (shown self.new) ≡ from target (shown_list C.combined C.value (shown self.old)) }
-        ensures bounds { (shown self.new).bounds ≡ (shown self.old).bounds }
+        ensures members { HasSameMembers (shown self.old) (shown self.new) }
         ensures standing { standing self.new }
     {
         if let Some(doc) = self.window().next_until_last(target) {
@@ -79,7 +79,7 @@ pub trait WindowedUnion<C: ScoreCombiner> {
         requires standing { standing self.old }
         ensures head { result ≡ head_document (shown_list C.combined C.value (shown self.new)) }
         ensures entries { shown_list C.combined C.value (shown self.new) ≡ drop 1 (shown_list C.combined C.value (shown self.old)) }
-        ensures bounds { (shown self.new).bounds ≡ (shown self.old).bounds }
+        ensures members { HasSameMembers (shown self.old) (shown self.new) }
         ensures standing { standing self.new }
     {
         let next = self.document() + 1;
@@ -96,7 +96,7 @@ pub trait WindowedUnion<C: ScoreCombiner> {
         ensures within { result ≤ length (shown_list C.combined C.value (shown self.old)) }
         ensures documents { take result places.new ≡ documents (take result (shown_list C.combined C.value (shown self.old))) }
         ensures entries { shown_list C.combined C.value (shown self.new) ≡ drop result (shown_list C.combined C.value (shown self.old)) }
-        ensures bounds { (shown self.new).bounds ≡ (shown self.old).bounds }
+        ensures members { HasSameMembers (shown self.old) (shown self.new) }
         ensures standing { standing self.new }
     {
         let count = self.window().fill(self.document(), places);
@@ -112,7 +112,7 @@ pub trait WindowedUnion<C: ScoreCombiner> {
             ≡ documents (take COLLECT_BLOCK_BUFFER_LEN (shown_list C.combined C.value (shown self.old))) }
         ensures entries { shown_list C.combined C.value (shown self.new)
             ≡ drop COLLECT_BLOCK_BUFFER_LEN (shown_list C.combined C.value (shown self.old)) }
-        ensures bounds { (shown self.new).bounds ≡ (shown self.old).bounds }
+        ensures members { HasSameMembers (shown self.old) (shown self.new) }
         ensures standing { standing self.new }
     {
         let mut taken = 0;
@@ -128,7 +128,7 @@ pub trait WindowedUnion<C: ScoreCombiner> {
         requires standing { standing self.old }
         ensures count { result ≡ length (shown_list C.combined C.value (shown self.old)) }
         ensures entries { shown_list C.combined C.value (shown self.new) ≡ [] }
-        ensures bounds { (shown self.new).bounds ≡ (shown self.old).bounds }
+        ensures members { HasSameMembers (shown self.old) (shown self.new) }
         ensures standing { standing self.new }
     {
         let mut count = 0;

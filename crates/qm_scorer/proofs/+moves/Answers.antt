@@ -725,7 +725,8 @@ union_node::refill-returns-clause-entries g t c =
     let ended : length xs ≤ c.loop-i.i = omega (arith, c.loop-i.invariant.unvisited.0, c.loop-i-test.false, c.len-i-end.ensures, n.members.ok.0) in
     ap (λ d. united c.loop-i.node.window d (union_lists D c.loop-i.node)) c.loop-i.invariant.doc
     ∙ refilled-entries (tree_entries D) (tree_limits D) (IsTree D) (IsTreePlaced D) law n.members.items (window_combiner n.window) n.doc
-    (n.doc + c.args.span) xs c.loop-i.i c.loop-i.least c.loop-i.node.window h ended c.requires.members.valid c.requires.first c.requires.cleared
+    (n.doc + c.args.span) xs c.loop-i.i c.loop-i.least c.loop-i.node.window h ended c.requires.members.valid c.requires.first (omega arith)
+    c.requires.cleared
 
 pub union_node::refill-returns-clause-behind : goal.union_node::refill-returns-clause-behind
 union_node::refill-returns-clause-behind g t c =

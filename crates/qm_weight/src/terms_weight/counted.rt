@@ -2,20 +2,21 @@
 
 ghost use Rattle.std.specs.Prelude.{◌≡◌, ◌≤◌, IfErr, IfOk, IsTrue};
 ghost use Rattle.qm_docset.specs.Entry.{greatest_score};
+ghost use Rattle.qm_schema.specs.declared.occur.Occur.TheVariants.{Should};
 ghost use Rattle.qm_weight.specs.Counts.{alive_count};
 ghost use Rattle.qm_weight.specs.Scorers.{IsRefusalOf};
-ghost use Rattle.qm_weight.specs.TermUnions.{AreAllShould};
+ghost use Rattle.qm_weight.specs.TermUnions.{AreAll};
 ghost use Rattle.qm_weight.specs.Weights.{terms_tree};
 
 use crate::counts::count_alive;
 use crate::terms_weight::TermsWeight;
 use crate::terms_weight::joined::{boxed_scorer, unscored_scorer};
 use crate::terms_weight::term_union::{
-    are_all_should, is_one_enough, unscored_disjunction, unscored_union,
+    are_all, is_one_enough, unscored_disjunction, unscored_union,
 };
 use qm_combine::EmptyScorer;
 use qm_postings::SegmentReader;
-use qm_schema::QueryError;
+use qm_schema::{Occur, QueryError};
 use qm_scorer::AnyScorer;
 use std::alloc::Global;
 
@@ -34,7 +35,7 @@ pub(crate) fn count_terms(
         let mut scorer: AnyScorer<EmptyScorer> = boxed_scorer(weight, alloc, reader, boost)?;
         return Ok(count_alive(&mut scorer, reader));
     }
-    if are_all_should(weight) {
+    if are_all(weight, Occur::Should) {
         return count_should(weight, alloc, reader, boost);
     }
     let mut scorer = unscored_scorer(weight, alloc, reader, boost)?;
@@ -49,7 +50,7 @@ fn count_should(
     boost: u64,
 ) -> Result<u32, QueryError>
     requires boost { boost ≤ greatest_score }
-    requires should { AreAllShould weight.now.clauses.items }
+    requires should { AreAll Should weight.now.clauses.items }
     requires off { ¬ IsTrue weight.now.rule.scoring_enabled }
     ensures count { IfOk result (λ n. n ≡ alive_count (terms_tree weight.now) reader.now.segment) }
     ensures refused { IfErr result (IsRefusalOf (terms_tree weight.now) boost) }

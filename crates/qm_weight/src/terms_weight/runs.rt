@@ -2,8 +2,9 @@
 
 ghost use Rattle.std.specs.Fn.{CalledAt, TakesAt};
 ghost use Rattle.std.specs.Prelude.{◌≡◌, IfErr, IsTrue, OnErr, OnOk};
+ghost use Rattle.qm_schema.specs.declared.occur.Occur.TheVariants.{Should};
 ghost use Rattle.qm_weight.specs.Scorers.{IsRefusalOf};
-ghost use Rattle.qm_weight.specs.TermUnions.{AreAllShould, CombinesAs};
+ghost use Rattle.qm_weight.specs.TermUnions.{AreAll, CombinesAs};
 ghost use Rattle.qm_weight.specs.TreeRuns.{CallsSlices, CallsTree, MayCallSlices, MayCallTree};
 ghost use Rattle.qm_weight.specs.Weights.{terms_tree};
 
@@ -12,13 +13,13 @@ use crate::terms_weight::TermsWeight;
 use crate::terms_weight::joined::borrowed_scorer;
 use crate::terms_weight::term_cursor::Borrowing;
 use crate::terms_weight::term_union::{
-    are_all_should, disjunction_of_terms, is_one_enough, union_of_terms, unscored_disjunction,
+    are_all, disjunction_of_terms, is_one_enough, union_of_terms, unscored_disjunction,
     unscored_union,
 };
 use qm_combine::{BufferedDisjunction, BufferedUnionScorer, ScoreCombiner};
 use qm_docset::{DocId, Score};
 use qm_postings::SegmentReader;
-use qm_schema::QueryError;
+use qm_schema::{Occur, QueryError};
 use qm_scorer::AnyCombiner;
 use std::alloc::Global;
 
@@ -34,7 +35,7 @@ pub(super) fn run_terms<F: FnMut(DocId, Score)>(
     ensures unchanged { OnErr result (callback.new ≡ callback.old) }
     ensures refused { IfErr result (IsRefusalOf (terms_tree weight.now) 1) }
 {
-    if are_all_should(weight) {
+    if are_all(weight, Occur::Should) {
         return run_should(weight, alloc, reader, callback);
     }
     let scorer = borrowed_scorer(weight, alloc, reader, 1)?;
@@ -49,7 +50,7 @@ fn run_should<F: FnMut(DocId, Score)>(
     reader: &SegmentReader,
     callback: &mut F,
 ) -> Result<(), QueryError>
-    requires should { AreAllShould weight.now.clauses.items }
+    requires should { AreAll Should weight.now.clauses.items }
     requires allowed { MayCallTree F.step F.pre (terms_tree weight.now) reader.now.segment callback.old }
     ensures calls { OnOk result (CallsTree F.step (terms_tree weight.now) reader.now.segment callback.old callback.new) }
     ensures unchanged { OnErr result (callback.new ≡ callback.old) }
@@ -69,7 +70,7 @@ fn run_by<C: ScoreCombiner, F: FnMut(DocId, Score)>(
     combiner: C,
     callback: &mut F,
 ) -> Result<(), QueryError>
-    requires should { AreAllShould weight.now.clauses.items }
+    requires should { AreAll Should weight.now.clauses.items }
     requires combiner { CombinesAs weight.now.rule.score_combiner (C.combined combiner) }
     requires allowed { MayCallTree F.step F.pre (terms_tree weight.now) reader.now.segment callback.old }
     ensures calls { OnOk result (CallsTree F.step (terms_tree weight.now) reader.now.segment callback.old callback.new) }
@@ -97,7 +98,7 @@ pub(super) fn run_should_slices<F: FnMut(&[DocId])>(
     reader: &SegmentReader,
     callback: &mut F,
 ) -> Result<(), QueryError>
-    requires should { AreAllShould weight.now.clauses.items }
+    requires should { AreAll Should weight.now.clauses.items }
     requires off { ¬ IsTrue weight.now.rule.scoring_enabled }
     requires allowed { MayCallSlices (λ f xs g. CalledAt F.FnMut f xs tt g) (TakesAt F.FnMut) (terms_tree weight.now) reader.now.segment callback.old }
     ensures calls { OnOk result

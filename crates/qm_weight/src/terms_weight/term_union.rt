@@ -8,7 +8,7 @@ ghost use Rattle.qm_docset.specs.Entry.{greatest_score};
 ghost use Rattle.qm_schema.specs.declared.occur.Occur.TheVariants.{Should};
 ghost use Rattle.qm_weight.specs.ClauseScorers.{IsClauseRefusal};
 ghost use Rattle.qm_weight.specs.Scorers.{IsRefusalOf, IsScorerOf};
-ghost use Rattle.qm_weight.specs.TermUnions.{AreAllShould, AreClauseCursors, CombinesAs, IsTermUnion, clauses_in};
+ghost use Rattle.qm_weight.specs.TermUnions.{AreAll, AreTreeCursors, CombinesAs, IsTermUnion, clauses_in, trees_in};
 ghost use Rattle.qm_weight.specs.Weights.{terms_tree};
 
 use crate::terms_weight::clause_in::ClauseIn;
@@ -27,32 +27,23 @@ pub(super) fn is_one_enough(weight: &TermsWeight) -> bool
     weight.rule.minimum_number_should_match <= 1
 }
 
-// Whether the terms should match, however many of them have to.
-pub(super) fn are_all_should(weight: &TermsWeight) -> bool
-    ensures { result ≡ true → AreAllShould weight.now.clauses.items }
+// Whether all terms occur so.
+pub(super) fn are_all(weight: &TermsWeight, occur: Occur) -> bool
+    ensures { result ≡ true → AreAll occur weight.now.clauses.items }
 {
-    each_should(&weight.clauses)
+    each_occurs(&weight.clauses, occur)
 }
 
-fn each_should(clauses: &[TermClause]) -> bool
-    ensures { result ≡ true → AreAllShould clauses.now }
+fn each_occurs(clauses: &[TermClause], occur: Occur) -> bool
+    ensures { result ≡ true → AreAll occur clauses.now }
 {
-    // all clauses before this one should match
+    // all clauses before this one occur so
     for clause in clauses {
-        if !is_should(clause.occur) {
+        if clause.occur != occur {
             return false;
         }
     }
     true
-}
-
-fn is_should(occur: Occur) -> bool
-    ensures { result ≡ true → occur ≡ Should }
-{
-    match occur {
-        Occur::Should => true,
-        Occur::Must | Occur::MustNot => false,
-    }
 }
 
 // The union over documents alone, where scoring is off.
@@ -80,7 +71,7 @@ pub(super) fn unscored_disjunction<'a>(
     boost: u64,
 ) -> Result<BufferedDisjunction<Unscored<'a>, DoNothingCombiner>, QueryError>
     requires boost { boost ≤ greatest_score }
-    requires should { AreAllShould weight.now.clauses.items }
+    requires should { AreAll Should weight.now.clauses.items }
     requires several { 2 ≤ weight.now.rule.minimum_number_should_match }
     requires off { ¬ IsTrue weight.now.rule.scoring_enabled }
     ensures scorer { IfOk result
@@ -120,7 +111,7 @@ pub(super) fn disjunction_of_terms<'a, T: TermCursor<'a>, C: ScoreCombiner>(
     combiner: C,
 ) -> Result<BufferedDisjunction<T, C>, QueryError>
     requires boost { boost ≤ greatest_score }
-    requires should { AreAllShould weight.now.clauses.items }
+    requires should { AreAll Should weight.now.clauses.items }
     requires several { 2 ≤ weight.now.rule.minimum_number_should_match }
     requires scores { IsTrue weight.now.rule.scoring_enabled → T.gives_scores }
     requires combiner { IsTrue weight.now.rule.scoring_enabled → CombinesAs weight.now.rule.score_combiner (C.combined combiner) }
@@ -140,9 +131,8 @@ pub(super) fn cursors_of_terms<'a, T: TermCursor<'a>>(
     boost: u64,
 ) -> Result<Vec<T>, QueryError>
     requires boost { boost ≤ greatest_score }
-    requires should { AreAllShould weight.now.clauses.items }
     requires scores { IsTrue weight.now.rule.scoring_enabled → T.gives_scores }
-    ensures cursors { IfOk result (λ cursors. AreClauseCursors T.DocSet (clauses_in weight.now) boost reader.now.segment cursors.items) }
+    ensures cursors { IfOk result (λ cursors. AreTreeCursors T.DocSet (trees_in weight.now) boost reader.now.segment cursors.items) }
     ensures refused { IfErr result (IsClauseRefusal (clauses_in weight.now) boost) }
 {
     let mut cursors = Vec::with_capacity(alloc, weight.clauses.len())?;

@@ -4,9 +4,9 @@ use Rattle.std.proofs.lemmas.Int.{to_z-of_z}
 use Rattle.qm_docset.specs.Entry.{Entry}
 use Rattle.qm_scorer.specs.Bare.{bare}
 use Rattle.qm_scorer.specs.Tree.{tree_entries}
+use Rattle.qm_term.specs.Conjunction.{PrunesBy}
 use Rattle.qm_term.specs.Runs.{InRange, MayPrune}
 use Rattle.qm_term.specs.TermScorer.{scored_left}
-use Rattle.qm_weight.specs.TreeRuns.{PrunesBy}
 use Rattle.qm_weight.proofs.RunSteps.{MayPrune-at, MayPrune-bare, PrunesBy-at, PrunesBy-bare, term-run}
 use Rattle.qm_weight.proofs.pruning.prune_scorer.Goals as goal
 

@@ -1,6 +1,8 @@
 use Rattle.std.proofs.Common.{◌≤◌, ◌*◌, List, ap, inl, inr, sym, subst, ◌∙◌}
 use Rattle.qm_docset.specs.declared.numbers.TheConstants.{TERMINATED}
 use Rattle.qm_postings.specs.Reading.{Reader}
+use Rattle.qm_index.specs.Parts.{segments_of}
+use Rattle.qm_script.specs.Parts.{document_count}
 use Rattle.qm_script.specs.Prefixes.{has_failing}
 use Rattle.qm_script.specs.ProgramNumbers.{most_segments}
 use Rattle.qm_script.specs.Reached.{is_reached}
@@ -16,7 +18,8 @@ returns-in-Some-clause-few c q served =
     let readers : List Reader = c.searcher-searcher.result.now.segments in
     let narrow = (subst (IsServed q c.args.self.now) c.in-Some.is served).segments in
     subst (λ n. n ≤ most_segments * TERMINATED)
-    (sym (count-narrowed q (script c.args.self.now) readers c.in-Some.narrowed.segments c.searcher-searcher.ensures.searched narrow ∙ count-readers readers))
+    (sym (ap (λ s. document_count (segments_of s.segments)) c.deref.ensures
+    ∙ count-narrowed q (script c.args.self.now) readers c.in-Some.narrowed.value.segments c.searcher-searcher.ensures.searched narrow ∙ count-readers readers))
     c.searcher-searcher.ensures.few
 
 pub returns-in-None-clause-serve : goal.returns-in-None-clause-serve

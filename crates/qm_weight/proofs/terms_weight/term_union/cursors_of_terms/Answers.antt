@@ -1,11 +1,9 @@
 -- The cursors so far are those of the clauses so far.
 use Rattle.std.proofs.Common.{rules, ◌≡◌, ◌++◌, ◌∷◌, ◌<◌, [], Err, Global, IfErr, Vec, ap, get_or, length, subst, sym, ◌∙◌}
 use Rattle.std.proofs.lemmas.List.{append-nil}
-use Rattle.qm_schema.specs.declared.occur.Occur.TheVariants.{Should}
 use Rattle.qm_weight.specs.ClauseScorers.{IsClauseRefusal}
-use Rattle.qm_weight.specs.TermUnions.{clauses_in, there}
+use Rattle.qm_weight.specs.TermUnions.{clause_of, clauses_in, there}
 use Rattle.qm_weight.specs.Weights.{clause_occur, clause_tree}
-use Rattle.qm_weight.specs.declared.terms_weight.TermClause.{TermClause}
 use Rattle.qm_weight.proofs.ClauseSteps.{refusal-clause}
 use Rattle.qm_weight.proofs.TermUnions.{cursors-step}
 use Rattle.qm_weight.proofs.terms_weight.term_union.cursors_of_terms.Goals as goal
@@ -33,8 +31,6 @@ loop-clause-preserved g c =
     let within = subst (λ xs. i < length xs) items c.loop-clause-test.true in
     let before = c.loop-clause.cursors.items in
     let found = c.in_ok-cursor.field-0 in
-    let P : TermClause → Type 0 = λ x. clause_occur x ≡ Should in
-    let should : P item = subst P (sym at) (c.requires.should i item within) in
     let added : c.match-branch-3.cursors.items ≡ before ++ there (found ∷ []) = elim c.match-branch-3.branch [
       | in-Some+in_ok-push b ↦
           ap (λ (v : Vec g.row.T.Denot Global). v.items) b.cursors-is ∙ b.in_ok-push.ensures.items ∙ ap (λ f. before ++ there (f ∷ [])) (sym b.in-Some.is)
@@ -42,5 +38,5 @@ loop-clause-preserved g c =
           ap (λ (v : Vec g.row.T.Denot Global). v.items) b.cursors-is ∙ sym (append-nil before)
           ∙ ap (λ f. before ++ there (f ∷ [])) (sym b.in_default.is)
     ] in
-    cursors-step g.T.DocSet clause_occur (clause_tree w.rule.scoring_enabled w.norms) c.args.boost c.args.reader.now.segment w.clauses.items i item before
-    c.match-branch-3.cursors.items found at within should c.loop-clause.invariant c.in_ok-cursor.ensures.cursor added
+    cursors-step g.T.DocSet (clause_of w) c.args.boost c.args.reader.now.segment w.clauses.items i item before
+    c.match-branch-3.cursors.items found at within c.loop-clause.invariant c.in_ok-cursor.ensures.cursor added

@@ -59,6 +59,6 @@ loop-taken-preserved g c =
       filled = buffer-more es _ xs new t r (take-put_mid t (64 - t) xs new (t + length new) refl (omega (arith, rest))) (omega (arith, rest))
           (omega (arith, few, same)) inv.filled (e.documents ∙ ap (λ ys. documents (take r ys)) inv.left);
       left = e.entries ∙ ap (drop r) inv.left ∙ drop-drop r t es;
-      bounds = e.bounds ∙ inv.bounds;
+      members = record { least = e.members.least ∙ inv.members.least; bounds = e.members.bounds ∙ inv.members.bounds };
       standing = e.standing;
     }

@@ -1,6 +1,6 @@
 use Rattle.std.proofs.Common.{◌≡◌, ◌-◌, ◌≤◌, drop, length, take}
 use Rattle.qm_docset.specs.Entry.{documents}
-use Rattle.qm_combine.specs.United.{shown_list}
+use Rattle.qm_combine.specs.United.{HasSameMembers, shown_list}
 use Rattle.qm_combine.proofs.union.windowed_union.WindowedUnion.fill.Given as goal
 
 abbrev pub invariant-loop-taken : goal.invariant-loop-taken
@@ -12,7 +12,7 @@ invariant-loop-taken g l = record {
       (take l.taken (shown_list g.C.ScoreCombiner.combined g.C.ScoreCombiner.value (g.Self.WindowedUnion.shown l.fn.self)));
   left : shown_list g.C.ScoreCombiner.combined g.C.ScoreCombiner.value (g.Self.WindowedUnion.shown l.self) ≡ drop l.taken
       (shown_list g.C.ScoreCombiner.combined g.C.ScoreCombiner.value (g.Self.WindowedUnion.shown l.fn.self));
-  bounds : (g.Self.WindowedUnion.shown l.self).bounds ≡ (g.Self.WindowedUnion.shown l.fn.self).bounds;
+  members : HasSameMembers (g.Self.WindowedUnion.shown l.fn.self) (g.Self.WindowedUnion.shown l.self);
   standing : g.Self.WindowedUnion.standing l.self;
 }
 

@@ -37,9 +37,9 @@ returns-in-Some-clause-entries g c =
     let score = kept_score g.C.ScoreCombiner.combined g.C.ScoreCombiner.value w in
     let combined = g.C.ScoreCombiner.combined (window_combiner w) in
     let limits = united_limits s.bounds in
-    let stands = stands_on 1 (omega arith) (window_has w) score s.document s.ahead combined limits s.bounds s.lists h.members h.standing doc
+    let stands = stands_on s.least h.some (window_has w) score s.document s.ahead combined limits s.bounds s.lists h.members h.standing doc
     (omega (arith, first.above, c.requires.past)) first.member in
-    let goes = goes_next 1 (omega arith) (window_has w) score s.document s.ahead combined limits s.bounds s.lists h.members h.standing c.args.target
+    let goes = goes_next s.least h.some (window_has w) score s.document s.ahead combined limits s.bounds s.lists h.members h.standing c.args.target
     doc (window_end w)
     (omega (arith, c.requires.past)) first in
     c.stand_on.ensures.entries ∙ sym stands.0 ∙ goes.0
@@ -52,6 +52,6 @@ returns-clause-entries g c =
     let none = answers_none w c.args.target
     (subst (λ (v : Window g.row.C.Denot). None ≡ slice_get (window_from v c.args.target) 0) c.window.ensures c.in_default.ensures) in
     c.go_on.ensures.entries
-    ∙ goes_on 1 (omega arith) (window_has w) (kept_score g.C.ScoreCombiner.combined g.C.ScoreCombiner.value w) s.document s.ahead
+    ∙ goes_on s.least h.some (window_has w) (kept_score g.C.ScoreCombiner.combined g.C.ScoreCombiner.value w) s.document s.ahead
     (g.C.ScoreCombiner.combined (window_combiner w)) (united_limits s.bounds) s.bounds s.lists h.members h.standing c.args.target
     (omega (arith, c.requires.past)) c.requires.reach none

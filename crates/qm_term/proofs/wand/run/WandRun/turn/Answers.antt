@@ -12,17 +12,13 @@ use Rattle.qm_term.specs.declared.wand.heads.Head.{Head}
 use Rattle.std.proofs.lemmas.Bool.{true≢false}
 use Rattle.qm_term.proofs.RowRecords.{row_members}
 use Rattle.qm_term.proofs.WandSteps.{whole}
-use Rattle.qm_term.proofs.WandTurns.{no_pivot_above, turn_at}
+use Rattle.qm_term.proofs.WandTurns.{counted, no_pivot_above, turn_at}
 use Rattle.qm_term.specs.contracts.wand.run.WandRun.turn.F-FnMut as fnmut
 use Rattle.qm_term.proofs.wand.run.WandRun.turn.Goals as goal
 
 room_after : (found : Bool) (b t n m : ℕ) → t + n < b → (found ≡ true → m < n) → (found ≡ false → m ≡ n) → t + bool_byte found + m < b
 room_after true b t n m h more less = omega (arith, more refl)
 room_after false b t n m h more less = omega (arith, less refl)
-
-counted : (found : Bool) → ◌≡◌ {A = ℕ} (bool_byte found) (cond found 1 0)
-counted true = refl
-counted false = refl
 
 ticks_after : (found ticked : Bool) (a b : ℕ) → a ≤ b → (found ≡ false → ticked ≡ false) → a + cond ticked 1 0 ≤ b + bool_byte found
 ticks_after true true a b h n = omega arith
