@@ -35,7 +35,10 @@ impl Pause {
         let len = if passes {
             0
         } else {
-            self.len.saturating_mul(2).saturating_add(1).min(LONGEST_PAUSE)
+            self.len
+                .saturating_mul(2)
+                .saturating_add(1)
+                .min(LONGEST_PAUSE)
         };
         Pause { left: len, len }
     }
