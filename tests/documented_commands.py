@@ -34,6 +34,7 @@ NOT_RUN = {
     "python3 tests/growth.py": "quick.py and the gate run it",
     "python3 tests/sentences.py": "quick.py and the gate run it",
     "python3 tests/layers.py": "it writes; the gate and quick.py run it with --check",
+    "python3 tests/layout.py": "quick.py runs it, and rt ci looks itself",
     "python3 tests/limits.py": "quick.py and the gate run it",
     "python3 tests/using_runs.py": "quick.py and the gate run it",
     "python3 tests/api.py": "it needs python3-markdown; tests/api_runs.py makes the pages",

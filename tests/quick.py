@@ -48,6 +48,7 @@ def main(words):
             if not all(pool.map(lambda name: build(room, name), BUILT)):
                 return 1
         runs = [
+            [f"{ROOT}/tests/layout.py"],
             [f"{ROOT}/tests/own_runs.py", room],
             [f"{ROOT}/tests/wrong_bodies.py", "--look"],
             [f"{ROOT}/tests/refused_calls.py"],
