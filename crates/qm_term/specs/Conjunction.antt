@@ -1,5 +1,5 @@
 -- The run over the documents that all of several terms' scorers have.
-use Rattle.std.specs.Prelude.{ℕ, ℤ, ◌+◌, ◌<◌, ◌≤◌, All, Bool, List, cond, length, map}
+use Rattle.std.specs.Prelude.{ℕ, ℤ, ◌+◌, ◌<◌, ◌≤◌, All, Bool, List, ◌∷◌, cond, length, map}
 use Rattle.qm_combine.specs.HeldSum.{held_sum}
 use Rattle.qm_docset.specs.Entry.{Entry}
 use Rattle.qm_docset.specs.Gather.{common_entries}
@@ -13,6 +13,10 @@ use Rattle.qm_term.specs.declared.wand.ticks.WandCount.{WandCount}
 -- what all of several scorers have left: each document with the sum of its scores, held at the greatest score
 abbrev pub common_left : {N : Type 0} {G : NormGhosts N} → List (TermScorer N G) → List Entry
 common_left scorers = common_entries held_sum (map scored_left scorers)
+
+-- the same of the scorer that leads and of the others
+abbrev pub led_left : {N : Type 0} {G : NormGhosts N} → TermScorer N G → List (TermScorer N G) → List Entry
+led_left leader others = common_left (leader ∷ others)
 
 -- no document from `low` on and before `next` scores above a bound
 abbrev pub IsBoundedIn : ℕ → ℕ → ℕ → List Entry → Type 0

@@ -3,7 +3,7 @@
 ghost use Rattle.std.specs.Prelude.{◌≡◌, ◌+◌, ◌<◌, ◌≤◌, ◌∷◌, ◌^◌, All, IsPermutation, length, map, pos, vec_len};
 ghost use Rattle.qm_combine.specs.HeldSum.{held_sum};
 ghost use Rattle.qm_docset.specs.Entry.{greatest_score, head_document, head_score};
-ghost use Rattle.qm_term.specs.Conjunction.{IsBoundedIn, PrunesBy, TurnsInto, common_left};
+ghost use Rattle.qm_term.specs.Conjunction.{IsBoundedIn, PrunesBy, TurnsInto, common_left, led_left};
 ghost use Rattle.qm_term.specs.Runs.{InRange, MayPrune};
 ghost use Rattle.qm_term.specs.TermScorer.{IsTermScorer, scored_left};
 
@@ -127,8 +127,8 @@ fn run_all<F: FnMut(DocId, Score) -> Score, N: Norms>(
     callback: &mut F,
 ) -> WandCount
     requires valid { All IsTermScorer (leader.old ∷ others.old) }
-    requires callable { MayPrune (InRange F.step) F.pre threshold callback.old (common_left (leader.old ∷ others.old)) }
-    ensures run { PrunesBy F.step (common_left (leader.old ∷ others.old)) threshold callback.old result callback.new }
+    requires callable { MayPrune (InRange F.step) F.pre threshold callback.old (led_left leader.old others.old) }
+    ensures run { PrunesBy F.step (led_left leader.old others.old) threshold callback.old result callback.new }
 {
     let mut threshold = threshold;
     let mut ticks: u128 = 0;
@@ -162,13 +162,13 @@ fn stretch_at<N: Norms>(
     requires below { doc < TERMINATED }
     requires end { known.next ≤ TERMINATED }
     requires bound { known.bound ≤ greatest_score }
-    requires bounded { IsBoundedIn doc known.next known.bound (common_left (leader.old ∷ others.old)) }
+    requires bounded { IsBoundedIn doc known.next known.bound (led_left leader.old others.old) }
     ensures valid { All IsTermScorer (leader.new ∷ others.new) }
     ensures lists { map scored_left (leader.new ∷ others.new) ≡ map scored_left (leader.old ∷ others.old) }
     ensures past { doc < result.next }
     ensures end { result.next ≤ TERMINATED }
     ensures bound { result.bound ≤ greatest_score }
-    ensures bounded { IsBoundedIn doc result.next result.bound (common_left (leader.old ∷ others.old)) }
+    ensures bounded { IsBoundedIn doc result.next result.bound (led_left leader.old others.old) }
 {
     if doc < known.next {
         return known;
@@ -199,7 +199,7 @@ fn look_at_all<N: Norms>(
     ensures past { doc < result.next }
     ensures end { result.next ≤ TERMINATED }
     ensures bound { result.bound ≤ greatest_score }
-    ensures bounded { IsBoundedIn doc result.next result.bound (common_left (leader.old ∷ others.old)) }
+    ensures bounded { IsBoundedIn doc result.next result.bound (led_left leader.old others.old) }
 {
     let Stretch {
         mut next,
@@ -248,15 +248,14 @@ fn turn_all<F: FnMut(DocId, Score) -> Score, N: Norms>(
     requires past { doc < stretch.next }
     requires end { stretch.next ≤ TERMINATED }
     requires bound { stretch.bound ≤ greatest_score }
-    requires bounded { IsBoundedIn doc stretch.next stretch.bound (common_left (leader.old ∷ others.old)) }
-    requires callable { MayPrune (InRange F.step) F.pre threshold callback.old (common_left (leader.old ∷ others.old)) }
+    requires bounded { IsBoundedIn doc stretch.next stretch.bound (led_left leader.old others.old) }
+    requires callable { MayPrune (InRange F.step) F.pre threshold callback.old (led_left leader.old others.old) }
     ensures valid { All IsTermScorer (leader.new ∷ others.new) }
     ensures here { result.doc ≡ head_document (scored_left leader.new) }
     ensures later { doc < result.doc }
-    ensures bounded { IsBoundedIn result.doc stretch.next stretch.bound (common_left (leader.new ∷ others.new)) }
-    ensures run { TurnsInto F.step (common_left (leader.old ∷ others.old)) threshold callback.old result.ticked
-        (common_left (leader.new ∷ others.new)) result.threshold callback.new }
-    ensures callable { MayPrune (InRange F.step) F.pre result.threshold callback.new (common_left (leader.new ∷ others.new)) }
+    ensures bounded { IsBoundedIn result.doc stretch.next stretch.bound (led_left leader.new others.new) }
+    ensures run { TurnsInto F.step (led_left leader.old others.old) threshold callback.old result.ticked (led_left leader.new others.new) result.threshold callback.new }
+    ensures callable { MayPrune (InRange F.step) F.pre result.threshold callback.new (led_left leader.new others.new) }
 {
     if !is_above(stretch.bound, threshold) {
         let past = leader.seek(stretch.next);
