@@ -20,6 +20,7 @@ mod query_tree;
 mod row_places;
 mod rows;
 mod snippet;
+mod table_reader;
 mod tables;
 mod words;
 

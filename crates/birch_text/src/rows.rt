@@ -3,8 +3,9 @@
 use crate::lines::line_at;
 use crate::passage::{Passages, Place};
 use crate::row_places::RowPlaces;
+use crate::table_reader::{NextRow, TableReader};
 use anyhow::{Result, bail};
-use csv::{Error, ErrorKind, ReaderBuilder, StringRecord};
+use csv::StringRecord;
 use serde_json::{Map, Value};
 use std::alloc::{AllocError, Global};
 
@@ -59,31 +60,34 @@ impl Row {
 /// Refused where the first row can't be read, for want of memory, and as a call of [`Passages::add_row`]
 /// is.
 pub(crate) fn add_csv_rows<P: Passages>(alloc: Global, text: &str, passages: &mut P) -> Result<()> {
-    let mut reader = ReaderBuilder::new()
-        .flexible(true)
-        .has_headers(false)
-        .from_reader(alloc, text.as_bytes());
+    let mut table = TableReader::new(alloc, text);
     let mut head = StringRecord::new(alloc);
-    match reader.read_record(&mut head) {
-        Ok(_) => {}
-        Err(error) if is_memory(&error) => return Err(AllocError.into()),
-        Err(_) => bail!("its first row can't be read"),
+    if let NextRow::Unreadable = table.read(&mut head)? {
+        bail!("its first row can't be read");
     }
     let mut record = StringRecord::new(alloc);
+    add_rows_below(alloc, &head, &mut table, &mut record, text, passages)
+}
+
+// Hands over the rows below a head, each of them read into the same room.
+fn add_rows_below<P: Passages>(
+    alloc: Global,
+    head: &StringRecord,
+    table: &mut TableReader<'_>,
+    record: &mut StringRecord,
+    text: &str,
+    passages: &mut P,
+) -> Result<()> {
     let mut places = RowPlaces::new(text);
     // the rows before this one are added, or left out
     for _ in 0..u64::MAX {
-        let from = reader.position().byte();
-        let found = reader.read_record(&mut record);
-        let place = places.next_place(from, reader.position().byte())?;
-        match found {
-            Ok(false) => return Ok(()),
-            Ok(true) => {
-                let row = csv_row(alloc, Some(&head), &record)?;
-                passages.add_row(&row, place)?;
-            }
-            Err(error) if is_memory(&error) => return Err(AllocError.into()),
-            Err(_) => passages.leave_out(place.line),
+        let from = table.read_bytes();
+        let next = table.read(record)?;
+        let place = places.next_place(from, table.read_bytes())?;
+        match next {
+            NextRow::None => break,
+            NextRow::Read => passages.add_row(&csv_row(alloc, Some(head), record)?, place)?,
+            NextRow::Unreadable => passages.leave_out(place.line),
         }
     }
     Ok(())
@@ -111,21 +115,11 @@ fn csv_row(
 ///
 /// Refused for want of memory alone. Where the file was changed meanwhile it may be empty.
 pub(crate) fn csv_row_text(alloc: Global, piece: &str) -> Result<String, AllocError> {
-    let mut reader = ReaderBuilder::new()
-        .flexible(true)
-        .has_headers(false)
-        .from_reader(alloc, piece.as_bytes());
     let mut record = StringRecord::new(alloc);
-    match reader.read_record(&mut record) {
-        Ok(true) => Ok(csv_row(alloc, None, &record)?.text),
-        Err(error) if is_memory(&error) => Err(AllocError),
+    match TableReader::new(alloc, piece).read(&mut record)? {
+        NextRow::Read => Ok(csv_row(alloc, None, &record)?.text),
         _ => Ok(String::new(alloc)),
     }
-}
-
-/// Whether a table can't be read for want of memory.
-pub(crate) fn is_memory(error: &Error) -> bool {
-    matches!(error.kind(), ErrorKind::OutOfMemory)
 }
 
 /// Hands over each line of JSON that is an object, whose texts, numbers and the like are fields by the keys

@@ -3,9 +3,9 @@
 use crate::lines::line_at;
 use crate::passage::{Passages, Place};
 use crate::row_places::RowPlaces;
-use crate::rows::is_memory;
+use crate::table_reader::{NextRow, TableReader};
 use anyhow::{Result, anyhow, bail};
-use csv::{ReaderBuilder, StringRecord};
+use csv::StringRecord;
 use serde_json::Value;
 use std::alloc::{AllocError, Global};
 
@@ -20,29 +20,36 @@ pub(crate) fn add_csv<P: Passages>(
     text: &str,
     passages: &mut P,
 ) -> Result<()> {
-    let mut reader = ReaderBuilder::new()
-        .flexible(true)
-        .has_headers(false)
-        .from_reader(alloc, text.as_bytes());
-    let mut row = StringRecord::new(alloc);
     let Some(column) = column_in(alloc, text, column)? else {
         bail!("no column is called {column}");
     };
+    let mut table = TableReader::new(alloc, text);
+    let mut row = StringRecord::new(alloc);
+    add_column(column, &mut table, &mut row, text, passages)
+}
+
+// Hands over a column of each row below the head, all of them read into the same room.
+fn add_column<P: Passages>(
+    column: usize,
+    table: &mut TableReader<'_>,
+    row: &mut StringRecord,
+    text: &str,
+    passages: &mut P,
+) -> Result<()> {
     let mut places = RowPlaces::new(text);
     // the rows before this one are added, or left out
     for turn in 0..u64::MAX {
-        let from = reader.position().byte();
-        let found = reader.read_record(&mut row);
-        let place = places.next_place(from, reader.position().byte())?;
-        match found {
-            Ok(false) => return Ok(()),
-            Ok(true) if turn == 0 => {}
-            Ok(true) => match row.get(column) {
+        let from = table.read_bytes();
+        let next = table.read(row)?;
+        let place = places.next_place(from, table.read_bytes())?;
+        match next {
+            NextRow::None => break,
+            NextRow::Read if turn == 0 => {}
+            NextRow::Read => match row.get(column) {
                 Some(field) => passages.add(field, place)?,
                 None => passages.leave_out(place.line),
             },
-            Err(error) if is_memory(&error) => return Err(AllocError.into()),
-            Err(_) => passages.leave_out(place.line),
+            NextRow::Unreadable => passages.leave_out(place.line),
         }
     }
     Ok(())
@@ -52,28 +59,18 @@ pub(crate) fn add_csv<P: Passages>(
 ///
 /// Refused where the head can't be read, and for want of memory.
 pub fn column_in(alloc: Global, text: &str, name: &str) -> Result<Option<usize>> {
-    let mut reader = ReaderBuilder::new()
-        .flexible(true)
-        .has_headers(false)
-        .from_reader(alloc, text.as_bytes());
     let mut row = StringRecord::new(alloc);
-    match reader.read_record(&mut row) {
-        Ok(_) => Ok(row.iter().position(|field| field == name)),
-        Err(error) if is_memory(&error) => Err(AllocError.into()),
-        Err(_) => Err(anyhow!("its first row can't be read")),
+    match TableReader::new(alloc, text).read(&mut row)? {
+        NextRow::Unreadable => Err(anyhow!("its first row can't be read")),
+        _ => Ok(row.iter().position(|field| field == name)),
     }
 }
 
 // A column of a row.
 pub(crate) fn csv_text(alloc: Global, column: usize, piece: &str) -> Result<String, AllocError> {
-    let mut reader = ReaderBuilder::new()
-        .flexible(true)
-        .has_headers(false)
-        .from_reader(alloc, piece.as_bytes());
     let mut row = StringRecord::new(alloc);
-    match reader.read_record(&mut row) {
-        Ok(true) => String::from_str(alloc, row.get(column).unwrap_or("")),
-        Err(error) if is_memory(&error) => Err(AllocError),
+    match TableReader::new(alloc, piece).read(&mut row)? {
+        NextRow::Read => String::from_str(alloc, row.get(column).unwrap_or("")),
         _ => Ok(String::new(alloc)),
     }
 }
