@@ -190,13 +190,24 @@ fn json_row(alloc: Global, value: &Value) -> Result<Row, AllocError> {
         let Some((path, value)) = left.pop() else {
             break;
         };
-        match value {
-            Value::Object(members) => push_members(alloc, &mut left, path.as_str(), members)?,
-            Value::Array(items) => push_items(alloc, &mut left, path.as_str(), items)?,
-            _ => push_value(alloc, &mut row, path.as_str(), value)?,
-        }
+        push_found(alloc, &mut row, &mut left, path.as_str(), value)?;
     }
     Ok(row)
+}
+
+// Adds what is found at a path: what has parts to what is left, and a value to the row.
+fn push_found<'a>(
+    alloc: Global,
+    row: &mut Row,
+    left: &mut Vec<(String, &'a Value)>,
+    path: &str,
+    value: &'a Value,
+) -> Result<(), AllocError> {
+    match value {
+        Value::Object(members) => push_members(alloc, left, path, members),
+        Value::Array(items) => push_items(alloc, left, path, items),
+        _ => push_value(alloc, row, path, value),
+    }
 }
 
 // Adds the members of an object to what is left, each by the path that leads to it.
