@@ -17,14 +17,21 @@ pub fn forget(rt: &HostRuntime, home: &Home) -> Result<bool, Trouble> {
     let mut folder = SystemFolder::open(rt, home.folder.as_str())?;
     // without it there is no index, whatever else is left
     folder.remove(MANIFEST)?;
+    let names = folder.list(rt.alloc())?;
+    remove_named(&mut folder, &names)?;
+    drop(held);
+    fs::remove_dir(rt, home.folder.as_str())?;
+    Ok(true)
+}
+
+// Removes those of the names that an index has.
+fn remove_named<F: Folder>(folder: &mut F, names: &[String]) -> Result<(), Trouble> {
     // of the names before this one, those that an index has are removed
-    for name in folder.list(rt.alloc())? {
+    for name in names {
         let name = name.as_str();
         if number_of(name).is_some() || name == STAGED || name == LOCK {
             folder.remove(name)?;
         }
     }
-    drop(held);
-    fs::remove_dir(rt, home.folder.as_str())?;
-    Ok(true)
+    Ok(())
 }

@@ -80,23 +80,28 @@ fn folder_of_all(rt: &HostRuntime, reading: &Reading<'_>) -> Result<String, Trou
 // What an index is of, as a line of JSON.
 fn asked_of(rt: &HostRuntime, reading: &Reading<'_>, paths: &[&str]) -> Result<String, Trouble> {
     let alloc = rt.alloc();
-    let (form, part) = form_of(reading.form);
-    let mut whole = Vec::with_capacity(alloc, paths.len())?;
-    // the whole paths of those before this one are there
-    for path in paths {
-        let path = whole_path(rt, path)?;
-        whole.push(text_value(alloc, path.as_str())?)?;
-    }
-    let paths = Value::Array(whole);
+    let paths = whole_paths(rt, paths)?;
     let globs = text_values(alloc, &reading.globs)?;
     let types = text_values(alloc, &reading.types)?;
+    Ok(asked_line(alloc, reading, &paths, &globs, &types)?)
+}
+
+// The line of JSON that has these lists.
+fn asked_line(
+    alloc: Global,
+    reading: &Reading<'_>,
+    paths: &Value,
+    globs: &Value,
+    types: &Value,
+) -> Result<String, AllocError> {
+    let (form, part) = form_of(reading.form);
     let (hidden, ignored, most) = (reading.has_hidden, reading.has_ignored, reading.max_size);
     let accents = reading.accents == Accents::Kept;
     let asked = json!(in alloc; {
         "way": WAY, "form": form, "part": part, "accents": accents, "hidden": hidden, "ignored": ignored,
         "most": most, "globs": globs, "types": types, "paths": paths
     })?;
-    Ok(asked.to_string(alloc)?)
+    asked.to_string(alloc)
 }
 
 // What of a file is a document, and which part of that.
@@ -118,6 +123,17 @@ pub fn whole_path(rt: &HostRuntime, path: &str) -> Result<String, Trouble> {
         Err(error) if error.kind() == std::io::ErrorKind::OutOfMemory => Err(Trouble::from(error)),
         Err(_) => Err(Trouble::Homeless),
     }
+}
+
+// The whole paths of some, as a list.
+fn whole_paths(rt: &HostRuntime, paths: &[&str]) -> Result<Value, Trouble> {
+    let mut whole = Vec::with_capacity(rt.alloc(), paths.len())?;
+    // the whole paths of those before this one are there
+    for path in paths {
+        let path = whole_path(rt, path)?;
+        whole.push(text_value(rt.alloc(), path.as_str())?)?;
+    }
+    Ok(Value::Array(whole))
 }
 
 fn text_values(alloc: Global, texts: &[&str]) -> Result<Value, AllocError> {
