@@ -1,11 +1,12 @@
 -- An index as the files of a folder.
-use Rattle.std.specs.Prelude.{◌≡◌, ◌⊎◌, ℕ, ◌<◌, ◌≤◌, List, [], ◌∷◌, ◌++◌, IfSome, Option, Some, length}
+use Rattle.std.specs.Prelude.{◌≡◌, ◌⊎◌, ℕ, ◌<◌, ◌≤◌, List, [], ◌∷◌, ◌++◌, All, IfSome, Option, Some, length}
 use Rattle.qm_folder.specs.Disk.{Content, Contents}
 use Rattle.qm_folder.specs.Names.{Name, file_name}
 use Rattle.qm_folder.specs.Steps.{AreWhole}
 use Rattle.qm_folder.specs.declared.new_file.NewFile.{NewFile}
 use Rattle.qm_postings.specs.Reading.{Reader}
 use Rattle.qm_postings.specs.Segment.{Segment, deleted_documents, without}
+use Rattle.qm_schema.specs.Schema.{FieldFacts}
 use Rattle.qm_store.specs.Deletions.{AreNumbers, stored_deletions}
 use Rattle.qm_store.specs.Stored.{IsStored, stored}
 use Rattle.qm_store.specs.declared.kept_segment.KeptSegment.{KeptSegment}
@@ -20,12 +21,16 @@ pub record IsFileOf (key : ℕ) (s : Segment) (content : Content) : Type 0 where
   pub of : without [] reader.segment ≡ without [] s
   pub bytes : content ≡ Some (stored key reader)
 
+-- the bytes that tell what is deleted of the segment of a key
+abbrev pub deletions_stored : ℕ → Segment → List ℕ
+deletions_stored key s = stored_deletions key (length s.documents) s.deleted
+
 -- the file of a number tells what is deleted of the segment of a key
 pub record IsDeletionsFile (c : Contents) (key number : ℕ) (s : Segment) : Type 0 where
   pub some : 0 < number
   pub numbers : AreNumbers (length s.documents) s.deleted
   pub few : length s.documents ≤ 4294967295
-  pub bytes : c (deletions_name number) ≡ Some (stored_deletions key (length s.documents) s.deleted)
+  pub bytes : c (deletions_name number) ≡ Some (deletions_stored key s)
 
 -- nothing is deleted, and there is no number
 pub record HasNoDeletions (number : ℕ) (s : Segment) : Type 0 where
@@ -53,6 +58,10 @@ pub record WasHeld (c : Contents) (k : KeptSegment) (s : Segment) : Type 0 where
   pub ascending : s.deleted ≡ deleted_documents s
 
 -- ---- several
+
+-- segments of this schema
+abbrev pub HaveSchema : List FieldFacts → List Segment → Type 0
+HaveSchema schema ss = All (λ s. s.schema ≡ schema) ss
 
 -- each of some segments is held
 abbrev pub AreHeld : Contents → List KeptSegment → List Segment → Type 0

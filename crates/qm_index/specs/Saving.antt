@@ -1,6 +1,6 @@
 -- A folder that has an index, and what a save makes of it.
 use Rattle.std.specs.Prelude.{◌≡◌, ◌⊎◌, List, [], All, Some}
-use Rattle.qm_folder.specs.Disk.{Contents}
+use Rattle.qm_folder.specs.Disk.{Contents, Disk, LeavesOnly}
 use Rattle.qm_folder.specs.declared.updating.TheConstants.{MANIFEST}
 use Rattle.qm_store.specs.Manifest.{IsManifest, ManifestFacts, facts_of, manifest_spelled}
 use Rattle.qm_store.specs.declared.kept_segment.KeptSegment.{KeptSegment}
@@ -34,3 +34,7 @@ IsKeptIn i c = WereHeld c i.saved.segments.items (indexed i).ended
 -- a folder has the index, or is as it was before, but for files of new numbers
 abbrev pub IsSavedOrAsBefore : Index → Contents → Contents → Type 0
 IsSavedOrAsBefore i old c = HoldsIndex i c ⊎ IsUnwritten i.saved.next old c
+
+-- A crash at any moment since the old one leaves the index, or what was there before.
+abbrev pub LeavesSavedOrAsBefore : Index → Disk → Disk → Type 0
+LeavesSavedOrAsBefore i old new = LeavesOnly old new (IsSavedOrAsBefore i old.seen)

@@ -3,11 +3,11 @@
 ghost use Rattle.std.specs.Prelude.{◌≡◌, ◌<◌, ◌≤◌, ◌+◌, ◌^◌, [], All, IfOk, IfSome, OnOk, length, slice_get, vec_len};
 ghost use Rattle.std.specs.String.{string_bytes};
 ghost use Rattle.qm_folder.specs.Names.{file_names};
-ghost use Rattle.qm_store.specs.Deletions.{AreNumbers, stored_deletions};
+ghost use Rattle.qm_store.specs.Deletions.{AreNumbers};
 ghost use Rattle.qm_store.specs.Stored.{IsStored, stored};
 ghost use Rattle.qm_index.specs.FileNames.{AreNumbered, IsNameOf, deletions_name, segment_name};
 ghost use Rattle.qm_index.specs.SavedFiles.{IsNumberedBelow};
-ghost use Rattle.qm_index.specs.SavedIndex.{HasFile, HasMore, HaveNothingNew, HoldAll, Holds, IsAdded, TellsDeleted};
+ghost use Rattle.qm_index.specs.SavedIndex.{HasFile, HasMore, HaveNothingNew, HoldAll, Holds, IsAdded, TellsDeleted, deletions_stored};
 ghost use Rattle.qm_folder.specs.Disk.{Contents};
 ghost use Rattle.qm_folder.specs.Steps.{AreWhole};
 ghost use Rattle.qm_index.specs.Parts.{segments_of};
@@ -107,8 +107,8 @@ impl SavingPlan {
         requires in_order { AreNumbered self.old.first (file_names self.old.files.items) self.old.next }
         ensures in_order { OnOk result (AreNumbered self.new.first (file_names self.new.files.items) self.new.next) }
         ensures later { IfOk result (λ number. self.old.next ≤ number) }
-        ensures added { IfOk result (λ number. IsAdded (deletions_name number)
-            (stored_deletions key (length segment.now.segment.documents) segment.now.segment.deleted) self.old.files.items self.new.files.items) }
+        ensures added { IfOk result (λ number. IsAdded (deletions_name number) (deletions_stored key segment.now.segment)
+            self.old.files.items self.new.files.items) }
         ensures numbers { OnOk result (AreNumbers (length segment.now.segment.documents) segment.now.segment.deleted) }
         ensures first { self.new.first ≡ self.old.first }
         ensures next { IfOk result (λ number. self.new.next ≡ number + 1) }

@@ -9,7 +9,7 @@ ghost use Rattle.qm_index.specs.Numbers.{AreOf};
 ghost use Rattle.qm_index.specs.Opening.{IsFolderRefusal};
 ghost use Rattle.qm_index.specs.Parts.{segments_of};
 ghost use Rattle.qm_index.specs.SavedFiles.{IsNumberedBelow};
-ghost use Rattle.qm_index.specs.SavedIndex.{AreHeld, IsDeletionsFile, IsFileOf, IsHeld};
+ghost use Rattle.qm_index.specs.SavedIndex.{AreHeld, HaveSchema, IsDeletionsFile, IsFileOf, IsHeld};
 ghost use Rattle.qm_index.specs.FileNames.{segment_name};
 ghost use Rattle.qm_store.specs.Deletions.{deleting_only};
 
@@ -137,9 +137,9 @@ pub(crate) fn open_segments<F: Folder>(
     schema: &Schema,
     kept: &[KeptSegment],
 ) -> Result<Vec<SegmentReader>, StoreError>
-    ensures opened { F.is_told → (ss : List Segment) → All (λ s. s.schema ≡ schema.now) ss → AreHeld (F.disk folder.old).seen kept.now ss
+    ensures opened { F.is_told → (ss : List Segment) → HaveSchema schema.now ss → AreHeld (F.disk folder.old).seen kept.now ss
         → IfOk result (λ v. segments_of v.items ≡ ss) }
-    ensures refused { F.is_told → (ss : List Segment) → All (λ s. s.schema ≡ schema.now) ss → AreHeld (F.disk folder.old).seen kept.now ss
+    ensures refused { F.is_told → (ss : List Segment) → HaveSchema schema.now ss → AreHeld (F.disk folder.old).seen kept.now ss
         → IfErr result IsFolderRefusal }
     ensures alike { IfOk result (λ v. AreOf schema.now v.items) }
     ensures count { IfOk result (λ v. vec_len v ≡ length kept.now) }

@@ -56,5 +56,9 @@ abbrev pub lent_part : PartRef → Part
 lent_part (Here bs) = here bs.now
 lent_part (There p) = there p
 
+-- the two parts of a row
+abbrev pub lent_parts : PartRef × PartRef → Part × Part
+lent_parts parts = (lent_part parts.0, lent_part parts.1)
+
 abbrev pub lent_entry : EntryRef → Entry
-lent_entry e = record { term = record { field = e.field; bytes = e.text.now }; row = (lent_part e.parts.0, lent_part e.parts.1) }
+lent_entry e = record { term = record { field = e.field; bytes = e.text.now }; row = lent_parts e.parts }

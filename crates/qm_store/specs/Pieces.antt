@@ -1,5 +1,5 @@
 -- Pieces of a file, and their digests; and when a function returned what some bytes are.
-use Rattle.std.specs.Prelude.{◌≡◌, ℕ, ◌+◌, ◌^◌, ◌<◌, ◌≤◌, ◌==◌, nat_le, if◌then◌else◌, List, ◌++◌, Option, None, Some, Result, Ok, Err, drop, length, option_and_then, take}
+use Rattle.std.specs.Prelude.{◌≡◌, ℕ, ◌+◌, ◌^◌, ◌<◌, ◌≤◌, ◌==◌, nat_le, if◌then◌else◌, List, ◌++◌, Option, None, Some, Result, Ok, Err, drop, length, option_and_then, option_map, take}
 use Rattle.std.specs.Int.{w64, to_le_bytes}
 use Rattle.std.specs.Hash.DefaultHasher.{finish, initial, write}
 use Rattle.qm_store.specs.Numbers.{number_at, spelled}
@@ -10,6 +10,10 @@ use Rattle.qm_store.specs.declared.store_error.StoreError.{StoreError}
 use Rattle.qm_store.specs.declared.store_error.StoreError.TheVariants.{Damaged, Failed, Memory, OtherFile, OtherVersion}
 
 -- ---- what a function returned
+
+-- What holds of the bytes of a file, where they are known.
+abbrev pub WhereKnown : Option (List ℕ) → (List ℕ → Type 0) → Type 0
+WhereKnown bytes Holds = (file : List ℕ) → bytes ≡ Some file → Holds file
 
 -- an error tells that nothing was there to be read, or memory ran out
 abbrev pub TellsOf : {Y : Type 0} → StoreError → Option Y → Type 0
@@ -23,6 +27,10 @@ TellsOf Damaged found = found ≡ None
 abbrev pub GivesSome : {X Y : Type 0} → (X → Y) → Result X StoreError → Option Y → Type 0
 GivesSome view (Ok x) found = found ≡ Some (view x)
 GivesSome view (Err e) found = TellsOf e found
+
+-- What was found was put behind what was there, and damaged was returned where nothing was found, unless memory ran out.
+abbrev pub AddsFound : {X Y : Type 0} → List Y → List Y → Result X StoreError → Option (List Y) → Type 0
+AddsFound old new result found = GivesSome (λ _. new) result (option_map (λ more. old ++ more) found)
 
 -- an error tells of what reading gives, or memory ran out
 abbrev pub Fails : {Y : Type 0} → StoreError → Result Y StoreError → Type 0

@@ -1,4 +1,5 @@
 -- What some bytes are as a stored segment, and what they say of a term.
+use denote.Ref.{Bor}
 use Rattle.std.specs.Prelude.{ℕ, Bool, if◌then◌else◌, List, ◌++◌, Option, None, Some, Result, Ok, Err, length, map, ok_or, option_and_then, option_map, ◌≡◌, [], ◌∷◌, IfSome}
 use Rattle.qm_postings.specs.Reading.{Reader, reader_of_rows}
 use Rattle.qm_postings.specs.Rows.{MakeSegment, Row, columns_of}
@@ -8,12 +9,14 @@ use Rattle.qm_schema.specs.Term.{TermKey}
 use Rattle.qm_store.specs.Columns.{columns_at}
 use Rattle.qm_store.specs.Dictionary.{Block, block_at, block_for, blocks_of, index_at, row_with, start_of}
 use Rattle.qm_store.specs.Ends.{ending_in, headed}
-use Rattle.qm_store.specs.Entries.{Entry, Part, here, there}
+use Rattle.qm_store.specs.Entries.{Entry, Part, here, lent_entry, there}
 use Rattle.qm_store.specs.Pieces.{piece_in}
 use Rattle.qm_store.specs.RowBytes.{row_at}
 use Rattle.qm_store.specs.Stored.{stored_blocks}
-use Rattle.qm_store.specs.Wanted.{is_chosen}
+use Rattle.qm_store.specs.Wanted.{is_chosen, lent_choice}
+use Rattle.qm_store.specs.declared.dictionary_index.BlockStart.{BlockStart}
 use Rattle.qm_store.specs.declared.ending.Ending.{Ending}
+use Rattle.qm_store.specs.declared.entry.EntryRef.{EntryRef}
 use Rattle.qm_store.specs.declared.piece.Piece.{Piece}
 use Rattle.qm_store.specs.declared.store_error.StoreError.{StoreError}
 use Rattle.qm_store.specs.declared.store_error.StoreError.TheVariants.{Damaged, Failed, Memory, OtherFile, OtherVersion}
@@ -163,3 +166,25 @@ opened_of s = record {
   blocks = map start_of s.index.starts.items;
   columns = map (λ c. c.items) s.columns.items;
 }
+
+-- ---- an open segment
+
+-- all rows that a file has of it
+abbrev pub all_rows : {P : Type 0} → StoredSegment P → List ℕ → List FieldFacts → Option (List Row)
+all_rows s file schema = rows_of_blocks s.key file schema None (opened_of s).blocks
+
+-- the rows of what is wanted
+abbrev pub wanted_rows : {P : Type 0} → StoredSegment P → List ℕ → List FieldFacts → List Wanted → Option (List Row)
+wanted_rows s file schema wanted = rows_of s.key file schema (opened_of s).blocks wanted
+
+-- the rows of the chosen terms of some blocks
+abbrev pub chosen_in_blocks : {P : Type 0} → StoredSegment P → List ℕ → List FieldFacts → Option (Bor Wanted) → List BlockStart → Option (List Row)
+chosen_in_blocks s file schema chosen blocks = rows_of_blocks s.key file schema (lent_choice chosen) (map start_of blocks)
+
+-- the same of one block, by its bytes
+abbrev pub chosen_in_block : {P : Type 0} → StoredSegment P → List ℕ → List FieldFacts → Option (Bor Wanted) → List ℕ → Option (List Row)
+chosen_in_block s file schema chosen block = rows_by s.key file schema (lent_choice chosen) block
+
+-- the row of an entry, if its term is chosen
+abbrev pub chosen_in_entry : {P : Type 0} → StoredSegment P → List ℕ → List FieldFacts → Option (Bor Wanted) → EntryRef → Option (List Row)
+chosen_in_entry s file schema chosen entry = rows_of_entry s.key file schema (lent_choice chosen) (lent_entry entry)

@@ -1,5 +1,6 @@
 -- What is wanted of a stored segment: a term, or all terms that begin with it.
-use Rattle.std.specs.Prelude.{◌≡◌, Bool, true, false, ◌==◌, ◌&&◌, ◌||◌, not, if◌then◌else◌, List, [], ◌∷◌, Option, None, Some, nat_eq}
+use denote.Ref.{Bor}
+use Rattle.std.specs.Prelude.{◌≡◌, Bool, true, false, ◌==◌, ◌&&◌, ◌||◌, not, if◌then◌else◌, List, [], ◌∷◌, Option, None, Some, nat_eq, option_map}
 use Rattle.std.proofs.Common.{refl}
 use Rattle.std.specs.Cmp.{IsEquivalence, IsTotalOrder, bool_cmp_total, eq_by_cmp_equiv, on_total, then_total}
 use Rattle.std.specs.List.{AllByRecursion, list_any, starts_with}
@@ -29,6 +30,10 @@ is_asked terms beginnings t = list_any (λ u. eq_by_cmp term_cmp t u) terms || l
 abbrev pub is_chosen : Option Wanted → TermKey → Bool
 is_chosen None t = true
 is_chosen (Some w) t = is_meant w t
+
+-- what chooses them, as it is lent
+abbrev pub lent_choice : Option (Bor Wanted) → Option Wanted
+lent_choice chosen = option_map (λ w. w.now) chosen
 
 -- what is wanted stands before something else, which is not meant by it
 abbrev pub IsBefore : Wanted → Wanted → Type 0

@@ -3,7 +3,7 @@
 ghost use Rattle.std.specs.Prelude.{◌≡◌, option_map};
 ghost use Rattle.std.specs.Ordering.{eq_by_cmp};
 ghost use Rattle.qm_schema.specs.Term.{term_cmp};
-ghost use Rattle.qm_store.specs.Entries.{lent_part};
+ghost use Rattle.qm_store.specs.Entries.{lent_parts};
 ghost use Rattle.qm_store.specs.Dictionary.{block_at, row_with};
 
 use crate::entry::{PartRef, read_entry};
@@ -16,7 +16,7 @@ pub(crate) fn find_row<'a>(
     term: &Term,
     block: &'a [u8],
 ) -> Option<Option<(PartRef<'a>, PartRef<'a>)>>
-    ensures { option_map (option_map (λ p. (lent_part p.0, lent_part p.1))) result ≡ option_map (row_with term.now) (block_at block.now) }
+    ensures { option_map (option_map lent_parts) result ≡ option_map (row_with term.now) (block_at block.now) }
 {
     let Some((count, mut rest)) = read_number(block) else {
         return None;

@@ -1,8 +1,8 @@
 //! The ends of a stored segment: what its first bytes say, and where its last ones say that its parts stand.
 
-ghost use Rattle.std.specs.Prelude.{◌≡◌, List, ℕ, Some};
+ghost use Rattle.std.specs.Prelude.{◌≡◌};
 ghost use Rattle.qm_store.specs.Ends.{checked_ending, ending_at, ending_in, headed, last_piece_at};
-ghost use Rattle.qm_store.specs.Pieces.{Gives, GivesSome};
+ghost use Rattle.qm_store.specs.Pieces.{Gives, GivesSome, WhereKnown};
 
 use crate::head::{HEAD_BYTES, check_kind};
 use crate::numbers::read_number;
@@ -29,7 +29,7 @@ pub(crate) struct Ending {
 
 // Whether the first bytes are those of a stored segment, of the version that is read here.
 pub(crate) fn check_head<P: Pieces>(alloc: Global, source: &P) -> Result<(), StoreError>
-    ensures { (file : List ℕ) → P.bytes source.now ≡ Some file → Gives (λ _. file) result (headed file) }
+    ensures { WhereKnown (P.bytes source.now) (λ file. Gives (λ _. file) result (headed file)) }
 {
     if source.byte_count()? < HEAD_BYTES as u64 {
         return Err(StoreError::OtherFile);
@@ -46,7 +46,7 @@ pub(crate) fn read_ending<P: Pieces>(
     source: &P,
     key: u64,
 ) -> Result<Ending, StoreError>
-    ensures { (file : List ℕ) → P.bytes source.now ≡ Some file → GivesSome (λ e. e) result (ending_in key file) }
+    ensures { WhereKnown (P.bytes source.now) (λ file. GivesSome (λ e. e) result (ending_in key file)) }
 {
     let count = source.byte_count()?;
     if count < NAME_BYTES {

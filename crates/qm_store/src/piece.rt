@@ -1,8 +1,8 @@
 //! A piece of a stored segment, and its digest.
 
-ghost use Rattle.std.specs.Prelude.{◌≡◌, ◌++◌, List, ℕ, Some, IfSome, OnOk, option_map};
+ghost use Rattle.std.specs.Prelude.{◌≡◌, ◌++◌, IfSome, OnOk, option_map};
 ghost use Rattle.std.specs.Int.{w64, to_le_bytes};
-ghost use Rattle.qm_store.specs.Pieces.{GivesSome, IsInFile, digest, piece_at, piece_bytes, piece_in};
+ghost use Rattle.qm_store.specs.Pieces.{AddsFound, IsInFile, WhereKnown, digest, piece_at, piece_bytes, piece_in};
 
 use crate::numbers::{push_number, read_number};
 use crate::pieces::Pieces;
@@ -43,8 +43,7 @@ pub(crate) fn read_piece<P: Pieces>(
     piece: &Piece,
     into: &mut Vec<u8>,
 ) -> Result<(), StoreError>
-    ensures { (file : List ℕ) → P.bytes source.now ≡ Some file
-        → GivesSome (λ _. into.new.items) result (option_map (λ part. into.old.items ++ part) (piece_in key file piece.now)) }
+    ensures { WhereKnown (P.bytes source.now) (λ file. AddsFound into.old.items into.new.items result (piece_in key file piece.now)) }
 {
     let start = into.len();
     source.read_at(piece.at, piece.len, into)?;

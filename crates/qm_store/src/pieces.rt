@@ -1,7 +1,7 @@
 //! What gives the bytes of a stored segment, from any place on.
 
-ghost use Rattle.std.specs.Prelude.{◌≡◌, ◌+◌, ◌++◌, List, ℕ, OnOk, Ok, Option, None, Some, length, option_map};
-ghost use Rattle.qm_store.specs.Pieces.{GivesSome, part_at};
+ghost use Rattle.std.specs.Prelude.{◌≡◌, ◌+◌, List, ℕ, OnOk, Ok, Option, None, Some, length};
+ghost use Rattle.qm_store.specs.Pieces.{AddsFound, WhereKnown, part_at};
 
 use crate::store_error::StoreError;
 
@@ -14,7 +14,7 @@ pub trait Pieces {
     ///
     /// Refused with [`StoreError::Failed`] alone, where that can't be told.
     fn byte_count(&self) -> Result<u64, StoreError>
-        ensures all { (file : List ℕ) → bytes self.now ≡ Some file → result ≡ Ok (length file) };
+        ensures all { WhereKnown (bytes self.now) (λ file. result ≡ Ok (length file)) };
 
     /// Adds so many bytes from a place on to others.
     ///
@@ -22,8 +22,7 @@ pub trait Pieces {
     /// and else for want of memory. A refused call may have added some.
     fn read_at(&self, at: u64, count: u64, into: &mut Vec<u8>) -> Result<(), StoreError>
         ensures count { OnOk result (length into.new.items ≡ length into.old.items + count) }
-        ensures read { (file : List ℕ) → bytes self.now ≡ Some file
-            → GivesSome (λ _. into.new.items) result (option_map (λ part. into.old.items ++ part) (part_at at count file)) };
+        ensures read { WhereKnown (bytes self.now) (λ file. AddsFound into.old.items into.new.items result (part_at at count file)) };
 }
 
 impl Pieces for Vec<u8> {

@@ -6,9 +6,9 @@ ghost use Rattle.qm_postings.specs.Rows.{ArePlaces};
 ghost use Rattle.qm_postings.specs.RowsSoFar.{pushed_row};
 ghost use Rattle.qm_postings.specs.Segment.{AscendFrom};
 ghost use Rattle.qm_schema.specs.Term.{TermKey};
-ghost use Rattle.qm_store.specs.RowBytes.{IsSomeRow, behind_both, gaps_at, in_front_of_all, places_at, places_bytes, places_part, posting_at, posting_bytes, postings_at};
+ghost use Rattle.qm_store.specs.RowBytes.{IsSomeRow, gaps_at, places_at, places_bytes, places_part, posting_at, posting_bytes, postings_at};
 ghost use Rattle.qm_store.specs.RowBytes.{postings_bytes, postings_part, row_at, row_bytes};
-ghost use Rattle.qm_store.specs.RowsPushed.{HaveSamePositions, HaveSamePostings, if_read, with_found};
+ghost use Rattle.qm_store.specs.RowsPushed.{AddsPositions, AddsPostings, HaveSamePositions, HaveSamePostings, if_read, with_found};
 
 use crate::gaps::{LIMIT, push_gaps, read_gap};
 use crate::numbers::{push_number, read_number};
@@ -169,8 +169,7 @@ fn read_postings<'a>(
     bytes: &'a [u8],
     count: u64,
 ) -> Result<Option<&'a [u8]>, AllocError>
-    ensures read { IfOk result (λ r. option_map (λ rest. ((rows.new.documents, rows.new.frequencies), rest.now)) r
-        ≡ behind_both rows.old.documents rows.old.frequencies (postings_at count 0 bytes.now)) }
+    ensures read { IfOk result (λ r. AddsPostings rows.old rows.new r (postings_at count 0 bytes.now)) }
     ensures kept { HaveSamePositions rows.old rows.new }
 {
     let mut rest = bytes;
@@ -216,8 +215,7 @@ fn read_posting(bytes: &[u8]) -> Option<(u64, u64, &[u8])>
 
 // Adds the positions of all postings, and gives the bytes behind them; none where the bytes begin with no such positions.
 fn read_places<'a>(rows: &mut RowsBuilder, bytes: &'a [u8]) -> Result<Option<&'a [u8]>, AllocError>
-    ensures read { IfOk result (λ r. option_map (λ rest. (rows.new.positions, rest.now)) r
-        ≡ in_front_of_all rows.old.positions (places_at rows.old.frequencies bytes.now)) }
+    ensures read { IfOk result (λ r. AddsPositions rows.old rows.new r (places_at rows.old.frequencies bytes.now)) }
     ensures kept { HaveSamePostings rows.old rows.new }
 {
     let mut rest = bytes;
@@ -238,8 +236,7 @@ fn read_positions<'a>(
     bytes: &'a [u8],
     count: u32,
 ) -> Result<Option<&'a [u8]>, AllocError>
-    ensures read { IfOk result (λ r. option_map (λ rest. (rows.new.positions, rest.now)) r
-        ≡ in_front_of_all rows.old.positions (gaps_at count 0 bytes.now)) }
+    ensures read { IfOk result (λ r. AddsPositions rows.old rows.new r (gaps_at count 0 bytes.now)) }
     ensures kept { HaveSamePostings rows.old rows.new }
 {
     let mut rest = bytes;

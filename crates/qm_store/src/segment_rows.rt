@@ -1,13 +1,12 @@
 //! What several terms of a stored segment are read as: an ordinary one.
 
-ghost use Rattle.std.specs.Prelude.{◌≡◌, ◌++◌, [], List, ℕ, None, Some, IfOk, IsOkUnless, map, option_map};
+ghost use Rattle.std.specs.Prelude.{◌≡◌, [], Some, IfOk, IsOkUnless, map};
 ghost use Rattle.qm_postings.specs.Reading.{reader_of_rows};
 ghost use Rattle.qm_postings.specs.Segment.{keeps_positions};
-ghost use Rattle.qm_store.specs.Dictionary.{start_of};
 ghost use Rattle.qm_store.specs.Entries.{lent_entry};
-ghost use Rattle.qm_store.specs.Pieces.{GivesSome};
-ghost use Rattle.qm_store.specs.StoredSegment.{GivesReader, opened_of, rows_by, rows_of, rows_of_blocks, rows_of_entry};
-ghost use Rattle.qm_store.specs.Wanted.{AreApart, is_chosen};
+ghost use Rattle.qm_store.specs.Pieces.{AddsFound, GivesSome, WhereKnown};
+ghost use Rattle.qm_store.specs.StoredSegment.{GivesReader, all_rows, chosen_in_block, chosen_in_blocks, chosen_in_entry, opened_of, wanted_rows};
+ghost use Rattle.qm_store.specs.Wanted.{AreApart, is_chosen, lent_choice};
 
 use crate::dictionary_index::BlockStart;
 use crate::entry::{EntryRef, read_entry};
@@ -38,8 +37,7 @@ impl<P: Pieces + Drop> StoredSegment<P> {
         wanted: &[Wanted],
     ) -> Result<SegmentReader, StoreError>
         requires apart { AreApart wanted.now }
-        ensures given { (file : List ℕ) → P.bytes self.now.source ≡ Some file
-            → GivesReader schema.now (opened_of self.now) result (rows_of self.now.key file schema.now (opened_of self.now).blocks wanted.now) }
+        ensures given { WhereKnown (P.bytes self.now.source) (λ file. GivesReader schema.now (opened_of self.now) result (wanted_rows self.now file schema.now wanted.now)) }
         ensures none_deleted { IfOk result (λ r. r.segment.deleted ≡ []) }
     {
         let rows = self.read_wanted(alloc, schema, wanted)?;
@@ -53,8 +51,7 @@ impl<P: Pieces + Drop> StoredSegment<P> {
     /// Refused with [`StoreError::Damaged`] where what is read is damaged or makes no segment, with
     /// [`StoreError::Failed`] where it can't be read, and else for want of memory.
     pub fn whole(&self, alloc: Global, schema: &Schema) -> Result<SegmentReader, StoreError>
-        ensures given { (file : List ℕ) → P.bytes self.now.source ≡ Some file
-            → GivesReader schema.now (opened_of self.now) result (rows_of_blocks self.now.key file schema.now None (opened_of self.now).blocks) }
+        ensures given { WhereKnown (P.bytes self.now.source) (λ file. GivesReader schema.now (opened_of self.now) result (all_rows self.now file schema.now)) }
         ensures none_deleted { IfOk result (λ r. r.segment.deleted ≡ []) }
     {
         let rows = self.read_all(alloc, schema)?;
@@ -81,8 +78,7 @@ impl<P: Pieces + Drop> StoredSegment<P> {
 
     // All rows.
     fn read_all(&self, alloc: Global, schema: &Schema) -> Result<RowsBuilder, StoreError>
-        ensures { (file : List ℕ) → P.bytes self.now.source ≡ Some file
-            → GivesSome (λ v. v.rows) result (rows_of_blocks self.now.key file schema.now None (opened_of self.now).blocks) }
+        ensures { WhereKnown (P.bytes self.now.source) (λ file. GivesSome (λ v. v.rows) result (all_rows self.now file schema.now)) }
     {
         let mut rows = RowsBuilder::new(alloc);
         self.push_rows(alloc, schema, None, &self.index.starts, &mut rows)?;
@@ -96,8 +92,7 @@ impl<P: Pieces + Drop> StoredSegment<P> {
         schema: &Schema,
         wanted: &[Wanted],
     ) -> Result<RowsBuilder, StoreError>
-        ensures { (file : List ℕ) → P.bytes self.now.source ≡ Some file
-            → GivesSome (λ v. v.rows) result (rows_of self.now.key file schema.now (opened_of self.now).blocks wanted.now) }
+        ensures { WhereKnown (P.bytes self.now.source) (λ file. GivesSome (λ v. v.rows) result (wanted_rows self.now file schema.now wanted.now)) }
     {
         let mut rows = RowsBuilder::new(alloc);
         // what is read and what is left make all
@@ -122,9 +117,7 @@ impl<P: Pieces + Drop> StoredSegment<P> {
         blocks: &[BlockStart],
         rows: &mut RowsBuilder,
     ) -> Result<(), StoreError>
-        ensures { (file : List ℕ) → P.bytes self.now.source ≡ Some file
-            → GivesSome (λ _. rows.new.rows) result (option_map (λ more. rows.old.rows ++ more)
-            (rows_of_blocks self.now.key file schema.now (option_map (λ w. w.now) chosen.entry) (map start_of blocks.now))) }
+        ensures { WhereKnown (P.bytes self.now.source) (λ file. AddsFound rows.old.rows rows.new.rows result (chosen_in_blocks self.now file schema.now chosen.entry blocks.now)) }
     {
         let mut bytes = Vec::new(alloc);
         let mut room = Vec::new(alloc);
@@ -147,9 +140,7 @@ impl<P: Pieces + Drop> StoredSegment<P> {
         room: &mut Vec<u8>,
         rows: &mut RowsBuilder,
     ) -> Result<(), StoreError>
-        ensures { (file : List ℕ) → P.bytes self.now.source ≡ Some file
-            → GivesSome (λ _. rows.new.rows) result (option_map (λ more. rows.old.rows ++ more)
-            (rows_by self.now.key file schema.now (option_map (λ w. w.now) chosen.entry) block.now)) }
+        ensures { WhereKnown (P.bytes self.now.source) (λ file. AddsFound rows.old.rows rows.new.rows result (chosen_in_block self.now file schema.now chosen.entry block.now)) }
     {
         let Some((count, mut rest)) = read_number(block) else {
             return Err(StoreError::Damaged);
@@ -180,9 +171,7 @@ impl<P: Pieces + Drop> StoredSegment<P> {
         room: &mut Vec<u8>,
         rows: &mut RowsBuilder,
     ) -> Result<(), StoreError>
-        ensures { (file : List ℕ) → P.bytes self.now.source ≡ Some file
-            → GivesSome (λ _. rows.new.rows) result (option_map (λ more. rows.old.rows ++ more)
-            (rows_of_entry self.now.key file schema.now (option_map (λ w. w.now) chosen.entry) (lent_entry entry.now))) }
+        ensures { WhereKnown (P.bytes self.now.source) (λ file. AddsFound rows.old.rows rows.new.rows result (chosen_in_entry self.now file schema.now chosen.entry entry.now)) }
     {
         if !is_chosen(chosen, entry) {
             return Ok(());
@@ -211,7 +200,7 @@ fn made_term(alloc: Global, field: Field, text: &[u8]) -> Result<Term, StoreErro
 
 // Whether the term of an entry is chosen: each is, or those that are meant.
 fn is_chosen(chosen: Option<&Wanted>, entry: &EntryRef<'_>) -> bool
-    ensures { result ≡ is_chosen (option_map (λ w. w.now) chosen.entry) (lent_entry entry.now).term }
+    ensures { result ≡ is_chosen (lent_choice chosen.entry) (lent_entry entry.now).term }
 {
     match chosen {
         None => true,

@@ -4,8 +4,8 @@
 //! - The digest of a piece stands behind it, so an open reads forty bytes however many documents there are.
 //! - A file is as long as its number of documents says, so one that was cut is refused as it is opened.
 
-ghost use Rattle.std.specs.Prelude.{◌≡◌, ◌≤◌, ◌+◌, ◌*◌, ◌<◌, List, ℕ, Some, IfOk, IfSome, length, option_and_then};
-ghost use Rattle.qm_store.specs.Pieces.{Gives, GivesSome};
+ghost use Rattle.std.specs.Prelude.{◌≡◌, ◌≤◌, ◌+◌, ◌*◌, ◌<◌, Some, IfOk, IfSome, length, option_and_then};
+ghost use Rattle.qm_store.specs.Pieces.{Gives, GivesSome, WhereKnown};
 ghost use Rattle.qm_store.specs.Places.{documents_in, place_of, place_read, places_opened, places_size};
 ghost use Rattle.qm_store.specs.Sealed.{unsealed};
 
@@ -47,7 +47,7 @@ impl<P: Pieces + Drop> StoredPlaces<P> {
         key: u64,
         max_doc: DocId,
     ) -> Result<StoredPlaces<P>, StoreError>
-        ensures opened { (file : List ℕ) → P.bytes source ≡ Some file → Gives (λ s. s.documents) result (places_opened key max_doc file) }
+        ensures opened { WhereKnown (P.bytes source) (λ file. Gives (λ s. s.documents) result (places_opened key max_doc file)) }
         ensures of { IfOk result (λ s. (s.source ≡ source) × (s.key ≡ key) × (s.documents ≡ max_doc)) }
     {
         let size = source.byte_count()?;
@@ -77,8 +77,7 @@ impl<P: Pieces + Drop> StoredPlaces<P> {
     /// elsewhere. Else as what has the bytes refuses them, and for want of memory.
     pub fn place(&self, alloc: Global, doc: DocId) -> Result<DocumentPlace, StoreError>
         requires there { doc < self.now.documents }
-        ensures { (file : List ℕ) → P.bytes self.now.source ≡ Some file
-            → GivesSome (λ place. place) result (place_read self.now.key self.now.documents doc file) }
+        ensures { WhereKnown (P.bytes self.now.source) (λ file. GivesSome (λ place. place) result (place_read self.now.key self.now.documents doc file)) }
     {
         let number = doc / PIECE_PLACES;
         let count = PIECE_PLACES.min(self.documents - number * PIECE_PLACES);

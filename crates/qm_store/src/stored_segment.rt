@@ -1,8 +1,8 @@
 //! A stored segment, of which is read what is wanted.
 
-ghost use Rattle.std.specs.Prelude.{◌≡◌, ◌++◌, List, ℕ, Some, IfOk, IsOkUnless, option_map};
-ghost use Rattle.qm_store.specs.Entries.{lent_part};
-ghost use Rattle.qm_store.specs.Pieces.{Gives, GivesSome};
+ghost use Rattle.std.specs.Prelude.{◌≡◌, IfOk, IsOkUnless};
+ghost use Rattle.qm_store.specs.Entries.{lent_part, lent_parts};
+ghost use Rattle.qm_store.specs.Pieces.{AddsFound, Gives, GivesSome, WhereKnown};
 ghost use Rattle.qm_store.specs.StoredSegment.{looked_up, opened, opened_of, part_in, row_bytes_in};
 
 use crate::dictionary_block::find_row;
@@ -39,7 +39,7 @@ impl<P: Pieces + Drop> StoredSegment<P> {
         schema: &Schema,
         key: u64,
     ) -> Result<StoredSegment<P>, StoreError>
-        ensures opened { (file : List ℕ) → P.bytes source ≡ Some file → Gives opened_of result (opened schema.now key file) }
+        ensures opened { WhereKnown (P.bytes source) (λ file. Gives opened_of result (opened schema.now key file)) }
         ensures of { IfOk result (λ s. (s.source ≡ source) × (s.key ≡ key)) }
     {
         check_head(alloc, &source)?;
@@ -78,8 +78,7 @@ impl<P: Pieces + Drop> StoredSegment<P> {
         term: &Term,
         with_positions: bool,
     ) -> Result<Option<TermRow>, StoreError>
-        ensures { (file : List ℕ) → P.bytes self.now.source ≡ Some file
-            → GivesSome (λ row. row) result (looked_up self.now.key file with_positions term.now (opened_of self.now).blocks) }
+        ensures { WhereKnown (P.bytes self.now.source) (λ file. GivesSome (λ row. row) result (looked_up self.now.key file with_positions term.now (opened_of self.now).blocks)) }
     {
         let Some(block) = self.index.block_of(term) else {
             return Ok(None);
@@ -108,9 +107,8 @@ impl<P: Pieces + Drop> StoredSegment<P> {
         with_positions: bool,
         room: &mut Vec<u8>,
     ) -> Result<(), StoreError>
-        ensures { (file : List ℕ) → P.bytes self.now.source ≡ Some file
-            → GivesSome (λ _. room.new.items) result
-            (row_bytes_in self.now.key file with_positions (lent_part parts.now.0, lent_part parts.now.1)) }
+        ensures { WhereKnown (P.bytes self.now.source) (λ file. GivesSome (λ _. room.new.items) result
+            (row_bytes_in self.now.key file with_positions (lent_parts parts.now))) }
     {
         room.clear();
         self.read_part(&parts.0, room)?;
@@ -122,8 +120,7 @@ impl<P: Pieces + Drop> StoredSegment<P> {
 
     // Adds the bytes of a part to others.
     fn read_part(&self, part: &PartRef<'_>, into: &mut Vec<u8>) -> Result<(), StoreError>
-        ensures { (file : List ℕ) → P.bytes self.now.source ≡ Some file
-            → GivesSome (λ _. into.new.items) result (option_map (λ part. into.old.items ++ part) (part_in self.now.key file (lent_part part.now))) }
+        ensures { WhereKnown (P.bytes self.now.source) (λ file. AddsFound into.old.items into.new.items result (part_in self.now.key file (lent_part part.now))) }
     {
         match part {
             PartRef::Here(bytes) => Ok(into.extend_from_slice(bytes)?),

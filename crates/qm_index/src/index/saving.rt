@@ -3,14 +3,14 @@
 //! A file's number is that of the moment, or past all that were given. A save that writes nothing uses none up.
 
 ghost use Rattle.std.specs.Prelude.{◌≡◌, ◌≤◌, All, IfOk, OnOk, vec_len};
-ghost use Rattle.qm_folder.specs.Disk.{IsSettled, LeavesOnly};
+ghost use Rattle.qm_folder.specs.Disk.{IsSettled};
 ghost use Rattle.qm_index.specs.Indexed.{IsMerged, IsRefreshed, indexed, statistics};
 ghost use Rattle.qm_folder.specs.Names.{file_names};
 ghost use Rattle.qm_store.specs.Manifest.{IsManifest, manifest_spelled};
 ghost use Rattle.qm_index.specs.FileNames.{AreNumbered};
 ghost use Rattle.qm_index.specs.SavedFiles.{IsNumberedBelow};
 ghost use Rattle.qm_index.specs.SavedIndex.{HaveNothingNew, HoldAll};
-ghost use Rattle.qm_index.specs.Saving.{HoldsIndex, IsKeptIn, IsSaved, IsSavedOrAsBefore, manifest_with};
+ghost use Rattle.qm_index.specs.Saving.{HoldsIndex, IsKeptIn, IsSaved, LeavesSavedOrAsBefore, manifest_with};
 
 use crate::index::Index;
 use crate::plan_writing::write_plan;
@@ -45,7 +45,7 @@ impl Index {
         ensures kept { F.is_told → IsKeptIn self.old (F.disk folder.old).seen → IsKeptIn self.new (F.disk folder.new).seen }
         // A crash at any moment of the call leaves the index of before, or this one.
         ensures any_moment { F.is_told → IsKeptIn self.old (F.disk folder.old).seen
-            → LeavesOnly (F.disk folder.old) (F.disk folder.new) (IsSavedOrAsBefore self.old (F.disk folder.old).seen) }
+            → LeavesSavedOrAsBefore self.old (F.disk folder.old) (F.disk folder.new) }
         ensures all { OnOk result (IsSaved self.new) }
         // Where nothing is new no number is used up, whatever the moment.
         ensures idle { IsSaved self.old → self.new.saved.next ≡ self.old.saved.next }
