@@ -186,6 +186,10 @@ def tried():
     yield "by chance", len({*by_chance(names, "seed")}), CHANCES
     yield "by chance, by the seed", by_chance(names, "seed") == by_chance(names[::-1], "seed"), True
     yield "by chance, by another", by_chance(names, "seed") == by_chance(names, "other"), False
+    crates = [f"{'abcdefghij'[it % 10]}/{it}.edit" for it in range(1000)]
+    yield "by chance, of few crates", len({it[0] for it in by_chance(crates, "seed")}) <= 2, True
+    yield "by chance, of all crates in turn", len({it[0] for n in range(100) for it in by_chance(crates, str(n))}), 10
+    yield "by chance, of few names", by_chance(names[:3], "seed"), names[:3]
 
 
 def plans():

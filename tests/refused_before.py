@@ -77,8 +77,11 @@ def is_of_the_tenth(name, commit):
 
 
 def by_chance(names, seed, count=CHANCES):
-    """As many of the names as are tried by chance, as the seed chooses them."""
-    return sorted(names, key=lambda it: sum_of(seed, it))[:count]
+    """As many of the names as are tried by chance: those from one on, by name, which the seed chooses. So each is as
+    likely as any other, and they are of few crates, each of which costs a first check."""
+    names = sorted(names)
+    first = int(sum_of(seed), 16) % max(len(names), 1)
+    return [*names[first:], *names[:first]][:count]
 
 
 def parsed(lines):

@@ -18,7 +18,7 @@ use Rattle.qm_query.specs.declared.enable_scoring.EnableScoring.TheVariants.{Ena
 use Rattle.qm_script.proofs.BestListings.{best-renamed}
 use Rattle.qm_script.specs.Asked.{asked}
 use Rattle.qm_script.specs.BestListed.{alive_listed, alive_listed_from, best_listed, scored_item}
-use Rattle.qm_script.specs.Counts.{alive_count}
+use Rattle.qm_script.specs.Counts.{alive_in_all}
 use Rattle.qm_script.specs.Found.{found_alive, found_best}
 use Rattle.qm_script.specs.Parts.{document_count}
 use Rattle.qm_script.specs.Script as language
@@ -167,7 +167,7 @@ count_in-both q s t both n m all first second =
     let asked_alike : second.query ≡ query = same_query q query second.query first.built second.built in
     let tree : tree_of second.enable second.query ≡ tree_of first.enable query =
     ap (tree_of second.enable) asked_alike ∙ tree-without second.enable first.enable second.scores first.scores query in
-    let other : m ≡ found_alive first.enable query (all_segments t) = second.count ∙ ap (λ u. alive_count u (all_segments t)) tree in
+    let other : m ≡ found_alive first.enable query (all_segments t) = second.count ∙ ap (λ u. alive_in_all u (all_segments t)) tree in
     record {
       query = query;
       built = first.built;

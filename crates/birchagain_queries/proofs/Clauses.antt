@@ -50,6 +50,6 @@ module _ (xs : List (Sign × ParsedQuery)) (i : ℕ) (whole : Bool) where
 abbrev pub said_clause : Sign × ParsedQuery → Occur × script.Query
 said_clause c = (occur_of c.0, said_query (query_of c.1))
 
-pub said-clauses : (xs : List (Sign × ParsedQuery)) → said_clauses (clauses_of (map clause_of xs)) ≡ script.clauses_of (map said_clause xs)
+pub said-clauses : (xs : List (Sign × ParsedQuery)) → said_clauses (clauses_of (map clause_of xs)) ≡ script.as_clauses (map said_clause xs)
 said-clauses [] = refl
 said-clauses (x ∷ xs) = ap (script.clause (occur_of x.0) (said_query (query_of x.1))) (said-clauses xs)

@@ -2,8 +2,8 @@
 use Rattle.std.proofs.Common.{◌≡◌, ◌∙◌, ℕ, Vec, map, subst, sym}
 use Rattle.std.specs.Global.{Global}
 use Rattle.qm_schema.specs.declared.occur.Occur.{Occur}
-use Rattle.qm_script.specs.Script.{boolean, clauses_of, disjunction_max, queries_of, Query}
-use Rattle.qm_script.specs.Spelled.{clause_of, layer_of, query_of}
+use Rattle.qm_script.specs.Script.{boolean, as_clauses, disjunction_max, queries_of, Query}
+use Rattle.qm_script.specs.Spelled.{spelled_clause, layer_of, query_of}
 use Rattle.qm_script.specs.declared.spelled_query.SpelledQuery.{SpelledQuery}
 use Rattle.qm_script.specs.declared.spelled_query.SpelledQuery.TheFolds.{fold-roll-SpelledQuery, fold_out-SpelledQuery}
 use Rattle.qm_script.specs.declared.spelled_query.SpelledQuery.TheOpen as open_query
@@ -15,7 +15,7 @@ rolled q o is = subst (λ o. query_of q ≡ query_of (roll-SpelledQuery o)) is
     (fold_out-SpelledQuery Query layer_of q ∙ sym (fold-roll-SpelledQuery Query layer_of (out-SpelledQuery q)))
 
 pub query_of-boolean : (q : SpelledQuery) (minimum : ℕ) (clauses : Vec (Occur × SpelledQuery) Global) →
-    out-SpelledQuery q ≡ open_query.Boolean minimum clauses → query_of q ≡ boolean minimum (clauses_of (map clause_of clauses.items))
+    out-SpelledQuery q ≡ open_query.Boolean minimum clauses → query_of q ≡ boolean minimum (as_clauses (map spelled_clause clauses.items))
 query_of-boolean q minimum clauses is = rolled q (open_query.Boolean minimum clauses) is
     ∙ fold-roll-SpelledQuery Query layer_of (open_query.Boolean minimum clauses)
 

@@ -1,8 +1,8 @@
 -- The words of a query, one after another.
 use Rattle.std.proofs.Common.{◌≡◌, ◌∙◌, ◌<◌, ◌≤◌, ◌+◌, ◌++◌, ℕ, List, [], ◌∷◌, ap, append_assoc, append-nil, arith, drop, get_or, length, length-append, map, refl, sym}
 use Rattle.qm_schema.specs.declared.occur.Occur.{Occur}
-use Rattle.qm_script.specs.Script.{clauses_of, queries_of}
-use Rattle.qm_script.specs.Spelled.{clause_of, query_of}
+use Rattle.qm_script.specs.Script.{as_clauses, queries_of}
+use Rattle.qm_script.specs.Spelled.{spelled_clause, query_of}
 use Rattle.qm_script.specs.declared.spelled_query.SpelledQuery.{SpelledQuery}
 use Rattle.birchagain_queries.specs.QueryWords.{bytes_of, ends_from, full_words, weighing_words, words_of_clauses, words_of_queries}
 use Rattle.birchagain_queries.proofs.Clauses.{drop_mapped, none_left}
@@ -10,16 +10,16 @@ use Rattle.birchagain_queries.proofs.Clauses.{drop_mapped, none_left}
 module _ (all : List (List ℕ)) where
   module _ (xs : List (Occur × SpelledQuery)) (i : ℕ) where
     pub clause-pushed : (x : Occur × SpelledQuery) → i < length xs → x ≡ get_or xs i x → (front pushed : List (List ℕ)) →
-        pushed ≡ front ++ weighing_words (query_of x.1) → front ++ words_of_clauses (clauses_of (drop i (map clause_of xs))) ≡ all →
-        pushed ++ words_of_clauses (clauses_of (drop (i + 1) (map clause_of xs))) ≡ all
+        pushed ≡ front ++ weighing_words (query_of x.1) → front ++ words_of_clauses (as_clauses (drop i (map spelled_clause xs))) ≡ all →
+        pushed ++ words_of_clauses (as_clauses (drop (i + 1) (map spelled_clause xs))) ≡ all
     clause-pushed x below is front pushed added kept =
-        let rest = words_of_clauses (clauses_of (drop (i + 1) (map clause_of xs))) in
+        let rest = words_of_clauses (as_clauses (drop (i + 1) (map spelled_clause xs))) in
         ap (λ l. l ++ rest) added ∙ append_assoc front (weighing_words (query_of x.1)) rest
-        ∙ ap (λ l. front ++ words_of_clauses (clauses_of l)) (sym (drop_mapped clause_of xs i x x below is)) ∙ kept
+        ∙ ap (λ l. front ++ words_of_clauses (as_clauses l)) (sym (drop_mapped spelled_clause xs i x x below is)) ∙ kept
 
-    pub clauses-pushed : (front : List (List ℕ)) → length xs ≤ i → front ++ words_of_clauses (clauses_of (drop i (map clause_of xs))) ≡ all → front ≡ all
+    pub clauses-pushed : (front : List (List ℕ)) → length xs ≤ i → front ++ words_of_clauses (as_clauses (drop i (map spelled_clause xs))) ≡ all → front ≡ all
     clauses-pushed front past kept =
-        sym (append-nil front) ∙ ap (λ l. front ++ words_of_clauses (clauses_of l)) (sym (none_left clause_of xs i past)) ∙ kept
+        sym (append-nil front) ∙ ap (λ l. front ++ words_of_clauses (as_clauses l)) (sym (none_left spelled_clause xs i past)) ∙ kept
 
   module _ (xs : List SpelledQuery) (i : ℕ) where
     pub disjunct-pushed : (x : SpelledQuery) → i < length xs → x ≡ get_or xs i x → (front pushed : List (List ℕ)) →

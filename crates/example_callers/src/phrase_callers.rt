@@ -4,7 +4,7 @@ ghost use Rattle.std.specs.Prelude.{◌≡◌, ◌+◌, ◌≤◌, All, IfOk, If
 ghost use Rattle.qm_docset.specs.Entry.{head_document, head_positions};
 ghost use Rattle.qm_phrase.specs.Phrase.{count_at, shifts_of};
 ghost use Rattle.qm_phrase.specs.PhraseScorer.{IsOnPhrase, IsPhrase, is_weighted, phrase_starts};
-ghost use Rattle.qm_phrase.specs.PostingsWithOffset.{offset_of, postings_of};
+ghost use Rattle.qm_phrase.specs.PostingsWithOffset.{offset_of, inner_postings};
 ghost use Rattle.qm_postings.specs.FieldNorms.{norm_ids};
 ghost use Rattle.qm_postings.specs.Positions.{shifted};
 ghost use Rattle.qm_term.specs.TermScorer.{AreCovered};
@@ -69,11 +69,11 @@ pub fn positions_behind_buffer<P: Postings>(
     buffer: &mut [DocId; COLLECT_BLOCK_BUFFER_LEN],
     positions: &mut Vec<u32>,
 ) -> Option<DocId>
-    requires valid { P.valid (postings_of postings.old) }
-    requires placed { P.placed (postings_of postings.old) }
-    requires sums { All (λ e. All (λ p. p + offset_of postings.old ≤ 4294967295) e.positions) (P.entries (postings_of postings.old)) }
-    requires room { (P.limits (postings_of postings.old)).room ≤ vec_capacity positions.old }
-    ensures { let here = head_positions (P.entries (postings_of postings.new)) in
+    requires valid { P.valid (inner_postings postings.old) }
+    requires placed { P.placed (inner_postings postings.old) }
+    requires sums { All (λ e. All (λ p. p + offset_of postings.old ≤ 4294967295) e.positions) (P.entries (inner_postings postings.old)) }
+    requires room { (P.limits (inner_postings postings.old)).room ≤ vec_capacity positions.old }
+    ensures { let here = head_positions (P.entries (inner_postings postings.new)) in
         IfSome result (λ _. positions.new.items ≡ shifted (offset_of postings.old) here) }
 {
     postings.fill_buffer(buffer);

@@ -3,7 +3,7 @@
 ghost use Rattle.std.specs.Prelude.{◌≡◌, All, IfOk, IsTrue};
 ghost use Rattle.example_callers.specs.Found.{IsBestOf};
 ghost use Rattle.qm_query.specs.EnableScoring.{is_enabled};
-ghost use Rattle.qm_query.specs.Offsets.{terms_of};
+ghost use Rattle.qm_query.specs.Offsets.{bare_terms};
 ghost use Rattle.qm_query.specs.QueryMatches.{AreMatches, query_matching};
 ghost use Rattle.qm_query.specs.QueryTree.{query_tree};
 
@@ -61,7 +61,7 @@ pub fn best_document<Q: Query, P: Bm25StatisticsProvider>(
 
 /// The field of a phrase and its terms, all of which are of that field.
 pub fn field_and_terms(alloc: Global, query: &PhraseQuery) -> Result<(Field, Vec<Term>), QueryError>
-    ensures terms { IfOk result (λ found. found.1.items ≡ terms_of query.now.terms) }
+    ensures terms { IfOk result (λ found. found.1.items ≡ bare_terms query.now.terms) }
     ensures field { IfOk result (λ found. All (λ t. t.field ≡ found.0) found.1.items) }
 {
     let terms = query.phrase_terms(alloc)?;
@@ -73,7 +73,7 @@ pub fn field_and_full_terms(
     alloc: Global,
     query: &PhrasePrefixQuery,
 ) -> Result<(Field, Vec<Term>), QueryError>
-    ensures terms { IfOk result (λ found. found.1.items ≡ terms_of query.now.terms) }
+    ensures terms { IfOk result (λ found. found.1.items ≡ bare_terms query.now.terms) }
     ensures field { IfOk result (λ found. All (λ t. t.field ≡ found.0) found.1.items) }
 {
     let terms = query.phrase_terms(alloc)?;

@@ -9,10 +9,10 @@ use Rattle.std.proofs.lemmas.List.Sums.{sum_by-cons}
 use Rattle.std.proofs.lemmas.List.{length-append}
 use Rattle.qm_postings.specs.Positions.{is_in}
 use Rattle.qm_phrase.specs.PhrasePrefix.{IsCommonOf, common_below, common_count, is_common}
-use Rattle.qm_phrase.specs.Places.{Ascends, first_place, greatest_first, least_first, past}
+use Rattle.qm_phrase.specs.Places.{Ascends, first_place, greatest_first_place, least_first_place, past}
 use Rattle.qm_phrase.specs.Starts.{all_places, has_near, is_place, is_start, starts, starts_below}
 use Rattle.qm_phrase.proofs.StartSteps.{All-least, All-past, and_false, or_true, count_by-none, count_by-same, is_start-least, is_start-past, is_start-past_here}
-use Rattle.qm_phrase.proofs.StartSteps.{least_first-past, near-empty, one_if, starts-ended, starts-step}
+use Rattle.qm_phrase.proofs.StartSteps.{least_first_place-past, near-empty, one_if, starts-ended, starts-step}
 
 -- A place that all have is a start without slop.
 
@@ -103,7 +103,7 @@ common-listed sets places s is =
 pub record IsCollected (all left : List (List ℕ)) (found : List ℕ) : Type 0 where
   pub rows : All (Ascends 0) left
   pub ascends : Ascends 0 found
-  pub below : All (λ p. p < least_first left) found
+  pub below : All (λ p. p < least_first_place left) found
   pub members : (x : ℕ) → (is_in x found || is_start 0 left x) ≡ is_start 0 all x
   pub number : length found + starts 0 left ≡ starts 0 all
 
@@ -111,7 +111,7 @@ pub collected-none : (sets : List (List ℕ)) → All (Ascends 0) sets → IsCol
 collected-none sets rows = record {
   rows = rows;
   ascends = tt;
-  below = All-nil (λ p. p < least_first sets);
+  below = All-nil (λ p. p < least_first_place sets);
   members = λ x. refl;
   number = omega arith;
 }
@@ -148,17 +148,17 @@ is_in-push_other : (x y : ℕ) (ps : List ℕ) → y ≢ x → is_in y (ps ++ x 
 is_in-push_other x y ps other = list_any-append (λ p. y == p) ps (x ∷ []) ∙ rw (ne_eqb y x other) (or_false (is_in y ps))
 
 -- a place that all begin with is found
-pub collected-common : (all left : List (List ℕ)) (found : List ℕ) (x : ℕ) → x ≡ least_first left → x ≡ greatest_first left →
+pub collected-common : (all left : List (List ℕ)) (found : List ℕ) (x : ℕ) → x ≡ least_first_place left → x ≡ greatest_first_place left →
     x < all_places → IsCollected all left found → IsCollected all (map (past x) left) (found ++ x ∷ [])
 collected-common all left found x least greatest under was =
     let rows = All-least x left (omega arith) was.rows in
-    let below : All (λ p. p < x) found = below-later (least_first left) x found (omega arith) was.below in
-    let start : is_start 0 left x ≡ true = is_start-least 0 x left least under (omega arith) rows ∙ le-leb (greatest_first left) (x + 0) (omega arith) in
+    let below : All (λ p. p < x) found = below-later (least_first_place left) x found (omega arith) was.below in
+    let start : is_start 0 left x ≡ true = is_start-least 0 x left least under (omega arith) rows ∙ le-leb (greatest_first_place left) (x + 0) (omega arith) in
     let step = starts-step 0 x left under rows in
     record {
       rows = All-past 0 x left was.rows;
       ascends = Ascends-push 0 x found (omega arith) under below was.ascends;
-      below = below-push x (least_first (map (past x) left)) found (least_first-past x left under rows) below;
+      below = below-push x (least_first_place (map (past x) left)) found (least_first_place-past x left under rows) below;
       members = λ y. elim (cases_eq y x) [
         | inl same ↦
             let found_here = is_in-push_here x y found same in
@@ -173,18 +173,18 @@ collected-common all left found x least greatest under was =
     }
 
 -- a place that one lacks is not
-pub collected-skip : (all left : List (List ℕ)) (found : List ℕ) (x : ℕ) → x ≡ least_first left → x < greatest_first left →
-    greatest_first left < all_places → IsCollected all left found → IsCollected all (map (past x) left) found
+pub collected-skip : (all left : List (List ℕ)) (found : List ℕ) (x : ℕ) → x ≡ least_first_place left → x < greatest_first_place left →
+    greatest_first_place left < all_places → IsCollected all left found → IsCollected all (map (past x) left) found
 collected-skip all left found x least greatest under was =
     let rows = All-least x left (omega arith) was.rows in
     let below : x < all_places = omega arith in
-    let start : is_start 0 left x ≡ false = is_start-least 0 x left least below under rows ∙ lt-leb (greatest_first left) (x + 0) (omega arith) in
+    let start : is_start 0 left x ≡ false = is_start-least 0 x left least below under rows ∙ lt-leb (greatest_first_place left) (x + 0) (omega arith) in
     let step = starts-step 0 x left below rows in
-    let past_least = least_first-past x left below rows in
+    let past_least = least_first_place-past x left below rows in
     record {
       rows = All-past 0 x left was.rows;
       ascends = was.ascends;
-      below = below-later (least_first left) (least_first (map (past x) left)) found (omega arith) was.below;
+      below = below-later (least_first_place left) (least_first_place (map (past x) left)) found (omega arith) was.below;
       members = λ y. elim (cases_eq y x) [
         | inl same ↦
             let lacks : is_start 0 left y ≡ false = ap (is_start 0 left) same ∙ start in
@@ -197,7 +197,7 @@ collected-skip all left found x least greatest under was =
 
 -- where a set has no place left, all are found
 pub collected-all : (all left : List (List ℕ)) (found : List ℕ) → 0 < length all →
-    greatest_first left ≡ all_places → IsCollected all left found → IsCommonOf all found
+    greatest_first_place left ≡ all_places → IsCollected all left found → IsCommonOf all found
 collected-all all left found some ended was = record {
   ascends = was.ascends;
   members = λ x.
@@ -208,7 +208,7 @@ collected-all all left found some ended was = record {
 
 -- The first set.
 
-pub first-common : (x : ℕ) (sets : List (List ℕ)) → 0 < length sets → x ≡ least_first sets → x ≡ greatest_first sets → first_place (get_or sets 0 []) ≡ x
+pub first-common : (x : ℕ) (sets : List (List ℕ)) → 0 < length sets → x ≡ least_first_place sets → x ≡ greatest_first_place sets → first_place (get_or sets 0 []) ≡ x
 first-common x [] some least greatest = absurd (omega arith)
 first-common x (s ∷ sets) some least greatest = omega arith
 

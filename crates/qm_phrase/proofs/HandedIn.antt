@@ -14,7 +14,7 @@ use Rattle.qm_docset.specs.Lists.{lists, bounds}
 use Rattle.qm_docset.specs.declared.docset.DocSet.{Ghosts}
 use Rattle.qm_term.specs.TermScorer.{AreCovered}
 use Rattle.qm_phrase.specs.Phrase.{positions_at, starts_at}
-use Rattle.qm_phrase.specs.PhrasePrefix.{greatest_of}
+use Rattle.qm_phrase.specs.PhrasePrefix.{greatest_offset_of}
 use Rattle.qm_phrase.specs.PhraseTerms.{lists_given, members_of, offsets_of, terms_given}
 use Rattle.qm_phrase.specs.TermRows.{AreInside, AreUsed, each_of, is_used, term_of}
 use Rattle.qm_phrase.specs.Terms.{AreRoomy, AreTerms, shifts_in, term_lists, terms_in}
@@ -153,13 +153,13 @@ module _ {P : Type 0} (D : Ghosts P) (given : PhraseTerms P) where
       omega (arith, some, length-map (terms_given given) list)
 
   pub paired-given : (suffix_pos : ℕ) →
-      length (map (λ offset. greatest_of (offsets_of given) suffix_pos - offset) (offsets_of given)) ≡ length (lists_given D given)
+      length (map (λ offset. greatest_offset_of (offsets_of given) suffix_pos - offset) (offsets_of given)) ≡ length (lists_given D given)
   paired-given suffix_pos =
       let list : ℕ × ℕ → List Entry = λ t. get_or (lists D (members_of given)) t.1 [] in
       let offset : ℕ × ℕ → ℕ = λ t. t.0 in
       omega (
         arith,
-        length-map (offsets_of given) (λ o. greatest_of (offsets_of given) suffix_pos - o),
+        length-map (offsets_of given) (λ o. greatest_offset_of (offsets_of given) suffix_pos - o),
         length-map (terms_given given) offset,
         length-map (terms_given given) list,
       )

@@ -7,7 +7,7 @@ use Rattle.std.proofs.lemmas.Bool.{cases_lt, lt-leb, ne_eqb}
 use Rattle.std.proofs.lemmas.List.{drop-drop, drop-map}
 use Rattle.std.proofs.lemmas.List.Elements.{All-cons, All-head, All-nil, All-tail}
 use Rattle.qm_postings.specs.Positions.{is_in, shifted}
-use Rattle.qm_phrase.specs.Places.{Ascends, HasPassed, HavePassed, first_place, greatest_first, least_first}
+use Rattle.qm_phrase.specs.Places.{Ascends, HasPassed, HavePassed, first_place, greatest_first_place, least_first_place}
 use Rattle.qm_phrase.specs.Starts.{has_near, is_place, is_start, starts}
 use Rattle.qm_phrase.proofs.CommonSteps.{IsCollected, below-later}
 use Rattle.qm_phrase.proofs.StartSteps.{Ascends-first, Ascends-lower, and_false, first_place-ascends, has_near-none, starts-same}
@@ -65,26 +65,26 @@ All-passed low place (s ∷ old) (t ∷ new) h all =
     All-cons (Ascends low) t new (Ascends-passed low place s t h.0 (All-head (Ascends low) s old all))
     (All-passed low place old new h.1 (All-tail (Ascends low) s old all))
 
-pub least_first-passed : (place : ℕ) (old new : List (List ℕ)) → HavePassed place old new → All (Ascends 0) old → least_first old ≤ least_first new
-least_first-passed place [] [] h all = omega arith
-least_first-passed place [] (t ∷ new) h all = absurd h
-least_first-passed place (s ∷ old) [] h all = absurd h
-least_first-passed place (s ∷ old) (t ∷ new) h all =
+pub least_first_place-passed : (place : ℕ) (old new : List (List ℕ)) → HavePassed place old new → All (Ascends 0) old → least_first_place old ≤ least_first_place new
+least_first_place-passed place [] [] h all = omega arith
+least_first_place-passed place [] (t ∷ new) h all = absurd h
+least_first_place-passed place (s ∷ old) [] h all = absurd h
+least_first_place-passed place (s ∷ old) (t ∷ new) h all =
     omega (
       arith,
       first_place-passed place s t h.0 (All-head (Ascends 0) s old all),
-      least_first-passed place old new h.1 (All-tail (Ascends 0) s old all),
+      least_first_place-passed place old new h.1 (All-tail (Ascends 0) s old all),
     )
 
-greatest_first-passed : (place : ℕ) (old new : List (List ℕ)) → HavePassed place old new → All (Ascends 0) old → greatest_first old ≤ greatest_first new
-greatest_first-passed place [] [] h all = omega arith
-greatest_first-passed place [] (t ∷ new) h all = absurd h
-greatest_first-passed place (s ∷ old) [] h all = absurd h
-greatest_first-passed place (s ∷ old) (t ∷ new) h all =
+greatest_first_place-passed : (place : ℕ) (old new : List (List ℕ)) → HavePassed place old new → All (Ascends 0) old → greatest_first_place old ≤ greatest_first_place new
+greatest_first_place-passed place [] [] h all = omega arith
+greatest_first_place-passed place [] (t ∷ new) h all = absurd h
+greatest_first_place-passed place (s ∷ old) [] h all = absurd h
+greatest_first_place-passed place (s ∷ old) (t ∷ new) h all =
     omega (
       arith,
       first_place-passed place s t h.0 (All-head (Ascends 0) s old all),
-      greatest_first-passed place old new h.1 (All-tail (Ascends 0) s old all),
+      greatest_first_place-passed place old new h.1 (All-tail (Ascends 0) s old all),
     )
 
 pub shorter-passed : (place : ℕ) (old new : List (List ℕ)) → HavePassed place old new → length (get_or new 0 []) ≤ length (get_or old 0 [])
@@ -107,7 +107,7 @@ near-passed slop x place (s ∷ old) [] h reached = absurd h
 near-passed slop x place (s ∷ old) (t ∷ new) h reached = rw (has_near-passed slop x place s t h.0 reached, near-passed slop x place old new h.1 reached) refl
 
 -- what lies further than the slop before the greatest of the first places is no start
-near-far : (slop y : ℕ) (sets : List (List ℕ)) → y + slop < greatest_first sets → All (Ascends 0) sets → list_all (λ s. has_near slop y s) sets ≡ false
+near-far : (slop y : ℕ) (sets : List (List ℕ)) → y + slop < greatest_first_place sets → All (Ascends 0) sets → list_all (λ s. has_near slop y s) sets ≡ false
 near-far slop y [] h all = absurd (omega arith)
 near-far slop y (s ∷ sets) h all =
     elim (cases_lt (y + slop) (first_place s)) [
@@ -116,29 +116,29 @@ near-far slop y (s ∷ sets) h all =
     ]
 
 -- so the same numbers are starts once it is passed
-is_start-passed : (slop place : ℕ) (old new : List (List ℕ)) → place ≤ greatest_first old - slop → All (Ascends 0) old → HavePassed place old new →
+is_start-passed : (slop place : ℕ) (old new : List (List ℕ)) → place ≤ greatest_first_place old - slop → All (Ascends 0) old → HavePassed place old new →
     (y : ℕ) → is_start slop new y ≡ is_start slop old y
 is_start-passed slop place old new far all h y =
     elim (cases_lt y place) [
       | inl below ↦ rw (
         near-far slop y old (omega (arith, far, below)) all,
-        near-far slop y new (omega (arith, far, below, greatest_first-passed place old new h all)) (All-passed 0 place old new h all),
+        near-far slop y new (omega (arith, far, below, greatest_first_place-passed place old new h all)) (All-passed 0 place old new h all),
       )
           (and_false (is_place new y) ∙ sym (and_false (is_place old y)))
       | inr reached ↦ rw (is_place-passed y place old new h reached, near-passed slop y place old new h reached) refl
     ]
 
-pub starts-passed : (slop place : ℕ) (old new : List (List ℕ)) → place ≤ greatest_first old - slop → All (Ascends 0) old → HavePassed place old new →
+pub starts-passed : (slop place : ℕ) (old new : List (List ℕ)) → place ≤ greatest_first_place old - slop → All (Ascends 0) old → HavePassed place old new →
     starts slop new ≡ starts slop old
 starts-passed slop place old new far all h = starts-same slop new old (is_start-passed slop place old new far all h)
 
 -- nor is what is collected lost
-pub collected-passed : (place : ℕ) (all old new : List (List ℕ)) (found : List ℕ) → place ≤ greatest_first old → HavePassed place old new →
+pub collected-passed : (place : ℕ) (all old new : List (List ℕ)) (found : List ℕ) → place ≤ greatest_first_place old → HavePassed place old new →
     IsCollected all old found → IsCollected all new found
 collected-passed place all old new found far h was = record {
   rows = All-passed 0 place old new h was.rows;
   ascends = was.ascends;
-  below = below-later (least_first old) (least_first new) found (least_first-passed place old new h was.rows) was.below;
+  below = below-later (least_first_place old) (least_first_place new) found (least_first_place-passed place old new h was.rows) was.below;
   members = λ y. ap (λ b. is_in y found || b) (is_start-passed 0 place old new (omega (arith, far)) was.rows h y) ∙ was.members y;
   number = omega (arith, starts-passed 0 place old new (omega (arith, far)) was.rows h, was.number);
 }

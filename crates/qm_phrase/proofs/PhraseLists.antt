@@ -14,7 +14,7 @@ use Rattle.qm_term.specs.Bm25.{bm25}
 use Rattle.qm_term.specs.Bm25Weight.{weighing}
 use Rattle.qm_term.specs.OwnNorms.{OwnWeight}
 use Rattle.qm_phrase.specs.Phrase.{phrase_points}
-use Rattle.qm_phrase.specs.PhraseScorer.{most_counted}
+use Rattle.qm_phrase.specs.PhraseScorer.{most_starts}
 use Rattle.qm_phrase.specs.Terms.{AreMovedTo, IsFirstStart, IsLook, term_starts}
 use Rattle.qm_phrase.specs.declared.terms.TermPlaces.{TermPlaces}
 use Rattle.qm_phrase.proofs.TermMoves.{starts-ahead}
@@ -152,7 +152,7 @@ by_counts-stands limits points d f a here below =
 
 -- what the weight gives a count at the document's length id
 pub points-some : (given : Option OwnWeight) (weight : OwnWeight) (ids : List ℕ) (d count id n : ℕ) → given ≡ Some weight → d < length ids →
-    id ≡ get_or ids d id → count ≡ min (most_counted given) n → bm25 (weighing weight) id count ≡ phrase_points given ids d (held n)
+    id ≡ get_or ids d id → count ≡ min (most_starts given) n → bm25 (weighing weight) id count ≡ phrase_points given ids d (held n)
 points-some None weight ids d count id n is below read counted = absurd (cc)
 points-some (Some other) weight ids d count id n is below read counted =
     let same : other ≡ weight = cc in

@@ -9,7 +9,7 @@ use Rattle.qm_docset.specs.declared.numbers.TheConstants.{TERMINATED}
 use Rattle.qm_term.specs.Bm25.{bm25}
 use Rattle.qm_term.specs.Bm25Weight.{weighing}
 use Rattle.qm_term.specs.OwnNorms.{OwnWeight}
-use Rattle.qm_phrase.specs.PhrasePrefix.{PrefixLists, full_count, has_several, held, prefix_count, prefix_entries, prefix_limits, prefix_points}
+use Rattle.qm_phrase.specs.PhrasePrefix.{PrefixLists, full_count, has_several, held_count, prefix_count, prefix_entries, prefix_limits, prefix_points}
 use Rattle.qm_phrase.specs.PhrasePrefixFacts.{AreEntries-prefix}
 use Rattle.qm_phrase.specs.PrefixTerms.{HaveGoneOn, IsFirstPrefix, IsPrefixLook}
 use Rattle.qm_phrase.specs.declared.prefix_terms.PrefixCounts.{PrefixCounts}
@@ -26,20 +26,20 @@ gone-counts target found t u first gone d past = elim (cases_lt d found.0) [
 module _ (weight : Option OwnWeight) (ids : List ℕ) where
   -- what a document scores
   abbrev pub points_of : PrefixLists → ℕ → ℕ → ℕ
-  points_of t d count = prefix_points weight (has_several t) ids d (held (full_count t d))
+  points_of t d count = prefix_points weight (has_several t) ids d (held_count (full_count t d))
 
   same_entry : (t u : PrefixLists) (d : ℕ) → has_several u ≡ has_several t →
       full_count u d ≡ full_count t d → scored d (points_of u d 0) ≡ scored d (points_of t d 0)
-  same_entry t u d several full = ap (λ b. scored d (prefix_points weight b ids d (held (full_count u d)))) several
-      ∙ ap (λ n. scored d (prefix_points weight (has_several t) ids d (held n))) full
+  same_entry t u d several full = ap (λ b. scored d (prefix_points weight b ids d (held_count (full_count u d)))) several
+      ∙ ap (λ n. scored d (prefix_points weight (has_several t) ids d (held_count n))) full
 
   -- after a look at one document
   pub look-entries : (target : ℕ) (t u : PrefixLists) → HaveGoneOn target t u → prefix_entries weight ids u ≡ from target (prefix_entries weight ids t)
   look-entries target t u gone =
-      listed-moved target (λ d. nat_lt 0 (held (prefix_count t d))) (λ d. nat_lt 0 (held (prefix_count u d)))
+      listed-moved target (λ d. nat_lt 0 (held_count (prefix_count t d))) (λ d. nat_lt 0 (held_count (prefix_count u d)))
       (λ d. scored d (points_of t d 0)) (λ d. scored d (points_of u d 0)) (λ d. refl) (record {
         none_below = λ d below. kept-none (prefix_count u d) (gone.behind d below);
-        same_test = λ d past. ap (λ n. nat_lt 0 (held n)) (gone.counts d past);
+        same_test = λ d past. ap (λ n. nat_lt 0 (held_count n)) (gone.counts d past);
         same_entry = λ d past here. same_entry t u d gone.several (gone.full d past);
       })
 
@@ -61,10 +61,10 @@ module _ (weight : Option OwnWeight) (ids : List ℕ) where
   pub found-entries : (target : ℕ) (found : ℕ × PrefixCounts) (t u : PrefixLists) → IsFirstPrefix target t found →
       HaveGoneOn found.0 t u → prefix_entries weight ids u ≡ from target (prefix_entries weight ids t)
   found-entries target found t u first gone =
-      listed-moved target (λ d. nat_lt 0 (held (prefix_count t d))) (λ d. nat_lt 0 (held (prefix_count u d)))
+      listed-moved target (λ d. nat_lt 0 (held_count (prefix_count t d))) (λ d. nat_lt 0 (held_count (prefix_count u d)))
       (λ d. scored d (points_of t d 0)) (λ d. scored d (points_of u d 0)) (λ d. refl) (record {
         none_below = λ d below. kept-none (prefix_count u d) (gone.behind d (omega (arith, below, first.within.0)));
-        same_test = λ d past. ap (λ n. nat_lt 0 (held n)) (gone-counts target found t u first gone d past);
+        same_test = λ d past. ap (λ n. nat_lt 0 (held_count n)) (gone-counts target found t u first gone d past);
         same_entry = λ d past here. elim (cases_lt d found.0) [
           | inl before ↦ absurd (cc (here, kept-none (prefix_count t d) (first.bare d past before)))
           | inr reached ↦ same_entry t u d gone.several (gone.full d reached)
@@ -79,7 +79,7 @@ module _ (weight : Option OwnWeight) (ids : List ℕ) where
 
   -- where it stands on a document, that one counts, and scores its points
   pub prefix-stands : (t : PrefixLists) (d : ℕ) → d ≡ head_document (prefix_entries weight ids t) → d < TERMINATED → (0 < prefix_count t d) ×
-      (head_score (prefix_entries weight ids t) ≡ prefix_points weight (has_several t) ids d (held (full_count t d)))
+      (head_score (prefix_entries weight ids t) ≡ prefix_points weight (has_several t) ids d (held_count (full_count t d)))
   prefix-stands t d here below =
       by_counts-stands (prefix_limits weight (has_several t)) (points_of t) d (prefix_count t) (AreEntries-prefix weight ids t) here below
 
@@ -113,7 +113,7 @@ prefix_points-single (Some other) weight true ids d n is one = absurd (cc)
 prefix_points-single (Some other) weight false ids d n is one = let same : other ≡ weight = cc in ap (λ (w : OwnWeight). w.boost) (sym same)
 
 pub prefix_points-several : (given : Option OwnWeight) (weight : OwnWeight) (several : Bool) (ids : List ℕ) (d count id n : ℕ) → given ≡ Some weight →
-    true ≡ several → d < length ids → id ≡ get_or ids d id → count ≡ held n → bm25 (weighing weight) id count ≡ prefix_points given several ids d (held n)
+    true ≡ several → d < length ids → id ≡ get_or ids d id → count ≡ held_count n → bm25 (weighing weight) id count ≡ prefix_points given several ids d (held_count n)
 prefix_points-several None weight several ids d count id n is more below read counted = absurd (cc)
 prefix_points-several (Some other) weight false ids d count id n is more below read counted = absurd (cc)
 prefix_points-several (Some other) weight true ids d count id n is more below read counted =

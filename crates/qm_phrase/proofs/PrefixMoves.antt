@@ -10,7 +10,7 @@ use Rattle.qm_docset.specs.declared.numbers.TheConstants.{TERMINATED}
 use Rattle.qm_postings.specs.Positions.{shifted}
 use Rattle.qm_term.specs.TermScorer.{AreCovered}
 use Rattle.qm_phrase.specs.Phrase.{positions_at, sets_at, starts_at}
-use Rattle.qm_phrase.specs.PhrasePrefix.{IsCommonOf, PrefixLists, common_count, full_count, full_sets, has_several, held, prefix_count}
+use Rattle.qm_phrase.specs.PhrasePrefix.{IsCommonOf, PrefixLists, common_count, full_count, full_sets, has_several, held_count, prefix_count}
 use Rattle.qm_phrase.specs.PhrasePrefix.{suffix_count}
 use Rattle.qm_phrase.specs.Places.{shift_of}
 use Rattle.qm_phrase.specs.Suffixes.{suffix_lists}
@@ -104,7 +104,7 @@ module _ {P : Type 0} (D : Ghosts P) where
 
   -- what was counted of a document
   pub counted-is : (s : PrefixTerms P) (doc count : ℕ) (common : List ℕ) → IsCommonOf (full_sets (lists_of D s) doc) common → count
-      ≡ min 4294967295 (sum_by (shared_with (shift_of s.suffix_places) common doc) (suffix_lists D s.suffixes.items)) → count ≡ held (prefix_count (lists_of D s) doc)
+      ≡ min 4294967295 (sum_by (shared_with (shift_of s.suffix_places) common doc) (suffix_lists D s.suffixes.items)) → count ≡ held_count (prefix_count (lists_of D s) doc)
   counted-is s doc count common is counted = counted ∙ ap (min 4294967295) (prefix-listed (lists_of D s) doc common is)
 
   -- terms in the midst of a search

@@ -8,7 +8,7 @@ use Rattle.std.proofs.lemmas.List.Sums.{sum_by-cons}
 use Rattle.std.proofs.lemmas.List.{drop_all}
 use Rattle.qm_postings.specs.Positions.{is_in, shifted}
 use Rattle.qm_phrase.specs.Starts.{has_near, is_place, is_start, starts_below, starts, all_places}
-use Rattle.qm_phrase.specs.Places.{Ascends, first_place, least_first, greatest_first, past}
+use Rattle.qm_phrase.specs.Places.{Ascends, first_place, least_first_place, greatest_first_place, past}
 
 -- Counting.
 
@@ -202,13 +202,13 @@ nat_le-max a b n =
     ]
 
 -- all ascend from the least of their first places on
-pub All-least : (low : ℕ) (sets : List (List ℕ)) → low ≤ least_first sets → All (Ascends 0) sets → All (Ascends low) sets
+pub All-least : (low : ℕ) (sets : List (List ℕ)) → low ≤ least_first_place sets → All (Ascends 0) sets → All (Ascends low) sets
 All-least low [] h all = All-nil (Ascends low)
 All-least low (s ∷ sets) h all =
     All-cons (Ascends low) s sets (Ascends-first low s (omega arith) (All-head (Ascends 0) s sets all))
     (All-least low sets (omega arith) (All-tail (Ascends 0) s sets all))
 
-is_place-least : (x : ℕ) (sets : List (List ℕ)) → x ≡ least_first sets → x < all_places → is_place sets x ≡ true
+is_place-least : (x : ℕ) (sets : List (List ℕ)) → x ≡ least_first_place sets → x < all_places → is_place sets x ≡ true
 is_place-least x [] h below = absurd (omega arith)
 is_place-least x ([] ∷ sets) h below = is_place-least x sets (omega arith) below
 is_place-least x ((p ∷ ps) ∷ sets) h below =
@@ -217,41 +217,41 @@ is_place-least x ((p ∷ ps) ∷ sets) h below =
       | inr other ↦ rw (is_place-least x sets (omega arith) below) (or_true (is_in x (p ∷ ps)))
     ]
 
-near-greatest : (slop x : ℕ) (sets : List (List ℕ)) → greatest_first sets < all_places →
-    All (Ascends x) sets → list_all (λ s. has_near slop x s) sets ≡ nat_le (greatest_first sets) (x + slop)
+near-greatest : (slop x : ℕ) (sets : List (List ℕ)) → greatest_first_place sets < all_places →
+    All (Ascends x) sets → list_all (λ s. has_near slop x s) sets ≡ nat_le (greatest_first_place sets) (x + slop)
 near-greatest slop x [] h all = sym (le-leb 0 (x + slop) (omega arith))
 near-greatest slop x ([] ∷ sets) h all = absurd (omega arith)
 near-greatest slop x ((p ∷ ps) ∷ sets) h all =
     let here = All-head (Ascends x) (p ∷ ps) sets all in
     let rest = near-greatest slop x sets (omega arith) (All-tail (Ascends x) (p ∷ ps) sets all) in
-    rw (has_near-first slop x p ps here.0 here.2, rest) (nat_le-max p (greatest_first sets) (x + slop))
+    rw (has_near-first slop x p ps here.0 here.2, rest) (nat_le-max p (greatest_first_place sets) (x + slop))
 
 -- the least place is a start exactly where the greatest of the first places is within the slop
-pub is_start-least : (slop x : ℕ) (sets : List (List ℕ)) → x ≡ least_first sets → x < all_places →
-    greatest_first sets < all_places → All (Ascends x) sets → is_start slop sets x ≡ nat_le (greatest_first sets) (x + slop)
+pub is_start-least : (slop x : ℕ) (sets : List (List ℕ)) → x ≡ least_first_place sets → x < all_places →
+    greatest_first_place sets < all_places → All (Ascends x) sets → is_start slop sets x ≡ nat_le (greatest_first_place sets) (x + slop)
 is_start-least slop x sets least below h all = rw (is_place-least x sets least below) (near-greatest slop x sets h all)
 
 -- where a set has no place left, there is no start
-pub near-empty : (slop y : ℕ) (sets : List (List ℕ)) → greatest_first sets ≡ all_places → All (Ascends 0) sets → list_all (λ s. has_near slop y s) sets ≡ false
+pub near-empty : (slop y : ℕ) (sets : List (List ℕ)) → greatest_first_place sets ≡ all_places → All (Ascends 0) sets → list_all (λ s. has_near slop y s) sets ≡ false
 near-empty slop y [] h all = absurd (omega arith)
 near-empty slop y ([] ∷ sets) h all = refl
 near-empty slop y ((p ∷ ps) ∷ sets) h all =
     let here = All-head (Ascends 0) (p ∷ ps) sets all in
     rw (near-empty slop y sets (omega arith) (All-tail (Ascends 0) (p ∷ ps) sets all)) (and_false (has_near slop y (p ∷ ps)))
 
-pub starts-ended : (slop : ℕ) (sets : List (List ℕ)) → greatest_first sets ≡ all_places → All (Ascends 0) sets → starts slop sets ≡ 0
+pub starts-ended : (slop : ℕ) (sets : List (List ℕ)) → greatest_first_place sets ≡ all_places → All (Ascends 0) sets → starts slop sets ≡ 0
 starts-ended slop sets h all = starts-none slop sets (λ y. rw (near-empty slop y sets h all) (and_false (is_place sets y)))
 
-pub least_first-le : (sets : List (List ℕ)) → 0 < length sets → least_first sets ≤ greatest_first sets
-least_first-le [] h = absurd (omega arith)
-least_first-le (s ∷ sets) h = omega arith
+pub least_first_place-le : (sets : List (List ℕ)) → 0 < length sets → least_first_place sets ≤ greatest_first_place sets
+least_first_place-le [] h = absurd (omega arith)
+least_first_place-le (s ∷ sets) h = omega arith
 
-pub greatest_first-most : (sets : List (List ℕ)) → All (Ascends 0) sets → greatest_first sets ≤ all_places
-greatest_first-most [] all = omega arith
-greatest_first-most ([] ∷ sets) all = omega (arith, greatest_first-most sets (All-tail (Ascends 0) [] sets all))
-greatest_first-most ((p ∷ ps) ∷ sets) all =
+pub greatest_first_place-most : (sets : List (List ℕ)) → All (Ascends 0) sets → greatest_first_place sets ≤ all_places
+greatest_first_place-most [] all = omega arith
+greatest_first_place-most ([] ∷ sets) all = omega (arith, greatest_first_place-most sets (All-tail (Ascends 0) [] sets all))
+greatest_first_place-most ((p ∷ ps) ∷ sets) all =
     let here = All-head (Ascends 0) (p ∷ ps) sets all in
-    omega (arith, greatest_first-most sets (All-tail (Ascends 0) (p ∷ ps) sets all))
+    omega (arith, greatest_first_place-most sets (All-tail (Ascends 0) (p ∷ ps) sets all))
 
 first_place-past_most : (x : ℕ) (s : List ℕ) → Ascends 0 s → first_place s ≤ first_place (past x s)
 first_place-past_most x [] a = omega arith
@@ -262,44 +262,44 @@ first_place-past_most x (p ∷ ps) a =
     ]
 
 -- behind a place that some begin with, all begin no earlier
-pub greatest_first-past : (x : ℕ) (sets : List (List ℕ)) → All (Ascends 0) sets → greatest_first sets ≤ greatest_first (map (past x) sets)
-greatest_first-past x [] all = omega arith
-greatest_first-past x (s ∷ sets) all =
-    omega (arith, first_place-past_most x s (All-head (Ascends 0) s sets all), greatest_first-past x sets (All-tail (Ascends 0) s sets all))
+pub greatest_first_place-past : (x : ℕ) (sets : List (List ℕ)) → All (Ascends 0) sets → greatest_first_place sets ≤ greatest_first_place (map (past x) sets)
+greatest_first_place-past x [] all = omega arith
+greatest_first_place-past x (s ∷ sets) all =
+    omega (arith, first_place-past_most x s (All-head (Ascends 0) s sets all), greatest_first_place-past x sets (All-tail (Ascends 0) s sets all))
 
 -- a pass moves the least place on
-pub least_first-past : (x : ℕ) (sets : List (List ℕ)) → x < all_places → All (Ascends x) sets → x < least_first (map (past x) sets)
-least_first-past x [] h all = h
-least_first-past x (s ∷ sets) h all =
-    omega (arith, first_place-past x s h (All-head (Ascends x) s sets all), least_first-past x sets h (All-tail (Ascends x) s sets all))
+pub least_first_place-past : (x : ℕ) (sets : List (List ℕ)) → x < all_places → All (Ascends x) sets → x < least_first_place (map (past x) sets)
+least_first_place-past x [] h all = h
+least_first_place-past x (s ∷ sets) h all =
+    omega (arith, first_place-past x s h (All-head (Ascends x) s sets all), least_first_place-past x sets h (All-tail (Ascends x) s sets all))
 
 -- what is known where some set has a least place
-pub within : (sets : List (List ℕ)) (least greatest : ℕ) → 0 < length sets → least ≡ least_first sets → greatest ≡ greatest_first sets →
-    (greatest ≡ all_places → ⊥) → All (Ascends 0) sets → (least < all_places) × (greatest_first sets < all_places) × All (Ascends least) sets
+pub within : (sets : List (List ℕ)) (least greatest : ℕ) → 0 < length sets → least ≡ least_first_place sets → greatest ≡ greatest_first_place sets →
+    (greatest ≡ all_places → ⊥) → All (Ascends 0) sets → (least < all_places) × (greatest_first_place sets < all_places) × All (Ascends least) sets
 within sets least greatest some is most here all =
-    let below : greatest_first sets < all_places = omega (arith, greatest_first-most sets all) in
-    let under : least < all_places = omega (arith, least_first-le sets some) in
+    let below : greatest_first_place sets < all_places = omega (arith, greatest_first_place-most sets all) in
+    let under : least < all_places = omega (arith, least_first_place-le sets some) in
     (under, below, All-least least sets (omega arith) all)
 
 -- the place is counted exactly where the greatest is within the slop
-pub counted : (sets : List (List ℕ)) (slop least : ℕ) → least ≡ least_first sets → least < all_places → greatest_first sets < all_places →
-    All (Ascends least) sets → (greatest_first sets ≤ least + slop → starts slop sets ≡ 1 + starts slop (map (past least) sets)) ×
-    (least + slop < greatest_first sets → starts slop sets ≡ starts slop (map (past least) sets))
+pub counted : (sets : List (List ℕ)) (slop least : ℕ) → least ≡ least_first_place sets → least < all_places → greatest_first_place sets < all_places →
+    All (Ascends least) sets → (greatest_first_place sets ≤ least + slop → starts slop sets ≡ 1 + starts slop (map (past least) sets)) ×
+    (least + slop < greatest_first_place sets → starts slop sets ≡ starts slop (map (past least) sets))
 counted sets slop least is under below all =
     let step = starts-step slop least sets under all in
     let start = is_start-least slop least sets is under below all in (
-      (λ near. omega (arith, step, ap one_if (start ∙ le-leb (greatest_first sets) (least + slop) near))),
-      (λ far. omega (arith, step, ap one_if (start ∙ lt-leb (greatest_first sets) (least + slop) far))),
+      (λ near. omega (arith, step, ap one_if (start ∙ le-leb (greatest_first_place sets) (least + slop) near))),
+      (λ far. omega (arith, step, ap one_if (start ∙ lt-leb (greatest_first_place sets) (least + slop) far))),
     )
 
 -- one more set
-pub least_first-push : (sets : List (List ℕ)) (s : List ℕ) → least_first (sets ++ s ∷ []) ≡ min (first_place s) (least_first sets)
-least_first-push [] s = refl
-least_first-push (t ∷ sets) s = omega (arith, least_first-push sets s)
+pub least_first_place-push : (sets : List (List ℕ)) (s : List ℕ) → least_first_place (sets ++ s ∷ []) ≡ min (first_place s) (least_first_place sets)
+least_first_place-push [] s = refl
+least_first_place-push (t ∷ sets) s = omega (arith, least_first_place-push sets s)
 
-pub greatest_first-push : (sets : List (List ℕ)) (s : List ℕ) → greatest_first (sets ++ s ∷ []) ≡ max (first_place s) (greatest_first sets)
-greatest_first-push [] s = refl
-greatest_first-push (t ∷ sets) s = omega (arith, greatest_first-push sets s)
+pub greatest_first_place-push : (sets : List (List ℕ)) (s : List ℕ) → greatest_first_place (sets ++ s ∷ []) ≡ max (first_place s) (greatest_first_place sets)
+greatest_first_place-push [] s = refl
+greatest_first_place-push (t ∷ sets) s = omega (arith, greatest_first_place-push sets s)
 
 -- the first place is passed
 pub past-first : (x shift n : ℕ) (ps : List ℕ) → x < all_places → first_place (shifted shift (drop n ps)) ≡ x →

@@ -7,8 +7,8 @@ use Rattle.qm_docset.specs.ListFacts.{map-map}
 use Rattle.qm_postings.specs.Positions.{shifted}
 use Rattle.qm_phrase.specs.Phrase.{shifted_each}
 use Rattle.qm_phrase.specs.Places.{HasPassed, HavePassed, past}
-use Rattle.qm_phrase.specs.TermRows.{AreInside, each_of, positions_in, rows_left, term_of, terms_of}
-use Rattle.qm_phrase.specs.Terms.{begun}
+use Rattle.qm_phrase.specs.TermRows.{AreInside, each_of, member_positions, rows_left, term_of, terms_of}
+use Rattle.qm_phrase.specs.Terms.{unpassed}
 use Rattle.qm_phrase.specs.declared.term_row.TermRow.{TermRow}
 
 -- what stands past the last term
@@ -24,7 +24,7 @@ inside_at count rows i inside below =
 
 -- what is read of the positions of a member
 pub read_is : (positions : List (Vec ℕ)) (k : ℕ) (own : Vec ℕ) (ps : List ℕ) → k < length positions → own ≡ get_or positions k own → ps ≡ own.items →
-    ps ≡ get_or (positions_in positions) k []
+    ps ≡ get_or (member_positions positions) k []
 read_is positions k own ps below is read = read ∙ ap (λ v. v.items) is ∙ sym (get_or-map (λ v. v.items) positions k own [] below)
 
 get_or-mapped : {X Y : Type 0} (g : X → Y) (xs : List X) (k : ℕ) (e : X) → get_or (map g xs) k (g e) ≡ g (get_or xs k e)
@@ -56,13 +56,13 @@ All-each_of {X} Q xs terms inside all =
 
 -- terms that begin anew have all places of their members
 pub rows_left-begun : (positions : List (Vec ℕ)) (rows : List TermRow) →
-    rows_left positions (map begun rows) ≡ shifted_each (map (λ t. t.0) (terms_of rows)) (each_of (positions_in positions) (terms_of rows))
+    rows_left positions (map unpassed rows) ≡ shifted_each (map (λ t. t.0) (terms_of rows)) (each_of (member_positions positions) (terms_of rows))
 rows_left-begun positions [] = refl
 rows_left-begun positions (row ∷ rows) =
-    ap (λ r. shifted row.row.shift (get_or (positions_in positions) row.member []) ∷ r) (rows_left-begun positions rows)
+    ap (λ r. shifted row.row.shift (get_or (member_positions positions) row.member []) ∷ r) (rows_left-begun positions rows)
 
-pub terms_of-begun : (rows : List TermRow) → terms_of (map begun rows) ≡ terms_of rows
-terms_of-begun rows = map-map term_of begun rows
+pub terms_of-begun : (rows : List TermRow) → terms_of (map unpassed rows) ≡ terms_of rows
+terms_of-begun rows = map-map term_of unpassed rows
 
 -- One more term has passed a place, and what lies below a floor.
 

@@ -15,7 +15,7 @@ use Rattle.qm_docset.specs.ListedFacts.{listed-first, listed-moved}
 use Rattle.qm_docset.specs.RowFacts.{scores_at-row_ahead}
 use Rattle.qm_docset.specs.SeekFacts.{entries_of-from, scores_at-from}
 use Rattle.qm_docset.specs.declared.numbers.TheConstants.{TERMINATED}
-use Rattle.qm_phrase.specs.PostingUnions.{entries_at, united, united_entries, united_frequency, united_positions}
+use Rattle.qm_phrase.specs.PostingUnions.{entries_at, united_entry, united_entries, united_frequency, united_positions}
 use Rattle.qm_phrase.specs.PostingUnionFacts.{entries_at-cons}
 
 -- what is left of the lists from a target on says the same of the documents from there on
@@ -43,26 +43,26 @@ module _ {X : Type 0} (list : X → List Entry) (bound : X → Limits) where
       some_has_document-scores_at d (map list xs) ∙ ap (λ r. nat_le 1 (length r)) (scores_at-row_ahead list bound d xs all past)
 
   -- a union whose members were sent to a target is what was left of it from there on
-  pub united-sought : (t : ℕ) (old : List (List Entry)) (xs : List X) → All (λ x. AreEntries 0 (bound x) (list x)) xs →
+  pub united_entry-sought : (t : ℕ) (old : List (List Entry)) (xs : List X) → All (λ x. AreEntries 0 (bound x) (list x)) xs →
       All (λ x. t ≤ head_document (list x)) xs → map (from t) (map list xs) ≡ map (from t) old → united_entries (map list xs) ≡ from t (united_entries old)
-  united-sought t old xs all reached same =
+  united_entry-sought t old xs all reached same =
       let new = map list xs in
       listed-moved t (λ d. some_has_document old d) (λ d. some_has_document new d)
-      (λ d. united d (entries_at d old)) (λ d. united d (entries_at d new)) (λ d. refl) (record {
+      (λ d. united_entry d (entries_at d old)) (λ d. united_entry d (entries_at d new)) (λ d. refl) (record {
         none_below = none_below t xs all reached;
         same_test = λ d past. some_has-left d t old new past same;
-        same_entry = λ d past here. ap (united d) (entries_at-left d t old new past same);
+        same_entry = λ d past here. ap (united_entry d) (entries_at-left d t old new past same);
       })
 
   -- it begins with the least document that its members begin with
-  pub united-first : (xs : List X) → All (λ x. AreEntries 0 (bound x) (list x)) xs →
-      least_head (map list xs) < TERMINATED → united_entries (map list xs) ≡ united (least_head (map list xs))
+  pub united_entry-first : (xs : List X) → All (λ x. AreEntries 0 (bound x) (list x)) xs →
+      least_head (map list xs) < TERMINATED → united_entries (map list xs) ≡ united_entry (least_head (map list xs))
       (entries_at (least_head (map list xs)) (map list xs)) ∷ from (least_head (map list xs) + 1) (united_entries (map list xs))
-  united-first xs all below =
+  united_entry-first xs all below =
       let ess = map list xs in
       let d = least_head ess in
       let some = scores_at-least (map bound xs) ess (AreMembers-map bound list xs all) below in
-      listed-first d (λ n. some_has_document ess n) (λ n. united n (entries_at n ess)) below (λ n. refl)
+      listed-first d (λ n. some_has_document ess n) (λ n. united_entry n (entries_at n ess)) below (λ n. refl)
       (none_below d xs all (λ k e within. least_head-le list xs k e within)) (some_has_document-scores_at d ess ∙ le-leb 1 (length (scores_at d ess)) some)
 
 documents-united : (ess : List (List Entry)) → documents (united_entries ess) ≡ documents (gather 1 (λ scores. 0) ess)
@@ -74,7 +74,7 @@ documents-united ess =
     (documents_below TERMINATED) (λ d. some_has_document-scores_at d ess)
     ∙ sym (documents-gather 1 (λ scores. 0) ess)
   where
-    numbers : (ds : List ℕ) → documents (map (λ d. united d (entries_at d ess)) ds) ≡ ds
+    numbers : (ds : List ℕ) → documents (map (λ d. united_entry d (entries_at d ess)) ds) ≡ ds
     numbers [] = refl
     numbers (d ∷ ds) = ap (λ r. d ∷ r) (numbers ds)
 
@@ -96,12 +96,12 @@ pub union-frequency : {X : Type 0} (ok : X → Type 0) (bound : X → Limits) (l
     ((x : X) → ok x → AreEntries 0 (bound x) (list x)) → (d : ℕ) (xs : List X) → All ok xs → d ≡ least_head (map list xs) →
     d < TERMINATED → head_frequency (united_entries (map list xs)) ≡ united_frequency (entries_at d (map list xs))
 union-frequency ok bound list law d xs all is below =
-    ap head_frequency (united-first list bound xs (λ k e within. law _ (all k e within)) (omega (arith, is, below)))
+    ap head_frequency (united_entry-first list bound xs (λ k e within. law _ (all k e within)) (omega (arith, is, below)))
     ∙ ap (λ n. united_frequency (entries_at n (map list xs))) (sym is)
 
 pub union-positions : {X : Type 0} (ok : X → Type 0) (bound : X → Limits) (list : X → List Entry) →
     ((x : X) → ok x → AreEntries 0 (bound x) (list x)) → (d : ℕ) (xs : List X) → All ok xs → d ≡ least_head (map list xs) →
     d < TERMINATED → head_positions (united_entries (map list xs)) ≡ united_positions (entries_at d (map list xs))
 union-positions ok bound list law d xs all is below =
-    ap head_positions (united-first list bound xs (λ k e within. law _ (all k e within)) (omega (arith, is, below)))
+    ap head_positions (united_entry-first list bound xs (λ k e within. law _ (all k e within)) (omega (arith, is, below)))
     ∙ ap (λ n. united_positions (entries_at n (map list xs))) (sym is)

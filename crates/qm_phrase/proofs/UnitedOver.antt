@@ -6,7 +6,7 @@ use Rattle.qm_docset.specs.Entry.{Entry, Limits, AreEntries, from, head_document
 use Rattle.qm_docset.specs.EntryFacts.{AreEntries-below, AreEntries-head, from-keep, from-nil, from-skip}
 use Rattle.qm_docset.specs.Listed.{IsNamed}
 use Rattle.qm_docset.specs.declared.numbers.TheConstants.{TERMINATED}
-use Rattle.qm_phrase.specs.PostingUnions.{described, entries_at, united, united_frequency, united_over, united_positions}
+use Rattle.qm_phrase.specs.PostingUnions.{described, entries_at, united_entry, united_frequency, united_over, united_positions}
 use Rattle.qm_phrase.proofs.UnitedLists.{entries_at-left}
 
 module _ (made : ℕ → Entry) (named : IsNamed made) where
@@ -45,8 +45,8 @@ over-left : (t : ℕ) (limits : Limits) (set : List Entry) (old new : List (List
     AreEntries t limits set → map (from t) new ≡ map (from t) old → united_over set new ≡ united_over set old
 over-left t limits [] old new a same = refl
 over-left t limits (e ∷ es) old new a same =
-    let here : united e.document (entries_at e.document new) ≡ united e.document (entries_at e.document old) =
-    ap (united e.document) (entries_at-left e.document t old new a.here.from_low same) in
+    let here : united_entry e.document (entries_at e.document new) ≡ united_entry e.document (entries_at e.document old) =
+    ap (united_entry e.document) (entries_at-left e.document t old new a.here.from_low same) in
     let rest = over-left t limits es old new (AreEntries-below (e.document + 1) t limits es (omega (arith, a.here.from_low)) a.others) same in
     λ i. here i ∷ rest i
 
@@ -57,18 +57,18 @@ over-moved limits set old new a same = over-left (head_document set) limits set 
 -- ---- by their names over postings
 
 pub head_document-over : (set : List Entry) (ess : List (List Entry)) → head_document (united_over set ess) ≡ head_document set
-head_document-over set ess = head_document-described (λ d. united d (entries_at d ess)) (λ d. refl) set
+head_document-over set ess = head_document-described (λ d. united_entry d (entries_at d ess)) (λ d. refl) set
 
 pub head_positions-over : (set : List Entry) (ess : List (List Entry)) → head_document set < TERMINATED →
     head_positions (united_over set ess) ≡ united_positions (entries_at (head_document set) ess)
-head_positions-over set ess h = head_positions-described (λ d. united d (entries_at d ess)) (λ d. refl) set h
+head_positions-over set ess h = head_positions-described (λ d. united_entry d (entries_at d ess)) (λ d. refl) set h
 
 pub head_frequency-over : (set : List Entry) (ess : List (List Entry)) → head_document set < TERMINATED →
     head_frequency (united_over set ess) ≡ united_frequency (entries_at (head_document set) ess)
-head_frequency-over set ess h = head_frequency-described (λ d. united d (entries_at d ess)) (λ d. refl) set h
+head_frequency-over set ess h = head_frequency-described (λ d. united_entry d (entries_at d ess)) (λ d. refl) set h
 
 pub drop-over : (set : List Entry) (ess : List (List Entry)) → united_over (drop 1 set) ess ≡ drop 1 (united_over set ess)
-drop-over set ess = drop-described (λ d. united d (entries_at d ess)) (λ d. refl) set
+drop-over set ess = drop-described (λ d. united_entry d (entries_at d ess)) (λ d. refl) set
 
 pub from-over : (t : ℕ) (set : List Entry) (ess : List (List Entry)) → united_over (from t set) ess ≡ from t (united_over set ess)
-from-over t set ess = from-described (λ d. united d (entries_at d ess)) (λ d. refl) t set
+from-over t set ess = from-described (λ d. united_entry d (entries_at d ess)) (λ d. refl) t set

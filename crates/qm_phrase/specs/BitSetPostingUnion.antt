@@ -4,7 +4,7 @@ use Rattle.qm_docset.specs.BitSetDocSet.{IsBitSetCursor, IsOnMember, remaining_m
 use Rattle.qm_docset.specs.Entry.{Entry, Limits, head_document}
 use Rattle.qm_docset.specs.Lists.{ArePlaced, lists, bounds}
 use Rattle.qm_docset.specs.declared.docset.DocSet.{Ghosts}
-use Rattle.qm_phrase.specs.PostingUnions.{postings_limits, united_over}
+use Rattle.qm_phrase.specs.PostingUnions.{limits_of_postings, united_over}
 use Rattle.qm_phrase.specs.declared.union.bitset_union.BitSetPostingUnion.{BitSetPostingUnion}
 
 module _ {P : Type 0} (D : Ghosts P) where
@@ -14,7 +14,7 @@ module _ {P : Type 0} (D : Ghosts P) where
 
   -- its limits
   abbrev pub bitset_union_limits : BitSetPostingUnion P → Limits
-  bitset_union_limits s = postings_limits (bounds D s.members.items)
+  bitset_union_limits s = limits_of_postings (bounds D s.members.items)
 
   -- a cursor over the set that stands on its first document, and placed members, none of which stands
   -- before it

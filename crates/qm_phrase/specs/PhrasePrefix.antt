@@ -13,8 +13,10 @@ use Rattle.qm_postings.specs.Positions.{is_in, shifted}
 use Rattle.qm_term.specs.Bm25Weight.{weighing}
 use Rattle.qm_term.specs.OwnNorms.{OwnWeight}
 use Rattle.qm_phrase.specs.Phrase.{phrase_limits, phrase_points, positions_at, sets_at}
+use Rattle.qm_phrase.specs.PhraseTerms.{lists_given, offsets_of}
 use Rattle.qm_phrase.specs.Places.{Ascends}
 use Rattle.qm_phrase.specs.Starts.{all_places}
+use Rattle.qm_phrase.specs.declared.phrase_terms.PhraseTerms.{PhraseTerms}
 
 -- whether every set has a place
 abbrev pub is_common : List (List ℕ) → ℕ → Bool
@@ -67,8 +69,8 @@ abbrev pub prefix_count : PrefixLists → ℕ → ℕ
 prefix_count t d = sum_by (suffix_count t d) t.suffixes
 
 -- a count as it is answered: at most 4294967295
-abbrev pub held : ℕ → ℕ
-held n = min 4294967295 n
+abbrev pub held_count : ℕ → ℕ
+held_count n = min 4294967295 n
 
 -- the points: with two or more full terms those of a phrase, with one the weight's boost, and 1
 -- without a weight
@@ -86,19 +88,19 @@ prefix_limits (Some weight) false = record { top = (weighing weight).boost; room
 -- the documents with a count, each with the points that the places of its full terms give it
 abbrev pub prefix_entries : Option OwnWeight → List ℕ → PrefixLists → List Entry
 prefix_entries weight ids t =
-    listed (λ d. nat_lt 0 (held (prefix_count t d))) (λ d. scored d (prefix_points weight (has_several t) ids d (held (full_count t d))))
+    listed (λ d. nat_lt 0 (held_count (prefix_count t d))) (λ d. scored d (prefix_points weight (has_several t) ids d (held_count (full_count t d))))
 
 -- the greatest of all offsets, that of the prefix too
-abbrev pub greatest_of : List ℕ → ℕ → ℕ
-greatest_of offsets suffix_pos = max suffix_pos (fold max 0 offsets)
+abbrev pub greatest_offset_of : List ℕ → ℕ → ℕ
+greatest_offset_of offsets suffix_pos = max suffix_pos (fold max 0 offsets)
 
 -- the lists of terms at such offsets, and of those that begin with the prefix, whose offset is `suffix_pos`:
 -- each is shifted by the greatest offset less its own
 abbrev pub lists_over : List ℕ → List (List Entry) → ℕ → List (List Entry) → PrefixLists
 lists_over offsets full suffix_pos suffixes = record {
-  full_shifts = map (λ offset. greatest_of offsets suffix_pos - offset) offsets;
+  full_shifts = map (λ offset. greatest_offset_of offsets suffix_pos - offset) offsets;
   full = full;
-  suffix_shift = greatest_of offsets suffix_pos - suffix_pos;
+  suffix_shift = greatest_offset_of offsets suffix_pos - suffix_pos;
   suffixes = suffixes;
 }
 
@@ -106,6 +108,10 @@ lists_over offsets full suffix_pos suffixes = record {
 abbrev pub lists_at : {P : Type 0} → Ghosts P → List (ℕ × P) → ℕ → List P → PrefixLists
 lists_at D terms suffix_pos suffixes =
     lists_over (map (λ pair. pair.0) terms) (map (λ pair. D.entries pair.1) terms) suffix_pos (lists D suffixes)
+
+-- the same of terms of which some may share their postings
+abbrev pub lists_of_terms : {P : Type 0} → Ghosts P → PhraseTerms P → ℕ → List P → PrefixLists
+lists_of_terms D terms suffix_pos suffixes = lists_over (offsets_of terms) (lists_given D terms) suffix_pos (lists D suffixes)
 
 -- a placed cursor that lists the documents of a phrase prefix with such lists, by a weight and length ids
 abbrev pub ListsPrefixOver : {U : Type 0} → Ghosts U → Option OwnWeight → FieldNormReader → PrefixLists → U → Type 0

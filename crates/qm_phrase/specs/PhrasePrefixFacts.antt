@@ -8,7 +8,7 @@ use Rattle.qm_docset.specs.Gather.{scored}
 use Rattle.qm_docset.specs.ListedFacts.{AreEntries-listed}
 use Rattle.qm_term.specs.OwnNorms.{OwnWeight}
 use Rattle.qm_phrase.specs.PhraseFacts.{phrase_points-le}
-use Rattle.qm_phrase.specs.PhrasePrefix.{PrefixLists, full_count, has_several, held, prefix_count, prefix_entries, prefix_limits, prefix_points}
+use Rattle.qm_phrase.specs.PhrasePrefix.{PrefixLists, full_count, has_several, held_count, prefix_count, prefix_entries, prefix_limits, prefix_points}
 
 -- no points are above the limit
 prefix_points-le : (weight : Option OwnWeight) (several : Bool) (ids : List ℕ) (d count : ℕ) →
@@ -23,6 +23,6 @@ no_positions weight several = omega arith
 pub AreEntries-prefix : (weight : Option OwnWeight) (ids : List ℕ) (t : PrefixLists) →
     AreEntries 0 (prefix_limits weight (has_several t)) (prefix_entries weight ids t)
 AreEntries-prefix weight ids t =
-    AreEntries-listed (prefix_limits weight (has_several t)) (λ d. nat_lt 0 (held (prefix_count t d)))
-    (λ d. scored d (prefix_points weight (has_several t) ids d (held (full_count t d)))) (λ d. refl)
-    (λ d here. (prefix_points-le weight (has_several t) ids d (held (full_count t d)), no_positions weight (has_several t)))
+    AreEntries-listed (prefix_limits weight (has_several t)) (λ d. nat_lt 0 (held_count (prefix_count t d)))
+    (λ d. scored d (prefix_points weight (has_several t) ids d (held_count (full_count t d)))) (λ d. refl)
+    (λ d here. (prefix_points-le weight (has_several t) ids d (held_count (full_count t d)), no_positions weight (has_several t)))

@@ -4,7 +4,7 @@ use Rattle.qm_docset.specs.Entry.{Entry, Limits, head_document}
 use Rattle.qm_docset.specs.declared.docset.DocSet.{Ghosts}
 use Rattle.qm_docset.specs.declared.numbers.TheConstants.{TERMINATED}
 use Rattle.qm_postings.specs.FieldNorms.{norm_ids}
-use Rattle.qm_phrase.specs.PhrasePrefix.{PrefixLists, full_count, has_several, held, prefix_count, prefix_entries, prefix_limits}
+use Rattle.qm_phrase.specs.PhrasePrefix.{PrefixLists, full_count, has_several, held_count, prefix_count, prefix_entries, prefix_limits}
 use Rattle.qm_phrase.specs.PrefixTerms.{ArePrefixTerms, lists_of}
 use Rattle.qm_phrase.specs.declared.phrase_prefix_scorer.PhrasePrefixScorer.{PhrasePrefixScorer}
 
@@ -40,5 +40,5 @@ module _ {P : Type 0} (D : Ghosts P) where
   -- it stands on the first of its documents, whose counts it has
   pub record IsOnPhrasePrefix (s : PhrasePrefixScorer P) : Type 0 where
     pub document : s.doc ≡ head_document (phrase_prefix_left s)
-    pub prefix : s.doc < TERMINATED → s.counts.prefix ≡ held (phrase_prefix_count s s.doc)
-    pub full : s.doc < TERMINATED → s.counts.full ≡ held (full_count (prefix_lists s) s.doc)
+    pub prefix : s.doc < TERMINATED → s.counts.prefix ≡ held_count (phrase_prefix_count s s.doc)
+    pub full : s.doc < TERMINATED → s.counts.full ≡ held_count (full_count (prefix_lists s) s.doc)

@@ -12,9 +12,9 @@ use Rattle.qm_phrase.specs.Terms.{AreTerms, shifts_in, term_lists, term_starts}
 use Rattle.qm_phrase.specs.declared.phrase_scorer.PhraseScorer.{PhraseScorer}
 
 -- how many starts are counted: all where a weight scores them, and else the first
-abbrev pub most_counted : Option OwnWeight → ℕ
-most_counted None = 1
-most_counted (Some weight) = 4294967295
+abbrev pub most_starts : Option OwnWeight → ℕ
+most_starts None = 1
+most_starts (Some weight) = 4294967295
 
 -- whether a weight scores the phrase
 abbrev pub has_weight : Option OwnWeight → Bool
@@ -61,4 +61,4 @@ module _ {P : Type 0} (D : Ghosts P) where
   -- it stands on the first of its documents, whose starts it has counted
   pub record IsOnPhrase (s : PhraseScorer P) : Type 0 where
     pub document : s.doc ≡ head_document (phrase_left s)
-    pub counted : s.doc < TERMINATED → s.phrase_count ≡ min (most_counted s.similarity_weight) (phrase_starts s s.doc)
+    pub counted : s.doc < TERMINATED → s.phrase_count ≡ min (most_starts s.similarity_weight) (phrase_starts s s.doc)

@@ -37,13 +37,13 @@ first_place [] = all_places
 first_place (p ∷ ps) = p
 
 -- the least and the greatest of the first places
-abbrev pub least_first : List (List ℕ) → ℕ
-least_first [] = all_places
-least_first (s ∷ sets) = min (first_place s) (least_first sets)
+abbrev pub least_first_place : List (List ℕ) → ℕ
+least_first_place [] = all_places
+least_first_place (s ∷ sets) = min (first_place s) (least_first_place sets)
 
-abbrev pub greatest_first : List (List ℕ) → ℕ
-greatest_first [] = 0
-greatest_first (s ∷ sets) = max (first_place s) (greatest_first sets)
+abbrev pub greatest_first_place : List (List ℕ) → ℕ
+greatest_first_place [] = 0
+greatest_first_place (s ∷ sets) = max (first_place s) (greatest_first_place sets)
 
 -- what is left of a set behind a place that it may begin with
 abbrev pub past : ℕ → List ℕ → List ℕ

@@ -16,7 +16,7 @@ use Rattle.qm_docset.specs.Listed.{listed, IsNamed}
 use Rattle.qm_docset.specs.ListedFacts.{AreEntries-listed}
 use Rattle.qm_postings.specs.Positions.{ArePositions, is_in}
 use Rattle.qm_postings.specs.Segment.{AscendFrom}
-use Rattle.qm_phrase.specs.PostingUnions.{described, entries_at, has_position, positions_below, postings_limits, united, united_entries, united_over}
+use Rattle.qm_phrase.specs.PostingUnions.{described, entries_at, has_position, positions_below, limits_of_postings, united_entry, united_entries, united_over}
 use Rattle.qm_phrase.specs.PostingUnions.{united_positions, united_room}
 
 -- ---- positions ascend
@@ -137,10 +137,10 @@ length-united d bounds ess members =
 
 -- a union's list is that of a cursor
 pub AreEntries-united : {X : Type 0} (bound : X → Limits) (list : X → List Entry) (xs : List X) →
-    All (λ x. AreEntries 0 (bound x) (list x)) xs → AreEntries 0 (postings_limits (map bound xs)) (united_entries (map list xs))
+    All (λ x. AreEntries 0 (bound x) (list x)) xs → AreEntries 0 (limits_of_postings (map bound xs)) (united_entries (map list xs))
 AreEntries-united bound list xs all =
     let ess = map list xs in
-    AreEntries-listed (postings_limits (map bound xs)) (λ d. some_has_document ess d) (λ d. united d (entries_at d ess))
+    AreEntries-listed (limits_of_postings (map bound xs)) (λ d. some_has_document ess d) (λ d. united_entry d (entries_at d ess))
     (λ d. refl) (λ d here. (omega arith, length-united d (map bound xs) ess (AreMembers-map bound list xs all)))
 
 -- so is a set's, with what is made of its documents
@@ -161,17 +161,17 @@ AreEntries-described made named low limits new (e ∷ es) within a =
     }
 
 pub AreEntries-over : {X : Type 0} (bound : X → Limits) (list : X → List Entry) (xs : List X) (limits : Limits) (set : List Entry) →
-    All (λ x. AreEntries 0 (bound x) (list x)) xs → AreEntries 0 limits set → AreEntries 0 (postings_limits (map bound xs)) (united_over set (map list xs))
+    All (λ x. AreEntries 0 (bound x) (list x)) xs → AreEntries 0 limits set → AreEntries 0 (limits_of_postings (map bound xs)) (united_over set (map list xs))
 AreEntries-over bound list xs limits set all a =
     let ess = map list xs in
-    AreEntries-described (λ d. united d (entries_at d ess)) (λ d. refl) 0 limits (postings_limits (map bound xs)) set
+    AreEntries-described (λ d. united_entry d (entries_at d ess)) (λ d. refl) 0 limits (limits_of_postings (map bound xs)) set
     (λ d. (omega arith, length-united d (map bound xs) ess (AreMembers-map bound list xs all))) a
 
 -- and positions ascend
 pub ArePositions-united : (ess : List (List Entry)) → All (λ e. ArePositions e.positions) (united_entries ess)
 unfolding listed
-ArePositions-united ess = All-map (λ e. ArePositions e.positions) (λ d. united d (entries_at d ess)) _ (λ k d below. ArePositions-united_positions _)
+ArePositions-united ess = All-map (λ e. ArePositions e.positions) (λ d. united_entry d (entries_at d ess)) _ (λ k d below. ArePositions-united_positions _)
 
 pub ArePositions-over : (ess : List (List Entry)) (set : List Entry) → All (λ e. ArePositions e.positions) (united_over set ess)
 ArePositions-over ess set =
-    All-map (λ e. ArePositions e.positions) (λ e. united e.document (entries_at e.document ess)) set (λ k d below. ArePositions-united_positions _)
+    All-map (λ e. ArePositions e.positions) (λ e. united_entry e.document (entries_at e.document ess)) set (λ k d below. ArePositions-united_positions _)

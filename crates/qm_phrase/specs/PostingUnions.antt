@@ -29,12 +29,12 @@ abbrev pub united_frequency : List Entry → ℕ
 united_frequency es = min 4294967295 (sum_by (λ e. e.frequency) es)
 
 -- a document with what entries of several lists say of it together
-abbrev pub united : ℕ → List Entry → Entry
-united d es = record { document = d; score = 0; frequency = united_frequency es; positions = united_positions es }
+abbrev pub united_entry : ℕ → List Entry → Entry
+united_entry d es = record { document = d; score = 0; frequency = united_frequency es; positions = united_positions es }
 
 -- the documents that any of the lists has, each with what all of them say of it
 abbrev pub united_entries : List (List Entry) → List Entry
-united_entries ess = listed (λ d. some_has_document ess d) (λ d. united d (entries_at d ess))
+united_entries ess = listed (λ d. some_has_document ess d) (λ d. united_entry d (entries_at d ess))
 
 -- the documents of a set, each with what is made of it
 abbrev pub described : (ℕ → Entry) → List Entry → List Entry
@@ -42,12 +42,12 @@ described made set = map (λ e. made e.document) set
 
 -- the documents of a set, each with what the lists say of it
 abbrev pub united_over : List Entry → List (List Entry) → List Entry
-united_over set ess = map (λ e. united e.document (entries_at e.document ess)) set
+united_over set ess = map (λ e. united_entry e.document (entries_at e.document ess)) set
 
 -- how many positions several postings may have of a document together, held at 18446744073709551615
 abbrev pub united_room : List Limits → ℕ
 united_room bounds = min 18446744073709551615 (sum_by (λ limits. limits.room) bounds)
 
 -- the limits of several postings as one
-abbrev pub postings_limits : List Limits → Limits
-postings_limits bounds = record { top = 0; room = united_room bounds }
+abbrev pub limits_of_postings : List Limits → Limits
+limits_of_postings bounds = record { top = 0; room = united_room bounds }

@@ -4,7 +4,7 @@ use Rattle.qm_docset.specs.Entry.{no_limits}
 use Rattle.qm_docset.specs.Lists.{bounds}
 use Rattle.qm_docset.specs.declared.docset.DocSet.{Ghosts}
 use Rattle.qm_docset.specs.declared.numbers.TheConstants.{TERMINATED}
-use Rattle.qm_phrase.specs.PhrasePrefix.{PrefixLists, full_count, has_several, held, prefix_count}
+use Rattle.qm_phrase.specs.PhrasePrefix.{PrefixLists, full_count, has_several, held_count, prefix_count}
 use Rattle.qm_phrase.specs.Places.{room_of, shift_of}
 use Rattle.qm_phrase.specs.Suffixes.{AreSuffixes, suffix_lists}
 use Rattle.qm_phrase.specs.TermRows.{first_term}
@@ -27,21 +27,21 @@ pub record HaveGoneOn (target : ℕ) (old new : PrefixLists) : Type 0 where
   pub several : has_several new ≡ has_several old
 
 -- the counts of a document, of which the first is not 0
-pub record IsCounted (t : PrefixLists) (d : ℕ) (counts : PrefixCounts) : Type 0 where
+pub record ArePrefixCounts (t : PrefixLists) (d : ℕ) (counts : PrefixCounts) : Type 0 where
   pub some : 0 < counts.prefix
-  pub prefix : counts.prefix ≡ held (prefix_count t d)
-  pub full : counts.full ≡ held (full_count t d)
+  pub prefix : counts.prefix ≡ held_count (prefix_count t d)
+  pub full : counts.full ≡ held_count (full_count t d)
 
 -- an answer for one document: its counts; or that it has none, and no document before a bound has
 abbrev pub IsPrefixLook : ℕ → PrefixLists → Result PrefixCounts ℕ → Type 0
-IsPrefixLook d t (Ok counts) = IsCounted t d counts
+IsPrefixLook d t (Ok counts) = ArePrefixCounts t d counts
 IsPrefixLook d t (Err bound) = (d < bound) × (bound ≤ TERMINATED) × IsBareOf t d bound
 
 -- an answer to a search: the first document from a target on that has a count; or the end
 pub record IsFirstPrefix (target : ℕ) (t : PrefixLists) (found : ℕ × PrefixCounts) : Type 0 where
   pub bare : IsBareOf t target found.0
   pub within : (target ≤ found.0) × (found.0 ≤ TERMINATED)
-  pub here : found.0 < TERMINATED → IsCounted t found.0 found.1
+  pub here : found.0 < TERMINATED → ArePrefixCounts t found.0 found.1
 
 module _ {P : Type 0} (D : Ghosts P) where
   -- a buffer for the places that all full terms have: shifted as the first, with room for its places

@@ -4,7 +4,7 @@ use Rattle.qm_combine.specs.Union.{least_head}
 use Rattle.qm_docset.specs.Entry.{Entry, Limits}
 use Rattle.qm_docset.specs.Lists.{ArePlaced, lists, bounds}
 use Rattle.qm_docset.specs.declared.docset.DocSet.{Ghosts}
-use Rattle.qm_phrase.specs.PostingUnions.{postings_limits, united_entries}
+use Rattle.qm_phrase.specs.PostingUnions.{limits_of_postings, united_entries}
 use Rattle.qm_phrase.specs.declared.union.simple_union.SimpleUnion.{SimpleUnion}
 
 module _ {P : Type 0} (D : Ghosts P) where
@@ -14,7 +14,7 @@ module _ {P : Type 0} (D : Ghosts P) where
 
   -- its limits
   abbrev pub simple_union_limits : SimpleUnion P → Limits
-  simple_union_limits s = postings_limits (bounds D s.members.items)
+  simple_union_limits s = limits_of_postings (bounds D s.members.items)
 
   -- placed members beside the least of the documents that they stand on
   pub record IsSimpleUnion (s : SimpleUnion P) : Type 0 where

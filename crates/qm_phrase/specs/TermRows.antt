@@ -33,12 +33,12 @@ abbrev pub each_of : {X : Type 0} → List (List X) → List (ℕ × ℕ) → Li
 each_of members terms = map (λ t. slice_index_or members t.1 []) terms
 
 -- the positions that each member has
-abbrev pub positions_in : List (Vec ℕ) → List (List ℕ)
-positions_in positions = map (λ v. v.items) positions
+abbrev pub member_positions : List (Vec ℕ) → List (List ℕ)
+member_positions positions = map (λ v. v.items) positions
 
 -- the places that no count has passed yet
 abbrev pub term_left : List (Vec ℕ) → TermRow → List ℕ
-term_left positions row = left_in (slice_index_or (positions_in positions) row.member []) row.row
+term_left positions row = left_in (slice_index_or (member_positions positions) row.member []) row.row
 
 -- the same of each term
 abbrev pub rows_left : List (Vec ℕ) → List TermRow → List (List ℕ)

@@ -17,8 +17,8 @@ AreRoomy (limits ∷ bounds) [] = ⊥
 AreRoomy (limits ∷ bounds) (room ∷ rooms) = (limits.room ≤ room) × AreRoomy bounds rooms
 
 -- a term that no place of which was passed
-abbrev pub begun : TermRow → TermRow
-begun term = record { member = term.member; row = record { shift = term.row.shift; passed = 0 } }
+abbrev pub unpassed : TermRow → TermRow
+unpassed term = record { member = term.member; row = record { shift = term.row.shift; passed = 0 } }
 
 module _ {P : Type 0} where
   -- how far each term is shifted, and the number of its member

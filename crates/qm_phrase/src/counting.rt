@@ -3,7 +3,7 @@
 //! What lies further than the slop before the greatest of the first places is passed at once: no start is there.
 
 ghost use Rattle.std.specs.Prelude.{◌≡◌, ◌<◌, All, length, map, min};
-ghost use Rattle.qm_phrase.specs.Places.{Ascends, HavePassed, greatest_first, least_first, past};
+ghost use Rattle.qm_phrase.specs.Places.{Ascends, HavePassed, greatest_first_place, least_first_place, past};
 ghost use Rattle.qm_phrase.specs.Starts.{starts};
 ghost use Rattle.qm_phrase.specs.TermRows.{AreInside, rows_left, terms_of};
 
@@ -14,8 +14,8 @@ use crate::term_row::TermRow;
 /// none left.
 pub(crate) fn first_places(rows: &[TermRow], positions: &[Vec<u32>]) -> (u64, u64)
     requires { AreInside (length positions.now) (terms_of rows.now) }
-    ensures least { result.0 ≡ least_first (rows_left positions.now rows.now) }
-    ensures greatest { result.1 ≡ greatest_first (rows_left positions.now rows.now) }
+    ensures least { result.0 ≡ least_first_place (rows_left positions.now rows.now) }
+    ensures greatest { result.1 ≡ greatest_first_place (rows_left positions.now rows.now) }
 {
     let mut least = ALL_PLACES;
     let mut greatest = 0;

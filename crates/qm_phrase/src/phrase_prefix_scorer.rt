@@ -4,8 +4,7 @@
 ghost use Rattle.std.specs.Prelude.{◌≡◌, ℕ, ◌<◌, ◌≤◌, All, IfOk, IsOkUnless, drop, length, map, vec_len};
 ghost use Rattle.qm_docset.specs.Cursor.{IsSeekAnswer, OnFound};
 ghost use Rattle.qm_docset.specs.Entry.{from, head_document};
-ghost use Rattle.qm_docset.specs.Lists.{lists};
-ghost use Rattle.qm_phrase.specs.PhrasePrefix.{ListsPrefix, ListsPrefixOver, held, lists_at, lists_over};
+ghost use Rattle.qm_phrase.specs.PhrasePrefix.{ListsPrefix, ListsPrefixOver, held_count, lists_at, lists_of_terms};
 ghost use Rattle.qm_phrase.specs.PhrasePrefixFacts.{AreEntries-prefix};
 ghost use Rattle.qm_phrase.specs.PhrasePrefixScorer.{PrefixAlike, CountsAs, IsOnPhrasePrefix, IsPhrasePrefix, phrase_prefix_count, phrase_prefix_left, phrase_prefix_scorer_limits};
 ghost use Rattle.qm_phrase.specs.PhraseTerms.{lists_given, members_of, offsets_of, terms_given};
@@ -102,10 +101,8 @@ impl<'a, P: Postings> PhrasePrefixScorer<'a, P> {
         requires offsets { All (λ offset. offset ≤ 4294967295) (offsets_of terms) }
         requires suffix_pos { suffix_pos ≤ 4294967295 }
         requires covered { All (AreCovered (norm_ids fieldnorm_reader)) (lists_given P.DocSet terms) }
-        ensures lists { IfOk result (ListsPrefixOver ⟦<Self as DocSet>⟧ similarity_weight fieldnorm_reader.entry
-            (lists_over (offsets_of terms) (lists_given P.DocSet terms) suffix_pos (lists P.DocSet suffixes.items))) }
-        ensures counts { IfOk result (CountsAs P.DocSet
-            (lists_over (offsets_of terms) (lists_given P.DocSet terms) suffix_pos (lists P.DocSet suffixes.items))) }
+        ensures lists { IfOk result (ListsPrefixOver ⟦<Self as DocSet>⟧ similarity_weight fieldnorm_reader.entry (lists_of_terms P.DocSet terms suffix_pos suffixes.items)) }
+        ensures counts { IfOk result (CountsAs P.DocSet (lists_of_terms P.DocSet terms suffix_pos suffixes.items)) }
         ensures memory { IsOkUnless result QueryError.Memory }
     {
         let terms = PrefixTerms::new(alloc, terms, suffixes, suffix_pos)?;
@@ -127,7 +124,7 @@ impl<'a, P: Postings> PhrasePrefixScorer<'a, P> {
         requires valid { IsPhrasePrefix P.DocSet self.now }
         requires placed { IsOnPhrasePrefix P.DocSet self.now }
         requires here { head_document (phrase_prefix_left P.DocSet self.now) < TERMINATED }
-        ensures count { result ≡ held (phrase_prefix_count P.DocSet self.now (head_document (phrase_prefix_left P.DocSet self.now))) }
+        ensures count { result ≡ held_count (phrase_prefix_count P.DocSet self.now (head_document (phrase_prefix_left P.DocSet self.now))) }
         ensures some { 0 < phrase_prefix_count P.DocSet self.now (head_document (phrase_prefix_left P.DocSet self.now)) }
     {
         self.counts.prefix

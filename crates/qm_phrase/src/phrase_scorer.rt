@@ -10,7 +10,7 @@ ghost use Rattle.qm_phrase.specs.PhraseTerms.{lists_given, members_of, offsets_o
 ghost use Rattle.qm_phrase.specs.TermRows.{each_of};
 ghost use Rattle.qm_phrase.specs.Terms.{shifts_in, terms_in};
 ghost use Rattle.qm_phrase.specs.PhraseFacts.{AreEntries-phrase};
-ghost use Rattle.qm_phrase.specs.PhraseScorer.{CountsAlike, CountsPhrase, CountsPhraseOver, IsOnPhrase, IsPhrase, is_weighted, most_counted, phrase_left, phrase_scorer_limits, phrase_starts};
+ghost use Rattle.qm_phrase.specs.PhraseScorer.{CountsAlike, CountsPhrase, CountsPhraseOver, IsOnPhrase, IsPhrase, is_weighted, most_starts, phrase_left, phrase_scorer_limits, phrase_starts};
 ghost use Rattle.qm_postings.specs.FieldNorms.{norm_ids};
 ghost use Rattle.qm_term.specs.TermScorer.{AreCovered};
 
@@ -106,7 +106,7 @@ impl<'a, P: Postings> PhraseScorer<'a, P> {
 
     /// How many starts are counted: all where a weight scores them, and else the first.
     fn most(&self) -> u32
-        ensures { result ≡ most_counted self.now.similarity_weight }
+        ensures { result ≡ most_starts self.now.similarity_weight }
     {
         match self.similarity_weight {
             Some(_) => u32::MAX,

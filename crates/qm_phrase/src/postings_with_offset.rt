@@ -3,7 +3,7 @@
 ghost use Rattle.std.specs.Prelude.{◌≡◌, ◌+◌, ◌<◌, ◌≤◌, All, drop, vec_capacity};
 ghost use Rattle.qm_docset.specs.Cursor.{IsSeekAnswer, OnFound};
 ghost use Rattle.qm_docset.specs.Entry.{from, head_document, head_positions};
-ghost use Rattle.qm_phrase.specs.PostingsWithOffset.{ReadsAtOffset, offset_of, postings_of};
+ghost use Rattle.qm_phrase.specs.PostingsWithOffset.{ReadsAtOffset, offset_of, inner_postings};
 ghost use Rattle.qm_postings.specs.Positions.{shifted};
 
 use qm_docset::{
@@ -22,7 +22,7 @@ pub struct PostingsWithOffset<P> {
 impl<P: Postings> PostingsWithOffset<P> {
     /// These postings, to be read at this offset. They stay where they are. Takes no memory.
     pub fn new(postings: P, offset: u32) -> PostingsWithOffset<P>
-        ensures postings { postings_of result ≡ postings }
+        ensures postings { inner_postings result ≡ postings }
         ensures offset { offset_of result ≡ offset }
     {
         PostingsWithOffset { offset, postings }
@@ -34,17 +34,17 @@ impl<P: Postings> PostingsWithOffset<P> {
     /// Asks that the cursor stands on a document, that each sum is at most 4294967295, and that the
     /// output has room for the postings' `max_term_freq` numbers. Takes no memory.
     pub fn positions(&mut self, output: &mut Vec<u32>)
-        requires valid { P.valid (postings_of self.old) }
-        requires placed { P.placed (postings_of self.old) }
-        requires here { head_document (P.entries (postings_of self.old)) < TERMINATED }
-        requires sums { All (λ p. p + offset_of self.old ≤ 4294967295) (head_positions (P.entries (postings_of self.old))) }
-        requires room { (P.limits (postings_of self.old)).room ≤ vec_capacity output.old }
-        ensures positions { output.new.items ≡ shifted (offset_of self.old) (head_positions (P.entries (postings_of self.old))) }
+        requires valid { P.valid (inner_postings self.old) }
+        requires placed { P.placed (inner_postings self.old) }
+        requires here { head_document (P.entries (inner_postings self.old)) < TERMINATED }
+        requires sums { All (λ p. p + offset_of self.old ≤ 4294967295) (head_positions (P.entries (inner_postings self.old))) }
+        requires room { (P.limits (inner_postings self.old)).room ≤ vec_capacity output.old }
+        ensures positions { output.new.items ≡ shifted (offset_of self.old) (head_positions (P.entries (inner_postings self.old))) }
         ensures capacity { vec_capacity output.old ≤ vec_capacity output.new }
-        ensures entries { P.entries (postings_of self.new) ≡ P.entries (postings_of self.old) }
-        ensures limits { P.limits (postings_of self.new) ≡ P.limits (postings_of self.old) }
-        ensures valid { P.valid (postings_of self.new) }
-        ensures placed { P.placed (postings_of self.new) }
+        ensures entries { P.entries (inner_postings self.new) ≡ P.entries (inner_postings self.old) }
+        ensures limits { P.limits (inner_postings self.new) ≡ P.limits (inner_postings self.old) }
+        ensures valid { P.valid (inner_postings self.new) }
+        ensures placed { P.placed (inner_postings self.new) }
         ensures offset { offset_of self.new ≡ offset_of self.old }
     {
         self.postings.positions_with_offset(self.offset, output);

@@ -6,8 +6,8 @@ ghost use Rattle.qm_docset.specs.Entry.{head_document, head_positions};
 ghost use Rattle.qm_docset.specs.Lists.{bounds, lists};
 ghost use Rattle.qm_phrase.specs.PhraseTerms.{lists_given, members_of, offsets_of, terms_given};
 ghost use Rattle.qm_phrase.specs.Starts.{starts};
-ghost use Rattle.qm_phrase.specs.TermRows.{positions_in, rows_left, terms_of};
-ghost use Rattle.qm_phrase.specs.Terms.{AreHere, AreKept, AreMovedTo, AreRoomy, AreTerms, IsFirstStart, IsLook, begun, sets_here, shifts_in, term_lists};
+ghost use Rattle.qm_phrase.specs.TermRows.{member_positions, rows_left, terms_of};
+ghost use Rattle.qm_phrase.specs.Terms.{AreHere, AreKept, AreMovedTo, AreRoomy, AreTerms, IsFirstStart, IsLook, unpassed, sets_here, shifts_in, term_lists};
 
 use crate::counting::count_starts;
 use crate::pair::count_pair;
@@ -239,7 +239,7 @@ fn read_positions<P: Postings>(members: &mut [P], positions: &mut [Vec<u32>])
     requires valid { All P.valid members.old }
     requires here { All (λ m. P.placed m × (head_document (P.entries m) < TERMINATED)) members.old }
     requires roomy { AreRoomy (bounds P.DocSet members.old) (map vec_capacity positions.old) }
-    ensures positions { positions_in positions.new ≡ map head_positions (lists P.DocSet members.old) }
+    ensures positions { member_positions positions.new ≡ map head_positions (lists P.DocSet members.old) }
     ensures roomy { AreRoomy (bounds P.DocSet members.new) (map vec_capacity positions.new) }
     ensures entries { lists P.DocSet members.new ≡ lists P.DocSet members.old }
     ensures limits { bounds P.DocSet members.new ≡ bounds P.DocSet members.old }
@@ -268,7 +268,7 @@ fn find_each<P: Postings>(members: &mut [P])
 
 // Begins anew with the first place of each term.
 fn rewind(rows: &mut [TermRow])
-    ensures { rows.new ≡ map begun rows.old }
+    ensures { rows.new ≡ map unpassed rows.old }
 {
     // the rows before this one stand at their beginnings
     for row in rows.iter_mut() {

@@ -20,9 +20,9 @@ use Rattle.qm_weight.specs.Tree as tree
 use Rattle.qm_weight.specs.Tree.{LeavesFit, Tree, is_scoring}
 use Rattle.qm_weight.specs.Weights.{placed_at, prefix_alone}
 use Rattle.qm_query.specs.EnableScoring.{is_enabled, provider_of, schema_of}
-use Rattle.qm_query.specs.Fields.{is_served, keeps_positions, phrase_field_refusal, prefix_field_refusal, refusal_without_index, refusal_without_positions}
+use Rattle.qm_query.specs.Fields.{is_served, indexes_positions, phrase_field_refusal, prefix_field_refusal, refusal_without_index, refusal_without_positions}
 use Rattle.qm_query.specs.Fields.{term_field_refusal}
-use Rattle.qm_query.specs.Offsets.{first_field, terms_of}
+use Rattle.qm_query.specs.Offsets.{first_field, bare_terms}
 use Rattle.qm_query.specs.Query.{Query, Subqueries, Disjuncts, all, none, term, phrase, phrase_prefix, boolean, boost, constant, disjunction_max, no_subquery}
 use Rattle.qm_query.specs.Query.{subquery, no_disjunct, disjunct}
 use Rattle.qm_query.specs.QueryScorers.{FitsAtOne, QueryFits}
@@ -44,10 +44,10 @@ module _ {P : Type 0} (S : Ghosts P) (u v : EnableScoring P) (on : is_enabled u 
     same_tree all = refl
     same_tree none = refl
     same_tree (term q) = λ i. tree.term q.term (read_option (on i) q.option) (weighs (q.term ∷ []) i)
-    same_tree (phrase q) = λ i. tree.phrase (map placed_at q.terms) q.slop (weighs (terms_of q.terms) i)
+    same_tree (phrase q) = λ i. tree.phrase (map placed_at q.terms) q.slop (weighs (bare_terms q.terms) i)
     same_tree (phrase_prefix q) =
         λ i. if length q.terms == 0 then prefix_alone q.prefix.1 q.max_expansions else tree.phrase_prefix
-        (map placed_at q.terms) (placed_at q.prefix) q.max_expansions (weighs (terms_of q.terms) i)
+        (map placed_at q.terms) (placed_at q.prefix) q.max_expansions (weighs (bare_terms q.terms) i)
     same_tree (boolean minimum clauses) = λ i. tree.boolean (on i) minimum tree.sum_of_scores (same_clauses clauses i)
     same_tree (boost factor inside) = λ i. if_scoring (on i) (tree.boost factor) (same_tree inside i)
     same_tree (constant score inside) = λ i. if_scoring (on i) (tree.constant score) (same_tree inside i)
@@ -83,11 +83,11 @@ module _ {P : Type 0} (S : Ghosts P) (u v : EnableScoring P) (fields : schema_of
         same_leaf (λ facts. term_field_refusal facts q.term.field) (IsByProvider S u (q.term ∷ []))
         (IsByProvider S v (q.term ∷ [])) error (asks (q.term ∷ []) error) refused
     same_refusal (phrase q) error refused =
-        same_leaf (λ facts. phrase_field_refusal facts (first_field (λ t. t.1) q.terms)) (IsByProvider S u (terms_of q.terms))
-        (IsByProvider S v (terms_of q.terms)) error (asks (terms_of q.terms) error) refused
+        same_leaf (λ facts. phrase_field_refusal facts (first_field (λ t. t.1) q.terms)) (IsByProvider S u (bare_terms q.terms))
+        (IsByProvider S v (bare_terms q.terms)) error (asks (bare_terms q.terms) error) refused
     same_refusal (phrase_prefix q) error refused =
         same_leaf (λ facts. prefix_field_refusal facts q.terms q.prefix.1.field) (IsPrefixByProvider S u q.terms)
-        (IsPrefixByProvider S v q.terms) error (λ by. (by.0, asks (terms_of q.terms) error by.1)) refused
+        (IsPrefixByProvider S v q.terms) error (λ by. (by.0, asks (bare_terms q.terms) error by.1)) refused
     same_refusal (boolean minimum clauses) error refused = same_clause_refusal clauses error refused
     same_refusal (boost factor inside) error refused = same_refusal inside error refused
     same_refusal (constant score inside) error refused = same_refusal inside error refused
@@ -131,7 +131,7 @@ module _ (by : QueryError → Type 0) (error : QueryError) (asked : by error →
 
   of_positions : (facts : Option FieldFacts) → IsLeafRefusal (refusal_without_positions facts) by error → IsOfWeights error
   of_positions None refused = subst IsOfWeights (sym refused) tt
-  of_positions (Some facts) refused = no_positions (keeps_positions facts.indexed) refused
+  of_positions (Some facts) refused = no_positions (indexes_positions facts.indexed) refused
 
   of_prefix : (is_alone : Bool) (facts : Option FieldFacts) →
       IsLeafRefusal (if is_alone then refusal_without_index facts else refusal_without_positions facts) by error → IsOfWeights error
@@ -147,10 +147,10 @@ module _ {P : Type 0} (S : Ghosts P) (u : EnableScoring P)
     refusal_of_weights (term q) error refused =
         of_index (IsByProvider S u (q.term ∷ [])) error (asked (q.term ∷ []) error) (slice_get (schema_of u) q.term.field) refused
     refusal_of_weights (phrase q) error refused =
-        of_positions (IsByProvider S u (terms_of q.terms)) error (asked (terms_of q.terms) error)
+        of_positions (IsByProvider S u (bare_terms q.terms)) error (asked (bare_terms q.terms) error)
         (slice_get (schema_of u) (first_field (λ t. t.1) q.terms)) refused
     refusal_of_weights (phrase_prefix q) error refused =
-        of_prefix (IsPrefixByProvider S u q.terms) error (λ by. asked (terms_of q.terms) error by.1)
+        of_prefix (IsPrefixByProvider S u q.terms) error (λ by. asked (bare_terms q.terms) error by.1)
         (length q.terms == 0) (slice_get (schema_of u) q.prefix.1.field) refused
     refusal_of_weights (boolean minimum clauses) error refused = clause_refusal_of_weights clauses error refused
     refusal_of_weights (boost factor inside) error refused = refusal_of_weights inside error refused

@@ -16,13 +16,13 @@ abbrev pub refusal_without_index : Option FieldFacts → Option QueryError
 refusal_without_index None = Some UnknownField
 refusal_without_index (Some facts) = if is_some facts.indexed then None else Some NotIndexed
 
-abbrev pub keeps_positions : Option IndexRecordOption → Bool
-keeps_positions None = false
-keeps_positions (Some option) = has_positions option
+abbrev pub indexes_positions : Option IndexRecordOption → Bool
+indexes_positions None = false
+indexes_positions (Some option) = has_positions option
 
 abbrev pub refusal_without_positions : Option FieldFacts → Option QueryError
 refusal_without_positions None = Some UnknownField
-refusal_without_positions (Some facts) = if keeps_positions facts.indexed then None else Some NoPositions
+refusal_without_positions (Some facts) = if indexes_positions facts.indexed then None else Some NoPositions
 
 -- why a term, or a prefix alone, can't be looked for in a field; None where it can
 abbrev pub term_field_refusal : List FieldFacts → ℕ → Option QueryError

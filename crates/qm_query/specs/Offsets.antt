@@ -9,8 +9,8 @@ use Rattle.qm_schema.specs.declared.error.QueryError.{QueryError}
 use Rattle.qm_schema.specs.declared.error.QueryError.TheVariants.{TooFewTerms, EmptyPrefix, MixedFields, OffsetTooLarge}
 
 -- the terms alone
-abbrev pub terms_of : List (ℕ × TermKey) → List TermKey
-terms_of terms = map (λ t. t.1) terms
+abbrev pub bare_terms : List (ℕ × TermKey) → List TermKey
+bare_terms terms = map (λ t. t.1) terms
 
 -- the field of the first term, `term` being what is the term of an element
 abbrev pub first_field : {X : Type 0} → (X → TermKey) → List X → ℕ

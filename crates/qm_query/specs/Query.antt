@@ -131,5 +131,5 @@ abbrev pub each_as : Occur → List (Box AnyQuery Global) → List (Occur × Que
 each_as occur queries = map (λ q. (occur, query_of q.value)) queries
 
 -- the Should clauses of some terms, of which frequencies are read
-abbrev pub term_clauses : List TermKey → List (Occur × Query)
-term_clauses terms = map (λ t. (Should, term (record { term = t; option = WithFreqs }))) terms
+abbrev pub should_terms : List TermKey → List (Occur × Query)
+should_terms terms = map (λ t. (Should, term (record { term = t; option = WithFreqs }))) terms

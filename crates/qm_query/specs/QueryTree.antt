@@ -12,7 +12,7 @@ use Rattle.qm_weight.specs.Tree as tree
 use Rattle.qm_weight.specs.Tree.{Clauses, Tree}
 use Rattle.qm_weight.specs.Weights.{placed_at, prefix_alone}
 use Rattle.qm_query.specs.EnableScoring.{is_enabled}
-use Rattle.qm_query.specs.Offsets.{terms_of}
+use Rattle.qm_query.specs.Offsets.{bare_terms}
 use Rattle.qm_query.specs.Parts.{PrefixParts}
 use Rattle.qm_query.specs.Query.{Query, Subqueries, Disjuncts, all, none, term, phrase, phrase_prefix, boolean, boost, constant, disjunction_max, no_subquery}
 use Rattle.qm_query.specs.Query.{subquery, no_disjunct, disjunct}
@@ -39,7 +39,7 @@ module _ {P : Type 0} (S : Ghosts P) where
 module _ {P : Type 0} (S : Ghosts P) (under : EnableScoring P) where
   -- a phrase prefix weighs what its full terms do
   abbrev pub full_prefix_tree : PrefixParts → Tree
-  full_prefix_tree q = tree.phrase_prefix (map placed_at q.terms) (placed_at q.prefix) q.max_expansions (leaf_weighing S under (terms_of q.terms))
+  full_prefix_tree q = tree.phrase_prefix (map placed_at q.terms) (placed_at q.prefix) q.max_expansions (leaf_weighing S under (bare_terms q.terms))
 
   -- without full terms it is a prefix alone, which weighs nothing
   abbrev pub prefix_query_tree : PrefixParts → Tree
@@ -51,7 +51,7 @@ module _ {P : Type 0} (S : Ghosts P) (under : EnableScoring P) where
     query_tree all = tree.all
     query_tree none = tree.none
     query_tree (term q) = tree.term q.term (read_option (is_enabled under) q.option) (leaf_weighing S under (q.term ∷ []))
-    query_tree (phrase q) = tree.phrase (map placed_at q.terms) q.slop (leaf_weighing S under (terms_of q.terms))
+    query_tree (phrase q) = tree.phrase (map placed_at q.terms) q.slop (leaf_weighing S under (bare_terms q.terms))
     query_tree (phrase_prefix q) = prefix_query_tree q
     query_tree (boolean minimum clauses) = tree.boolean (is_enabled under) minimum tree.sum_of_scores (clause_trees clauses)
     query_tree (boost factor inside) = if_scoring (is_enabled under) (tree.boost factor) (query_tree inside)

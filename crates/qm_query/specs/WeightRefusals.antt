@@ -7,7 +7,7 @@ use Rattle.qm_schema.specs.declared.error.QueryError.{QueryError}
 use Rattle.qm_schema.specs.declared.error.QueryError.TheVariants.{Memory}
 use Rattle.qm_query.specs.EnableScoring.{schema_of}
 use Rattle.qm_query.specs.Fields.{is_served, phrase_field_refusal, prefix_field_refusal, term_field_refusal}
-use Rattle.qm_query.specs.Offsets.{first_field, terms_of}
+use Rattle.qm_query.specs.Offsets.{first_field, bare_terms}
 use Rattle.qm_query.specs.Parts.{PrefixParts}
 use Rattle.qm_query.specs.Query.{Query, Subqueries, Disjuncts, all, none, term, phrase, phrase_prefix, boolean, boost, constant, disjunction_max, no_subquery}
 use Rattle.qm_query.specs.Query.{subquery, no_disjunct, disjunct}
@@ -28,7 +28,7 @@ module _ {P : Type 0} (S : Ghosts P) where
 module _ {P : Type 0} (S : Ghosts P) (under : EnableScoring P) where
   -- a prefix alone weighs nothing, so no provider is asked
   abbrev pub IsPrefixByProvider : List (ℕ × TermKey) → QueryError → Type 0
-  IsPrefixByProvider terms error = (0 < length terms) × IsByProvider S under (terms_of terms) error
+  IsPrefixByProvider terms error = (0 < length terms) × IsByProvider S under (bare_terms terms) error
 
   -- a phrase of these terms is refused so: its field has to serve a phrase
   abbrev pub IsPhraseRefusal : ℕ → List TermKey → QueryError → Type 0
@@ -36,7 +36,7 @@ module _ {P : Type 0} (S : Ghosts P) (under : EnableScoring P) where
 
   -- a phrase with a prefix behind its full terms is refused so, or for want of memory
   abbrev pub IsFullPrefixRefusal : PrefixParts → QueryError → Type 0
-  IsFullPrefixRefusal parts error = (error ≡ Memory) ⊎ IsPhraseRefusal parts.prefix.1.field (terms_of parts.terms) error
+  IsFullPrefixRefusal parts error = (error ≡ Memory) ⊎ IsPhraseRefusal parts.prefix.1.field (bare_terms parts.terms) error
 
   abbrev mutual
     -- a leaf of the query is refused so, and the fields of all leaves before it serve
@@ -44,7 +44,7 @@ module _ {P : Type 0} (S : Ghosts P) (under : EnableScoring P) where
     IsRefused all error = ⊥
     IsRefused none error = ⊥
     IsRefused (term q) error = IsLeafRefusal (term_field_refusal (schema_of under) q.term.field) (IsByProvider S under (q.term ∷ [])) error
-    IsRefused (phrase q) error = IsPhraseRefusal (first_field (λ t. t.1) q.terms) (terms_of q.terms) error
+    IsRefused (phrase q) error = IsPhraseRefusal (first_field (λ t. t.1) q.terms) (bare_terms q.terms) error
     IsRefused (phrase_prefix q) error =
         IsLeafRefusal (prefix_field_refusal (schema_of under) q.terms q.prefix.1.field) (IsPrefixByProvider q.terms) error
     IsRefused (boolean minimum clauses) error = IsClauseRefused clauses error

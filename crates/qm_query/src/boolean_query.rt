@@ -49,7 +49,7 @@ impl From<Vec<(Occur, Box<AnyQuery>)>> for BooleanQuery {
 impl BooleanQuery {
     ghost use Rattle.qm_schema.specs.declared.occur.Occur.TheVariants.{Must, Should};
     ghost use Rattle.qm_query.specs.Query.{boolean, boolean_of, boolean_of_clauses, clause_of, clauses_of, default_minimum, each_as, minimum_of};
-    ghost use Rattle.qm_query.specs.Query.{subqueries, subqueries_of, term_clauses};
+    ghost use Rattle.qm_query.specs.Query.{subqueries, subqueries_of, should_terms};
 
     /// The query of these clauses, in this order. Where there are Should clauses and no others, at
     /// least one of them has to match, and else none needs to. Takes no memory.
@@ -144,7 +144,7 @@ impl BooleanQuery {
     ///
     /// Refused with [`QueryError::Memory`] alone.
     pub fn new_multiterms_query(alloc: Global, terms: Vec<Term>) -> Result<BooleanQuery, QueryError>
-        ensures ok { IfOk result (λ query. boolean_of query ≡ boolean_of_clauses (term_clauses terms.items)) }
+        ensures ok { IfOk result (λ query. boolean_of query ≡ boolean_of_clauses (should_terms terms.items)) }
         ensures refused { IsOkUnless result QueryError.Memory }
     {
         let mut clauses = Vec::with_capacity(alloc, terms.len())?;

@@ -1,7 +1,7 @@
 //! What queries ask of the fields of their terms.
 
 ghost use Rattle.std.specs.Prelude.{◌≡◌};
-ghost use Rattle.qm_query.specs.Fields.{keeps_positions, phrase_field_refusal, term_field_refusal};
+ghost use Rattle.qm_query.specs.Fields.{indexes_positions, phrase_field_refusal, term_field_refusal};
 
 use qm_schema::{Field, FieldEntry, QueryError, Schema};
 
@@ -39,7 +39,7 @@ pub(crate) fn phrase_field_refusal(schema: &Schema, field: Field) -> Option<Quer
 
 // Whether the postings of a field keep positions.
 fn keeps_positions(entry: &FieldEntry) -> bool
-    ensures { result ≡ keeps_positions entry.now.indexed }
+    ensures { result ≡ indexes_positions entry.now.indexed }
 {
     match entry.index_record_option() {
         Some(option) => option.has_positions(),

@@ -6,7 +6,7 @@ ghost use Rattle.std.specs.Prelude.{◌≡◌, ◌⊎◌, ◌≤ℤ◌, IfErr, I
 ghost use Rattle.std.specs.List.Sorted.{IsNonDecreasing};
 ghost use Rattle.qm_schema.specs.declared.error.QueryError.TheVariants.{Memory};
 ghost use Rattle.qm_weight.specs.Weights.{weighing_of};
-ghost use Rattle.qm_query.specs.Offsets.{terms_of};
+ghost use Rattle.qm_query.specs.Offsets.{bare_terms};
 ghost use Rattle.qm_query.specs.QueryTree.{leaf_weighing};
 ghost use Rattle.qm_query.specs.SharedTerms.{WeighsTerms, shared_norms};
 ghost use Rattle.qm_query.specs.WeightRefusals.{IsByProvider};
@@ -44,8 +44,8 @@ pub(crate) fn weighed_terms<P: Bm25StatisticsProvider>(
     terms: &[(usize, Term)],
 ) -> Result<(Vec<(usize, Term)>, Option<Bm25Weight>), QueryError>
     ensures terms { IfOk result (λ weighed. weighed.0.items ≡ terms.now) }
-    ensures weighing { IfOk result (λ weighed. weighing_of weighed.1 ≡ leaf_weighing P.Bm25StatisticsProvider enable_scoring.entry (terms_of terms.now)) }
-    ensures refused { IfErr result (λ error. (error ≡ Memory) ⊎ IsByProvider P.Bm25StatisticsProvider enable_scoring.entry (terms_of terms.now) error) }
+    ensures weighing { IfOk result (λ weighed. weighing_of weighed.1 ≡ leaf_weighing P.Bm25StatisticsProvider enable_scoring.entry (bare_terms terms.now)) }
+    ensures refused { IfErr result (λ error. (error ≡ Memory) ⊎ IsByProvider P.Bm25StatisticsProvider enable_scoring.entry (bare_terms terms.now) error) }
 {
     let copies = clone_without_offsets(alloc, terms)?;
     let weight = leaf_weight(enable_scoring, &copies)?;

@@ -2,7 +2,7 @@
 
 ghost use Rattle.std.specs.Prelude.{◌≡◌, ◌≤◌, ◌⊎◌, [], ◌∷◌, ◌++◌, All, IfErr, IfOk, IsOkUnless, None, length, vec_len};
 ghost use Rattle.std.specs.List.{enumerate_from};
-ghost use Rattle.qm_query.specs.Offsets.{AreOfField, AreOfOneField, IsByOffset, row_refusal, terms_of, terms_refusal, with_one};
+ghost use Rattle.qm_query.specs.Offsets.{AreOfField, AreOfOneField, IsByOffset, row_refusal, bare_terms, terms_refusal, with_one};
 ghost use Rattle.qm_query.specs.EnableScoring.{schema_of};
 ghost use Rattle.qm_query.specs.Fields.{phrase_field_refusal, term_field_refusal};
 ghost use Rattle.qm_query.specs.QueryTree.{full_prefix_tree};
@@ -173,7 +173,7 @@ impl PhrasePrefixQuery {
     ///
     /// Refused with [`QueryError::Memory`] alone.
     pub fn phrase_terms(&self, alloc: Global) -> Result<Vec<Term>, QueryError>
-        ensures terms { IfOk result (λ terms. terms.items ≡ terms_of self.now.terms) }
+        ensures terms { IfOk result (λ terms. terms.items ≡ bare_terms self.now.terms) }
         ensures refused { IsOkUnless result QueryError.Memory }
     {
         clone_without_offsets(alloc, &self.phrase_terms)

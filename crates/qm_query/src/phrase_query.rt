@@ -2,7 +2,7 @@
 
 ghost use Rattle.std.specs.Prelude.{◌≡◌, IfOk, IsOkUnless};
 ghost use Rattle.std.specs.List.{enumerate_from};
-ghost use Rattle.qm_query.specs.Offsets.{AreOfField, IsByOffset, first_field, row_refusal, terms_of, terms_refusal, with_two};
+ghost use Rattle.qm_query.specs.Offsets.{AreOfField, IsByOffset, first_field, row_refusal, bare_terms, terms_refusal, with_two};
 ghost use Rattle.qm_query.specs.Refusals.{IsRefusedFor};
 
 use crate::boxed::boxed;
@@ -128,7 +128,7 @@ impl PhraseQuery {
     ///
     /// Refused with [`QueryError::Memory`] alone.
     pub fn phrase_terms(&self, alloc: Global) -> Result<Vec<Term>, QueryError>
-        ensures terms { IfOk result (λ terms. terms.items ≡ terms_of self.now.terms) }
+        ensures terms { IfOk result (λ terms. terms.items ≡ bare_terms self.now.terms) }
         ensures refused { IsOkUnless result QueryError.Memory }
     {
         clone_without_offsets(alloc, &self.phrase_terms)

@@ -12,7 +12,7 @@ use Rattle.qm_combine.specs.Union.{least_head}
 use Rattle.qm_combine.proofs.EachMember.{get_or-map-map}
 use Rattle.qm_combine.proofs.Uniting.{least_head-le, scores_at-more, scores_at-more_ahead}
 use Rattle.qm_scorer.specs.LeastDocs.{IsLeastDocs, least_of}
-use Rattle.qm_scorer.specs.Tree.{AreHeads}
+use Rattle.qm_scorer.specs.Tree.{AreMemberHeads}
 use Rattle.qm_scorer.specs.declared.least_docs.LeastDocs.{LeastDocs}
 
 -- their least is the members'
@@ -33,7 +33,7 @@ passed-more docs target k d next here before past behind j below =
       ]
     ]
 
-module _ {X : Type 0} (list : X → List Entry) (xs : List X) (heads : LeastDocs) (h : AreHeads heads (map list xs)) where
+module _ {X : Type 0} (list : X → List Entry) (xs : List X) (heads : LeastDocs) (h : AreMemberHeads heads (map list xs)) where
   -- they are as many as there are members
   pub heads-length : length heads.docs.items ≡ length xs
   heads-length = ap length h.docs ∙ length-map (map list xs) head_document ∙ length-map xs list
@@ -43,9 +43,9 @@ module _ {X : Type 0} (list : X → List Entry) (xs : List X) (heads : LeastDocs
   head-kept k x below = ap (λ ds. get_or ds k 0) h.docs ∙ get_or-map-map head_document list xs k x 0 below
 
   -- a member was moved, and its document put in its place
-  pub AreHeads-put : (k d : ℕ) (x : X) (new : LeastDocs) → IsLeastDocs new → new.docs.items ≡ set heads.docs.items k d →
-      d ≡ head_document (list x) → AreHeads new (map list (set xs k x))
-  AreHeads-put k d x new valid put is = record {
+  pub AreMemberHeads-put : (k d : ℕ) (x : X) (new : LeastDocs) → IsLeastDocs new → new.docs.items ≡ set heads.docs.items k d →
+      d ≡ head_document (list x) → AreMemberHeads new (map list (set xs k x))
+  AreMemberHeads-put k d x new valid put is = record {
     valid = valid;
     docs = put ∙ ap (λ ds. set ds k d) h.docs ∙ ap (set (map head_document (map list xs)) k) is
         ∙ sym (map-set head_document (map list xs) k (list x)) ∙ ap (map head_document) (sym (map-set list xs k x));

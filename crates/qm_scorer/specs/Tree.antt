@@ -16,7 +16,7 @@ use Rattle.qm_combine.specs.Constant.{IsConstant, IsConstantPlaced, constant_lef
 use Rattle.qm_combine.specs.HeldSum.{held_sum}
 use Rattle.qm_combine.specs.Rescored.{rescored, with_optional}
 use Rattle.qm_combine.specs.Union.{least_head}
-use Rattle.qm_combine.specs.United.{HasParts as HasPartsBy, IsUnited as IsUnitedBy, kept_score as kept_by, united as united_by}
+use Rattle.qm_combine.specs.United.{HasUnionParts as HasPartsBy, IsUnited as IsUnitedBy, kept_score as kept_by, union_listing as united_by}
 use Rattle.qm_combine.specs.declared.union.window.Window.{Window}
 use Rattle.qm_combine.specs.Without.{without}
 use Rattle.qm_combine.specs.WithoutFacts.{IsKept}
@@ -61,7 +61,7 @@ pub record IsGroup (shape : Shape) (current : ℕ) (ess : List (List Entry)) : T
   pub room : HasRoom shape.combiner ess
 
 -- the documents that the members stand on, each in its place
-pub record AreHeads (heads : LeastDocs) (ess : List (List Entry)) : Type 0 where
+pub record AreMemberHeads (heads : LeastDocs) (ess : List (List Entry)) : Type 0 where
   pub valid : IsLeastDocs heads
   pub docs : heads.docs.items ≡ map head_document ess
 
@@ -72,13 +72,13 @@ abbrev pub kept_score : Window AnyCombiner → ℕ → ℕ
 kept_score = kept_by any_combined any_value
 
 -- what a union lists from a document on of what its window keeps and its members have left
-abbrev pub united : Window AnyCombiner → ℕ → List (List Entry) → List Entry
-united = united_by any_combined any_value 1
+abbrev pub union_listing : Window AnyCombiner → ℕ → List (List Entry) → List Entry
+union_listing = united_by any_combined any_value 1
 
 -- a window with a combiner that was cleared and has room for all scores of the members, and the bound on
 -- what it makes of them
-abbrev pub HasParts : Window AnyCombiner → ℕ → List Limits → Type 0
-HasParts = HasPartsBy any_cleared
+abbrev pub HasUnionParts : Window AnyCombiner → ℕ → List Limits → Type 0
+HasUnionParts = HasPartsBy any_cleared
 
 -- a union that stands on its first document
 abbrev pub IsUnited : Window AnyCombiner → ℕ → ℕ → ℕ → List Limits → List (List Entry) → Type 0
@@ -101,7 +101,7 @@ module _ {S : Type 0} (D : Ghosts S) where
     tree_entries (Const' p inner score) = rescored (λ _. score) (tree_entries inner)
     tree_entries (RequiredOptional' p required optional top) = with_optional sum (tree_entries required) (tree_entries optional)
     tree_entries (Exclude' p inner out top) = without (has_document (tree_entries out)) (tree_entries inner)
-    tree_entries (Union' p room row window ahead doc span top) = united window doc (row_lists row)
+    tree_entries (Union' p room row window ahead doc span top) = union_listing window doc (row_lists row)
     tree_entries (Disjunction' p room row heads shape current) = gathered_list shape (row_lists row)
     tree_entries (Intersection' p leader room row num_docs top) = common_entries held_sum (tree_entries leader ∷ row_lists row)
 
@@ -210,7 +210,7 @@ module _ {S : Type 0} (D : Ghosts S) where
     IsTree (Exclude' p inner out top) = IsTree inner × IsTree out × IsBounded top (without (has_document (tree_entries out)) (tree_entries inner))
     IsTree (Union' p room row window ahead doc span top) = IsRow row × IsRowPlaced row × IsUnited window doc ahead top (row_limits row) (row_lists row)
     IsTree (Disjunction' p room row heads shape current) = IsRow row × IsRowPlaced row ×
-        IsGroup shape current (row_lists row) × AreHeads heads (row_lists row)
+        IsGroup shape current (row_lists row) × AreMemberHeads heads (row_lists row)
     IsTree (Intersection' p leader room row num_docs top) = IsTree leader × IsRow row ×
         IsBounded top (common_entries held_sum (tree_entries leader ∷ row_lists row))
 

@@ -9,7 +9,7 @@ ghost use Rattle.qm_scorer.specs.Built.{IsAtLeastOf, IsUnionOf};
 ghost use Rattle.qm_scorer.specs.Bare.{IsBounded};
 ghost use Rattle.qm_scorer.specs.Group.{IsGroupNode, IsGroupOver, IsMadeOf, group_entries};
 ghost use Rattle.qm_scorer.specs.Intersection.{ListsShared};
-ghost use Rattle.qm_scorer.specs.Tree.{AreHeads, HasRoom, IsTree, gathered_list, tree_entries, tree_top};
+ghost use Rattle.qm_scorer.specs.Tree.{AreMemberHeads, HasRoom, IsTree, gathered_list, tree_entries, tree_top};
 ghost use Rattle.qm_scorer.specs.United.{IsUnitedOf};
 
 use crate::any_combiner::AnyCombiner;
@@ -196,7 +196,7 @@ fn heads_of<'a, S: Scorer>(
     members: &[AnyScorer<'a, S>],
 ) -> Result<LeastDocs, AllocError>
     requires placed { ArePlaced ⟦<AnyScorer<'a, S> as DocSet>⟧ members.now }
-    ensures { IfOk result (λ heads. AreHeads heads (map (tree_entries S.DocSet) members.now)) }
+    ensures { IfOk result (λ heads. AreMemberHeads heads (map (tree_entries S.DocSet) members.now)) }
 {
     let mut docs = Vec::with_capacity(alloc, members.len())?;
     // those of the members before are there

@@ -12,7 +12,7 @@ ghost use Rattle.qm_combine.specs.Union.{least_head, total_top};
 ghost use Rattle.qm_combine.specs.Window.{IsUntil, window_combiner, window_end, window_has, window_start, window_state};
 ghost use Rattle.qm_scorer.specs.AnyCombiner.{any_cleared, any_combined, any_step};
 ghost use Rattle.qm_scorer.specs.Moves.{Swept};
-ghost use Rattle.qm_scorer.specs.Tree.{HasParts, IsTree, IsTreePlaced, tree_entries, tree_top};
+ghost use Rattle.qm_scorer.specs.Tree.{HasUnionParts, IsTree, IsTreePlaced, tree_entries, tree_top};
 ghost use Rattle.qm_scorer.specs.United.{AreMembersStanding, IsAdded, IsUnionNode, union_limits, union_list, union_lists, union_shown};
 ghost use Rattle.qm_scorer.specs.UnitedFacts.{union-going};
 ghost use Rattle.qm_scorer.specs.declared.any_scorer.AnyScorer.{size-AnyScorer};
@@ -188,7 +188,7 @@ fn refill<'a, S: Scorer>(node: &mut UnionNode<'a, S>, span: u32) -> DocId
 #[tactic(auto, using(crate::specs::MoveFacts::moves))]
 pub(crate) fn go_on<'a, S: Scorer>(node: &mut UnionNode<'a, S>, span: u32) -> DocId
     requires members { AreMembersStanding S.DocSet node.old }
-    requires parts { HasParts node.old.window node.old.top (union_limits S.DocSet node.old) }
+    requires parts { HasUnionParts node.old.window node.old.top (union_limits S.DocSet node.old) }
     requires span { (1 ≤ span) × (span ≤ 4096) }
     requires ahead { node.old.ahead ≡ least_head (union_lists S.DocSet node.old) }
     requires behind { (d : ℕ) → window_has node.old.window d ≡ true → d < node.old.ahead }

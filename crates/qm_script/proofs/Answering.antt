@@ -21,7 +21,7 @@ use Rattle.qm_script.specs.AllSegments.{all_listed}
 use Rattle.qm_script.specs.Answers.{AnswersQuery, IsAskedUnder, IsLineRefusal, IsListingAnswer, listed_text}
 use Rattle.qm_script.specs.Asked.{Builds, asked}
 use Rattle.qm_script.specs.BestListed.{alive_listed_from, scored_item}
-use Rattle.qm_script.specs.Counts.{alive_count}
+use Rattle.qm_script.specs.Counts.{alive_in_all}
 use Rattle.qm_script.specs.Found.{found_above, found_above_in_parts, found_alive, found_best, found_from, found_matches}
 use Rattle.qm_script.specs.Narrowed.{AreNarrowed, narrowed}
 use Rattle.qm_script.specs.PrefixFree.{all_prefixes}
@@ -186,7 +186,7 @@ module _ (enable : EnableScoring Searched) (s : Script) (q : language.Query) (qu
   counted-same (inr (inl are)) = counted-segments own s readers are.searched (all-expanded are)
   counted-same (inr (inr are)) =
       counted-one_part own (narrowed are.wanted s) readers are.merged
-      ∙ ap (alive_count own) (narrowed-all are.wanted s) ∙ counted-narrowed own are.wanted (all_segments s) (names-all are)
+      ∙ ap (alive_in_all own) (narrowed-all are.wanted s) ∙ counted-narrowed own are.wanted (all_segments s) (names-all are)
 
   -- the documents that weren't deleted, each with its score
   pub alive-same : Serve q s readers → alive_listed_from own 0 (segments_of readers) ≡ alive_listed_from own 0 (all_segments s)

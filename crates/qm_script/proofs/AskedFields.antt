@@ -9,7 +9,7 @@ use Rattle.qm_postings.specs.Statistics.{Searched}
 use Rattle.qm_postings.specs.contracts.searcher.SearcherBm25StatisticsProvider.TheImpl.{ghosts}
 use Rattle.qm_query.specs.EnableScoring.{is_enabled, schema_of}
 use Rattle.qm_query.specs.Fields.{are_clauses_served, are_disjuncts_served, is_served, phrase_field_refusal, prefix_field_refusal, term_field_refusal}
-use Rattle.qm_query.specs.Offsets.{first_field, terms_of}
+use Rattle.qm_query.specs.Offsets.{first_field, bare_terms}
 use Rattle.qm_query.specs.Query as query
 use Rattle.qm_query.specs.Query.{Query, Subqueries, Disjuncts, all, none, term, phrase, phrase_prefix, boolean, boost, constant, disjunction_max, no_subquery}
 use Rattle.qm_query.specs.Query.{subquery, no_disjunct, disjunct}
@@ -20,7 +20,7 @@ use Rattle.qm_query.specs.declared.enable_scoring.EnableScoring.TheVariants.{Ena
 use Rattle.qm_schema.specs.Term.{TermKey}
 use Rattle.qm_schema.specs.declared.error.QueryError.{QueryError}
 use Rattle.qm_schema.specs.declared.error.QueryError.TheVariants.{Memory, ScoreBound, TieBreaker}
-use Rattle.qm_script.specs.Asked.{asked, clauses_asked, disjuncts_asked, prefix_parts, term_of}
+use Rattle.qm_script.specs.Asked.{asked, clauses_asked, disjuncts_asked, prefix_parts, term_of_word}
 use Rattle.qm_script.specs.Fields.{script_fields}
 use Rattle.qm_script.specs.Script as language
 use Rattle.qm_script.specs.Script.{no_clause, clause, no_query}
@@ -44,25 +44,25 @@ AreServed cs = are_clauses_served script_fields cs ≡ true
 abbrev AreDisjunctsServed : Disjuncts → Type 0
 AreDisjunctsServed ds = are_disjuncts_served script_fields ds ≡ true
 
-row-served : (words : List (List ℕ)) → is_none (phrase_field_refusal script_fields (first_field (λ t. t.1) (enumerate_from 0 (map term_of words)))) ≡ true
+row-served : (words : List (List ℕ)) → is_none (phrase_field_refusal script_fields (first_field (λ t. t.1) (enumerate_from 0 (map term_of_word words)))) ≡ true
 row-served [] = refl
 row-served (w ∷ words) = refl
 
 -- the last of a row is a word of that field too
 last-field : (most : ℕ) (t : ℕ × TermKey) (n : ℕ) (words : List (List ℕ)) → t.1.field ≡ body_field →
-    (prefix_parts most t (enumerate_from n (map term_of words))).prefix.1.field ≡ body_field
+    (prefix_parts most t (enumerate_from n (map term_of_word words))).prefix.1.field ≡ body_field
 last-field most t n [] is = is
-last-field most t n (w ∷ words) is = last-field most (n, term_of w) (n + 1) words refl
+last-field most t n (w ∷ words) is = last-field most (n, term_of_word w) (n + 1) words refl
 
 either : (b : Bool) (x y : Option QueryError) → is_none x ≡ true → is_none y ≡ true → is_none (if b then x else y) ≡ true
 either true x y first second = first
 either false x y first second = second
 
 prefix-served : (most : ℕ) (w : List ℕ) (words : List (List ℕ)) →
-    IsServed (phrase_prefix (prefix_parts most (0, term_of w) (enumerate_from 1 (map term_of words))))
+    IsServed (phrase_prefix (prefix_parts most (0, term_of_word w) (enumerate_from 1 (map term_of_word words))))
 prefix-served most w words =
-    let parts = prefix_parts most (0, term_of w) (enumerate_from 1 (map term_of words)) in
-    let field = last-field most (0, term_of w) 1 words refl in
+    let parts = prefix_parts most (0, term_of_word w) (enumerate_from 1 (map term_of_word words)) in
+    let field = last-field most (0, term_of_word w) 1 words refl in
     either (length parts.terms == 0) (term_field_refusal script_fields parts.prefix.1.field) (phrase_field_refusal script_fields parts.prefix.1.field)
     (ap (λ f. is_none (term_field_refusal script_fields f)) field) (ap (λ f. is_none (phrase_field_refusal script_fields f)) field)
 
@@ -169,7 +169,7 @@ module _ (e : QueryError) where
           leaf-past enable _ (leaf-refused (phrase_field_refusal (schema_of enable) (first_field (λ t. t.1) p.terms)) _ e served refused)
       refused-past (phrase_prefix p) served refused =
           let by = leaf-refused (prefix_field_refusal (schema_of enable) p.terms p.prefix.1.field) _ e served refused in
-          λ fits. leaf-past enable (terms_of p.terms) by.1 (full-leaves (length p.terms == 0) (not_zero (length p.terms) by.0) p.prefix.1
+          λ fits. leaf-past enable (bare_terms p.terms) by.1 (full-leaves (length p.terms == 0) (not_zero (length p.terms) by.0) p.prefix.1
           p.max_expansions (full_prefix_tree ghosts enable p) fits)
       refused-past (boolean minimum clauses) served refused = clauses-past clauses served refused
       refused-past (boost factor inside) served refused = λ fits.

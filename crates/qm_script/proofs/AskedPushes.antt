@@ -5,29 +5,29 @@ use Rattle.std.proofs.lemmas.Option.{slice_get-get_or}
 use Rattle.qm_postings.specs.Segment.{Segment}
 use Rattle.qm_schema.specs.Term.{TermKey}
 use Rattle.qm_schema.specs.declared.occur.Occur.{Occur}
-use Rattle.qm_script.specs.Asked.{term_of}
+use Rattle.qm_script.specs.Asked.{term_of_word}
 use Rattle.qm_script.specs.AskedTerms.{all_expansions, asked_terms, clauses_terms, last_expansions, queries_terms}
-use Rattle.qm_script.specs.Script.{clauses_of, queries_of}
-use Rattle.qm_script.specs.Spelled.{clause_of, query_of, texts}
+use Rattle.qm_script.specs.Script.{as_clauses, queries_of}
+use Rattle.qm_script.specs.Spelled.{spelled_clause, query_of, texts}
 use Rattle.qm_script.specs.declared.spelled_query.SpelledQuery.{SpelledQuery}
 use Rattle.qm_script.proofs.WordLemmas.{drop_mapped, none_left}
 
 module _ (segments : List Segment) (all : List TermKey) where
   module _ (xs : List (Occur × SpelledQuery)) (i : ℕ) where
     abbrev clauses_left : List TermKey
-    clauses_left = clauses_terms segments (clauses_of (drop i (map clause_of xs)))
+    clauses_left = clauses_terms segments (as_clauses (drop i (map spelled_clause xs)))
 
     pub clause-pushed : (x : Occur × SpelledQuery) → i < length xs → x ≡ get_or xs i x → (front pushed : List TermKey) →
         pushed ≡ front ++ asked_terms segments (query_of x.1) → front ++ clauses_left ≡ all →
-        pushed ++ clauses_terms segments (clauses_of (drop (i + 1) (map clause_of xs))) ≡ all
+        pushed ++ clauses_terms segments (as_clauses (drop (i + 1) (map spelled_clause xs))) ≡ all
     clause-pushed x below is front pushed added kept =
-        let rest = clauses_terms segments (clauses_of (drop (i + 1) (map clause_of xs))) in
+        let rest = clauses_terms segments (as_clauses (drop (i + 1) (map spelled_clause xs))) in
         ap (λ l. l ++ rest) added ∙ append_assoc front (asked_terms segments (query_of x.1)) rest
-        ∙ ap (λ l. front ++ clauses_terms segments (clauses_of l)) (sym (drop_mapped clause_of xs i x x below is)) ∙ kept
+        ∙ ap (λ l. front ++ clauses_terms segments (as_clauses l)) (sym (drop_mapped spelled_clause xs i x x below is)) ∙ kept
 
     pub clauses-pushed : (front : List TermKey) → length xs ≤ i → front ++ clauses_left ≡ all → front ≡ all
     clauses-pushed front past kept =
-        sym (append-nil front) ∙ ap (λ l. front ++ clauses_terms segments (clauses_of l)) (sym (none_left clause_of xs i past)) ∙ kept
+        sym (append-nil front) ∙ ap (λ l. front ++ clauses_terms segments (as_clauses l)) (sym (none_left spelled_clause xs i past)) ∙ kept
 
   module _ (xs : List SpelledQuery) (i : ℕ) where
     abbrev queries_left : List TermKey
@@ -48,9 +48,9 @@ module _ (segments : List Segment) (all : List TermKey) where
 -- ---- the last word
 
 pub last_expansions-some : (segments : List Segment) (most : ℕ) (words : List (String Global)) (w : String Global) →
-    slice_get words (length words - 1) ≡ Some w → last_expansions segments most (texts words) ≡ all_expansions segments (term_of (string_bytes w)) most
+    slice_get words (length words - 1) ≡ Some w → last_expansions segments most (texts words) ≡ all_expansions segments (term_of_word (string_bytes w)) most
 last_expansions-some segments most [] w e = cc
-last_expansions-some segments most (x ∷ []) w e = let same : x ≡ w = cc in ap (λ v. all_expansions segments (term_of (string_bytes v)) most) same
+last_expansions-some segments most (x ∷ []) w e = let same : x ≡ w = cc in ap (λ v. all_expansions segments (term_of_word (string_bytes v)) most) same
 last_expansions-some segments most (x ∷ y ∷ words) w e =
     let place : suc (length (y ∷ words) - 1) ≡ length (x ∷ y ∷ words) - 1 = omega arith in
     last_expansions-some segments most (y ∷ words) w (ap (slice_get (x ∷ y ∷ words)) place ∙ e)

@@ -12,13 +12,13 @@ use Rattle.qm_schema.specs.Term.{TermKey}
 use Rattle.qm_schema.specs.declared.error.QueryError.{QueryError}
 use Rattle.qm_schema.specs.declared.error.QueryError.TheVariants.{EmptyPrefix, Memory, TieBreaker}
 use Rattle.qm_schema.specs.declared.occur.Occur.{Occur}
-use Rattle.qm_script.specs.Asked.{asked, clauses_asked, disjuncts_asked, disjunction_max_asked, phrase_asked, phrase_prefix_asked, prefix_parts, term_of}
+use Rattle.qm_script.specs.Asked.{asked, clauses_asked, disjuncts_asked, disjunction_max_asked, phrase_asked, phrase_prefix_asked, prefix_parts, term_of_word}
 use Rattle.qm_script.specs.Asked.{unless, ◌>>=◌}
 use Rattle.qm_script.specs.PrefixFree.{PrefixTest}
 use Rattle.qm_script.specs.Prefixes.{has_failing, have_clauses_failing, have_queries_failing}
 use Rattle.qm_script.specs.Script as language
-use Rattle.qm_script.specs.Script.{clauses_of, queries_of}
-use Rattle.qm_script.specs.Spelled.{clause_of, query_of}
+use Rattle.qm_script.specs.Script.{as_clauses, queries_of}
+use Rattle.qm_script.specs.Spelled.{spelled_clause, query_of}
 use Rattle.qm_script.specs.declared.spelled_query.SpelledQuery.{SpelledQuery}
 use Rattle.qm_script.proofs.WordLemmas.{drop_mapped, none_left}
 
@@ -41,11 +41,11 @@ unless-refused None (Err k) e x was h = let same : e ≡ k = cc in inl (same ∙
 unless-refused (Some d) (Ok y) e x was h = absurd (cc)
 unless-refused (Some d) (Err k) e x was h = let same : d ≡ e = cc in inr (ap refused same)
 
-pub phrase-refused : {X : Type 0} (slop : ℕ) (words : List (List ℕ)) (items : List TermKey) → items ≡ map term_of words → (r : Result X QueryError)
+pub phrase-refused : {X : Type 0} (slop : ℕ) (words : List (List ℕ)) (items : List TermKey) → items ≡ map term_of_word words → (r : Result X QueryError)
     (e : QueryError) → r ≡ Err e → IsRefusedFor (with_two items (row_refusal items)) r → (e ≡ Memory) ⊎ (phrase_asked slop words ≡ Err e)
 phrase-refused slop words items same r e was h =
-    unless-refused (with_two (map term_of words) (row_refusal (map term_of words))) r e (query.phrase
-    (record { terms = enumerate_from 0 (map term_of words); slop = slop })) was (subst (λ ts. IsRefusedFor (with_two ts (row_refusal ts)) r) same h)
+    unless-refused (with_two (map term_of_word words) (row_refusal (map term_of_word words))) r e (query.phrase
+    (record { terms = enumerate_from 0 (map term_of_word words); slop = slop })) was (subst (λ ts. IsRefusedFor (with_two ts (row_refusal ts)) r) same h)
 
 pub through : (wanted : Result Query QueryError) (x y : Query) → wanted ≡ Ok x → y ≡ x → wanted ≡ Ok y
 through wanted x y is same = is ∙ ap (λ q. let r : Result Query QueryError = Ok q in r) (sym same)
@@ -72,7 +72,7 @@ prefix_parts-last most t (u ∷ us) (v ∷ terms) prefix e =
     λ i. record (inner i) { terms = first i ∷ (inner i).terms }
 
 abbrev terms_of : List (List ℕ) → List TermKey
-terms_of words = map term_of words
+terms_of words = map term_of_word words
 
 with_one-some : (t : TermKey) (ts : List TermKey) (otherwise : Option QueryError) → with_one (t ∷ ts) otherwise ≡ otherwise
 with_one-some t ts otherwise = ap (λ b. if b then Some EmptyPrefix else otherwise) (le-ltb (length (t ∷ ts)) 1 (omega arith))
@@ -83,12 +83,12 @@ prefix-made-of : {X : Type 0} (most : ℕ) (words : List (List ℕ)) (r : X) (te
 prefix-made-of most [] r terms prefix h e = absurd (omega (arith, ap length e, length-append terms (prefix ∷ [])))
 prefix-made-of most (w ∷ words) r terms prefix h e =
     let due = row_refusal (terms_of (w ∷ words)) in
-    unless-made due r (query.phrase_prefix (prefix_parts most (0, term_of w) (enumerate_from 1 (terms_of words))))
-    (subst (λ o. IsRefusedFor o (made r)) (with_one-some (term_of w) (terms_of words) due) h)
+    unless-made due r (query.phrase_prefix (prefix_parts most (0, term_of_word w) (enumerate_from 1 (terms_of words))))
+    (subst (λ o. IsRefusedFor o (made r)) (with_one-some (term_of_word w) (terms_of words) due) h)
     ∙ ap (λ (p : PrefixParts). let a : Result Query QueryError = Ok (query.phrase_prefix p) in a)
-    (prefix_parts-last most (0, term_of w) (enumerate_from 1 (terms_of words)) terms prefix e)
+    (prefix_parts-last most (0, term_of_word w) (enumerate_from 1 (terms_of words)) terms prefix e)
 
-pub prefix-made : {X : Type 0} (most : ℕ) (words : List (List ℕ)) (items : List TermKey) → items ≡ map term_of words →
+pub prefix-made : {X : Type 0} (most : ℕ) (words : List (List ℕ)) (items : List TermKey) → items ≡ map term_of_word words →
     (r : X) (terms : List (ℕ × TermKey)) (prefix : ℕ × TermKey) → IsRefusedFor (with_one items (row_refusal items)) (made r) → terms ++ prefix ∷ []
     ≡ enumerate_from 0 items → phrase_prefix_asked most words ≡ Ok (query.phrase_prefix (record { terms = terms; prefix = prefix; max_expansions = most }))
 prefix-made most words items same r terms prefix h e =
@@ -129,47 +129,47 @@ with_front-push front x (Ok xs) = ap made (sym (append_assoc front (x ∷ []) xs
 with_front-push front x (Err e) = refl
 
 module _ (xs : List (Occur × SpelledQuery)) (i : ℕ) (x : Occur × SpelledQuery) (below : i < length xs) (is : x ≡ get_or xs i x) where
-  clause-next : drop i (map clause_of xs) ≡ clause_of x ∷ drop (i + 1) (map clause_of xs)
-  clause-next = drop_mapped clause_of xs i x x below is
+  clause-next : drop i (map spelled_clause xs) ≡ spelled_clause x ∷ drop (i + 1) (map spelled_clause xs)
+  clause-next = drop_mapped spelled_clause xs i x x below is
 
   pub clauses-step : (front : List (Occur × Query)) (q : Query) (whole : Result (List (Occur × Query)) QueryError) →
-      asked (query_of x.1) ≡ Ok q → with_front front (clauses_asked (clauses_of (drop i (map clause_of xs)))) ≡ whole →
-      with_front (front ++ (x.0, q) ∷ []) (clauses_asked (clauses_of (drop (i + 1) (map clause_of xs)))) ≡ whole
+      asked (query_of x.1) ≡ Ok q → with_front front (clauses_asked (as_clauses (drop i (map spelled_clause xs)))) ≡ whole →
+      with_front (front ++ (x.0, q) ∷ []) (clauses_asked (as_clauses (drop (i + 1) (map spelled_clause xs)))) ≡ whole
   clauses-step front q whole e kept =
-      let rest = clauses_asked (clauses_of (drop (i + 1) (map clause_of xs))) in
+      let rest = clauses_asked (as_clauses (drop (i + 1) (map spelled_clause xs))) in
       sym (with_front-push front (x.0, q) rest)
       ∙ ap (λ r. with_front front (r >>= λ p. rest >>= λ cs. Ok ((x.0, p) ∷ cs))) (sym e)
-      ∙ ap (λ l. with_front front (clauses_asked (clauses_of l))) (sym clause-next)
+      ∙ ap (λ l. with_front front (clauses_asked (as_clauses l))) (sym clause-next)
       ∙ kept
 
   pub clauses-stopped : (front : List (Occur × Query)) (e : QueryError) (whole : Result (List (Occur × Query)) QueryError) →
-      asked (query_of x.1) ≡ Err e → with_front front (clauses_asked (clauses_of (drop i (map clause_of xs)))) ≡ whole → whole ≡ Err e
+      asked (query_of x.1) ≡ Err e → with_front front (clauses_asked (as_clauses (drop i (map spelled_clause xs)))) ≡ whole → whole ≡ Err e
   clauses-stopped front e whole is_refused kept =
-      let rest = clauses_asked (clauses_of (drop (i + 1) (map clause_of xs))) in
+      let rest = clauses_asked (as_clauses (drop (i + 1) (map spelled_clause xs))) in
       sym kept
-      ∙ ap (λ l. with_front front (clauses_asked (clauses_of l))) clause-next
+      ∙ ap (λ l. with_front front (clauses_asked (as_clauses l))) clause-next
       ∙ ap (λ r. with_front front (r >>= λ p. rest >>= λ cs. Ok ((x.0, p) ∷ cs))) is_refused
 
-  pub clauses-prefix-step : (test : PrefixTest) (whole : Bool) → has_failing test (query_of x.1) ≡ false → have_clauses_failing test (clauses_of (drop i (map clause_of xs))) ≡ whole →
-      have_clauses_failing test (clauses_of (drop (i + 1) (map clause_of xs))) ≡ whole
+  pub clauses-prefix-step : (test : PrefixTest) (whole : Bool) → has_failing test (query_of x.1) ≡ false → have_clauses_failing test (as_clauses (drop i (map spelled_clause xs))) ≡ whole →
+      have_clauses_failing test (as_clauses (drop (i + 1) (map spelled_clause xs))) ≡ whole
   clauses-prefix-step test whole fails kept =
-      ap (λ b. b || have_clauses_failing test (clauses_of (drop (i + 1) (map clause_of xs)))) (sym fails)
-      ∙ ap (λ l. have_clauses_failing test (clauses_of l)) (sym clause-next) ∙ kept
+      ap (λ b. b || have_clauses_failing test (as_clauses (drop (i + 1) (map spelled_clause xs)))) (sym fails)
+      ∙ ap (λ l. have_clauses_failing test (as_clauses l)) (sym clause-next) ∙ kept
 
   pub clauses-prefix-found : (test : PrefixTest) (whole : Bool) → has_failing test (query_of x.1) ≡ true →
-      have_clauses_failing test (clauses_of (drop i (map clause_of xs))) ≡ whole → whole ≡ true
+      have_clauses_failing test (as_clauses (drop i (map spelled_clause xs))) ≡ whole → whole ≡ true
   clauses-prefix-found test whole holds kept =
-      sym kept ∙ ap (λ l. have_clauses_failing test (clauses_of l)) clause-next
-      ∙ ap (λ b. b || have_clauses_failing test (clauses_of (drop (i + 1) (map clause_of xs)))) holds
+      sym kept ∙ ap (λ l. have_clauses_failing test (as_clauses l)) clause-next
+      ∙ ap (λ b. b || have_clauses_failing test (as_clauses (drop (i + 1) (map spelled_clause xs)))) holds
 
 pub clauses-done : (xs : List (Occur × SpelledQuery)) (i : ℕ) (front : List (Occur × Query)) (whole : Result (List (Occur × Query)) QueryError) →
-    length xs ≤ i → with_front front (clauses_asked (clauses_of (drop i (map clause_of xs)))) ≡ whole → whole ≡ Ok front
+    length xs ≤ i → with_front front (clauses_asked (as_clauses (drop i (map spelled_clause xs)))) ≡ whole → whole ≡ Ok front
 clauses-done xs i front whole past kept =
-    sym kept ∙ ap (λ l. with_front front (clauses_asked (clauses_of l))) (none_left clause_of xs i past) ∙ ap made (append-nil front)
+    sym kept ∙ ap (λ l. with_front front (clauses_asked (as_clauses l))) (none_left spelled_clause xs i past) ∙ ap made (append-nil front)
 
 pub clauses-prefix-done : (test : PrefixTest) (xs : List (Occur × SpelledQuery)) (i : ℕ) (whole : Bool) → length xs ≤ i →
-    have_clauses_failing test (clauses_of (drop i (map clause_of xs))) ≡ whole → whole ≡ false
-clauses-prefix-done test xs i whole past kept = sym kept ∙ ap (λ l. have_clauses_failing test (clauses_of l)) (none_left clause_of xs i past)
+    have_clauses_failing test (as_clauses (drop i (map spelled_clause xs))) ≡ whole → whole ≡ false
+clauses-prefix-done test xs i whole past kept = sym kept ∙ ap (λ l. have_clauses_failing test (as_clauses l)) (none_left spelled_clause xs i past)
 
 module _ (xs : List SpelledQuery) (i : ℕ) (x : SpelledQuery) (below : i < length xs) (is : x ≡ get_or xs i x) where
   disjunct-next : drop i (map query_of xs) ≡ query_of x ∷ drop (i + 1) (map query_of xs)

@@ -7,7 +7,7 @@ use Rattle.qm_index.specs.Indexed.{AreMerged, AreSearched, all_segments}
 use Rattle.qm_index.specs.Parts.{segments_of}
 use Rattle.qm_postings.specs.Reading.{Reader}
 use Rattle.qm_postings.specs.Segment.{Segment, is_alive}
-use Rattle.qm_script.specs.Counts.{alive_count}
+use Rattle.qm_script.specs.Counts.{alive_in_all}
 use Rattle.qm_script.specs.PrefixFree.{all_prefixes}
 use Rattle.qm_script.specs.Reached.{is_reached}
 use Rattle.qm_script.specs.ScriptSegments.{Script}
@@ -32,7 +32,7 @@ trues-filter p (d ∷ ds) =
     ]
 
 module _ (tree : Tree) where
-  pub counted-items : (first : ℕ) (segments : List Segment) → alive_count tree segments ≡ trues (items_from tree flag first segments)
+  pub counted-items : (first : ℕ) (segments : List Segment) → alive_in_all tree segments ≡ trues (items_from tree flag first segments)
   counted-items first [] = refl
   counted-items first (s ∷ segments) =
       let here : one.alive_count tree s ≡ trues (items tree flag first s) = trues-filter (is_alive s) (matching tree s) in
@@ -49,7 +49,7 @@ module _ (tree : Tree) where
 
   -- a tree whose prefixes are expanded to all terms of the parts
   pub counted-segments : (script : Script) (readers : List Reader) (are : AreSearched script readers) → all_prefixes (is_reached are.parts) tree ≡ true →
-      alive_count tree (segments_of readers) ≡ alive_count tree (all_segments script)
+      alive_in_all tree (segments_of readers) ≡ alive_in_all tree (all_segments script)
   counted-segments script readers are pass =
       counted-items 0 (segments_of readers)
       ∙ ap trues (items-segments tree flag script readers are pass (λ n s t d e reach reach_too schema document alive. alive))
@@ -57,7 +57,7 @@ module _ (tree : Tree) where
 
   -- any tree, where the open segment is in one part at most
   pub counted-one_part : (script : Script) (readers : List Reader) → AreMerged script readers →
-      alive_count tree (segments_of readers) ≡ alive_count tree (all_segments script)
+      alive_in_all tree (segments_of readers) ≡ alive_in_all tree (all_segments script)
   counted-one_part script readers are =
       counted-items 0 (segments_of readers)
       ∙ ap trues (items-few_segments tree flag script readers (λ n s t d schema documents alive. alive) are.searched are.one)

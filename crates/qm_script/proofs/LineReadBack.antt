@@ -14,9 +14,9 @@ use Rattle.qm_script.specs.Script.{Clauses, Queries, Query, Request, add_documen
 use Rattle.qm_script.specs.Script.{cut_at_tabs, delete_at, delete_document, disjunction_max, document_at, end_segment, line_form_named, line_request}
 use Rattle.qm_script.specs.Script.{line_words, list_above, list_best, list_documents, list_scores, no_clause, no_query, non_empty, none, nothing, phrase}
 use Rattle.qm_script.specs.Script.{phrase_prefix}
-use Rattle.qm_script.specs.Script.{count_at, prune_at, query, query_at, score_at, set_weight, term, threshold_at, top_at, weight_at, whole_query, words_request}
+use Rattle.qm_script.specs.Script.{count_word_at, prune_at, query, query_at, score_at, set_weight, term, threshold_at, top_at, weight_at, whole_query, words_request}
 use Rattle.qm_script.specs.Spelling.{AreLineWords, CanBeAsked, CanBeSpelled, ClausesCanBeSpelled, IsAskable, IsCount, IsDocumentNumber, IsLineWord, IsScore}
-use Rattle.qm_script.specs.Spelling.{IsThreshold, QueriesCanBeSpelled, clause_count, line_text, query_count, request_words, sign, spelled, spelled_clauses}
+use Rattle.qm_script.specs.Spelling.{IsSpelledThreshold, QueriesCanBeSpelled, clause_count, line_text, query_count, request_words, sign, spelled, spelled_clauses}
 use Rattle.qm_script.specs.Spelling.{spelled_queries}
 use Rattle.qm_script.specs.ProgramNumbers.{most_depth}
 use Rattle.qm_script.proofs.ReadBack.{count-read, document-read, query-read, read-then, score-read, threshold-read}
@@ -82,7 +82,7 @@ score-word : (s : ℤ) → IsScore s → IsLineWord (signed_decimal s)
 score-word (pos n) h = number-word n (omega arith)
 score-word (negsuc n) h = absurd h
 
-threshold-word : (t : ℤ) → IsThreshold t → IsLineWord (signed_decimal t)
+threshold-word : (t : ℤ) → IsSpelledThreshold t → IsLineWord (signed_decimal t)
 threshold-word (pos n) h = number-word n (omega arith)
 threshold-word (negsuc n) h = let digits = number-word (suc n) (omega arith) in record { some = omega arith; no_blank = (refl, digits.no_blank) }
 
@@ -161,7 +161,7 @@ delete-read : (number : ℕ) → IsDocumentNumber number → delete_at (decimal 
 unfolding delete_at
 delete-read number h = read-then (document_at (decimal number ∷ [])) (number, []) _ _ (document-read number [] h) refl
 
-prune-read : (threshold : ℤ) (q : Query) → IsThreshold threshold → CanBeAsked q →
+prune-read : (threshold : ℤ) (q : Query) → IsSpelledThreshold threshold → CanBeAsked q →
     prune_at (signed_decimal threshold ∷ spelled q) ≡ Some (list_above threshold q)
 unfolding prune_at
 prune-read threshold q in_range h =
@@ -171,7 +171,7 @@ prune-read threshold q in_range h =
 top-read : (count : ℕ) (q : Query) → IsCount count → CanBeAsked q → top_at (decimal count ∷ spelled q) ≡ Some (list_best count q)
 unfolding top_at
 top-read count q few h =
-    read-then (count_at (decimal count ∷ spelled q)) (count, spelled q) _ _ (count-read count (spelled q) few)
+    read-then (count_word_at (decimal count ∷ spelled q)) (count, spelled q) _ _ (count-read count (spelled q) few)
     (read-then (whole_query (spelled q)) q _ _ (whole-read q h) refl)
 
 words-read : (request : Request) → IsAskable request → words_request (request_words request) ≡ Some request

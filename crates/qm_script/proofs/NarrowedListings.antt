@@ -7,7 +7,7 @@ use Rattle.qm_postings.specs.Segment.{Segment, is_alive, is_deleted}
 use Rattle.qm_schema.specs.Term.{TermKey}
 use Rattle.qm_script.specs.AllSegments.{all_listed, listed, wanted_score}
 use Rattle.qm_script.specs.BestListed.{alive_listed_from}
-use Rattle.qm_script.specs.Counts.{alive_count}
+use Rattle.qm_script.specs.Counts.{alive_in_all}
 use Rattle.qm_script.specs.Pruned.{all_pruned, pruned_from, rising}
 use Rattle.qm_weight.specs.Names.{Names}
 use Rattle.qm_weight.specs.Tree.{Tree, matching}
@@ -56,7 +56,7 @@ module _ (tree : Tree) (wanted : TermKey → Bool) where
         ∙ all-kept (numbered_item tree scored) (λ s own n d. ap (λ k. (n, k)) (scored-kept s own scored d)) 0 segments named
         ∙ sym (listed-items tree scored 0 segments)
 
-    pub counted-narrowed : alive_count tree (map (restricted wanted) segments) ≡ alive_count tree segments
+    pub counted-narrowed : alive_in_all tree (map (restricted wanted) segments) ≡ alive_in_all tree segments
     counted-narrowed =
         counted-items tree 0 (map (restricted wanted) segments)
         ∙ ap trues (all-kept flag (λ s own n d. alive-kept s d) 0 segments named)

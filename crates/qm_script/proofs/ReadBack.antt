@@ -5,11 +5,11 @@ use Rattle.std.proofs.lemmas.Fmt.{decimal_is_IsNumeral}
 use Rattle.std.specs.Fmt.{decimal, signed_decimal}
 use Rattle.qm_schema.specs.declared.occur.Occur.{Occur}
 use Rattle.qm_schema.specs.declared.occur.Occur.TheVariants.{Should, Must, MustNot}
-use Rattle.qm_script.specs.Script.{Clauses, Queries, Query, QueryReader, Reader, all, behind_form, boolean, boolean_at, boost, boost_at, clause, clause_at}
-use Rattle.qm_script.specs.Script.{clause_list, clauses_of, constant, constant_at, count_at, disjunction_max, disjunction_max_at, document_at, form_at}
+use Rattle.qm_script.specs.Script.{Clauses, Queries, Query, QueryReader, WordsReader, all, behind_form, boolean, boolean_at, boost, boost_at, clause, clause_at}
+use Rattle.qm_script.specs.Script.{clause_list, as_clauses, constant, constant_at, count_word_at, disjunction_max, disjunction_max_at, document_at, form_at}
 use Rattle.qm_script.specs.Script.{form_named, many_at, no_clause, no_query, none, number_below, occur_named, phrase, phrase_at, phrase_prefix}
-use Rattle.qm_script.specs.Script.{phrase_prefix_at, queries_of, query, query_at, score_at, sign_at, term, term_at, threshold_at, word_at, ◌>>=◌}
-use Rattle.qm_script.specs.Spelling.{CanBeSpelled, ClausesCanBeSpelled, IsCount, IsDocumentNumber, IsScore, IsThreshold, QueriesCanBeSpelled, clause_count}
+use Rattle.qm_script.specs.Script.{phrase_prefix_at, queries_of, query, query_at, score_at, sign_at, term, term_query_at, threshold_at, word_at, ◌>>=◌}
+use Rattle.qm_script.specs.Spelling.{CanBeSpelled, ClausesCanBeSpelled, IsCount, IsDocumentNumber, IsScore, IsSpelledThreshold, QueriesCanBeSpelled, clause_count}
 use Rattle.qm_script.specs.Spelling.{clauses_depth, queries_depth, query_count, query_depth, sign, spelled, spelled_clauses, spelled_queries}
 use Rattle.qm_script.specs.declared.form.QueryForm.{QueryForm}
 use Rattle.qm_script.specs.declared.form.QueryForm.TheVariants.{All, Empty, Term, Phrase, PhrasePrefix, Boolean, Boost, Const, DisjunctionMax}
@@ -26,8 +26,8 @@ number-read limit n below wide =
     let k = decimal_is_IsNumeral n (omega arith) in
     sym (number-below limit (decimal n) (Some n) ((k.0, omega (arith, k.1)), sym k.1))
 
-pub count-read : (n : ℕ) (words : List (List ℕ)) → IsCount n → count_at (decimal n ∷ words) ≡ Some (n, words)
-unfolding count_at
+pub count-read : (n : ℕ) (words : List (List ℕ)) → IsCount n → count_word_at (decimal n ∷ words) ≡ Some (n, words)
+unfolding count_word_at
 count-read n words h = ap (λ o. o >>= λ m. Some (m, words)) (number-read (2 ^ 32) n h (omega arith))
 
 pub score-read : (s : ℤ) (words : List (List ℕ)) → IsScore s → score_at (signed_decimal s ∷ words) ≡ Some (s, words)
@@ -39,7 +39,7 @@ pub document-read : (n : ℕ) (words : List (List ℕ)) → IsDocumentNumber n �
 unfolding document_at
 document-read n words h = ap (λ o. o >>= λ m. Some (m, words)) (number-read (2 ^ 64) n h (omega arith))
 
-pub threshold-read : (t : ℤ) (words : List (List ℕ)) → IsThreshold t → threshold_at (signed_decimal t ∷ words) ≡ Some (t, words)
+pub threshold-read : (t : ℤ) (words : List (List ℕ)) → IsSpelledThreshold t → threshold_at (signed_decimal t ∷ words) ≡ Some (t, words)
 unfolding threshold_at
 threshold-read (pos n) words h =
     let numeral = decimal_is_IsNumeral n (omega arith) in
@@ -54,13 +54,13 @@ sign-read Should words = refl
 sign-read MustNot words = refl
 
 -- one thing more of a row
-many-read : {X : Type 0} (one : Reader X) (count : ℕ) (x : X) (xs : List X) (words between rest : List (List ℕ)) →
+many-read : {X : Type 0} (one : WordsReader X) (count : ℕ) (x : X) (xs : List X) (words between rest : List (List ℕ)) →
     one words ≡ Some (x, between) → many_at one count between ≡ Some (xs, rest) → many_at one (suc count) words ≡ Some (x ∷ xs, rest)
 unfolding many_at
 many-read one count x xs words between rest first others =
     read-then (one words) (x, between) _ _ first (read-then (many_at one count between) (xs, rest) _ _ others refl)
 
-none-read : {X : Type 0} (one : Reader X) (words : List (List ℕ)) → many_at one zero words ≡ Some ([], words)
+none-read : {X : Type 0} (one : WordsReader X) (words : List (List ℕ)) → many_at one zero words ≡ Some ([], words)
 unfolding many_at
 none-read one words = refl
 
@@ -84,7 +84,7 @@ unfolding form_named behind_form
 none-query-read depth words = form-read depth (codes "none") words Empty _ refl refl
 
 term-read : (depth : ℕ) (word : List ℕ) (words : List (List ℕ)) → query_at (suc depth) (codes "term" ∷ word ∷ words) ≡ Some (term word, words)
-unfolding form_named behind_form term_at
+unfolding form_named behind_form term_query_at
 term-read depth word words = form-read depth (codes "term") (word ∷ words) Term _ refl refl
 
 phrase-read : (depth slop : ℕ) (words rest : List (List ℕ)) → IsCount slop → IsCount (length words) →
@@ -93,8 +93,8 @@ unfolding form_named behind_form phrase_at
 phrase-read depth slop words rest in_range few =
     let behind = decimal slop ∷ decimal (length words) ∷ (words ++ rest) in
     form-read depth (codes "phrase") behind Phrase _ refl
-    (read-then (count_at behind) (slop, decimal (length words) ∷ (words ++ rest)) _ _ (count-read slop (decimal (length words) ∷ (words ++ rest)) in_range)
-    (read-then (count_at (decimal (length words) ∷ (words ++ rest))) (length words, words ++ rest) _ _ (count-read (length words) (words ++ rest) few)
+    (read-then (count_word_at behind) (slop, decimal (length words) ∷ (words ++ rest)) _ _ (count-read slop (decimal (length words) ∷ (words ++ rest)) in_range)
+    (read-then (count_word_at (decimal (length words) ∷ (words ++ rest))) (length words, words ++ rest) _ _ (count-read (length words) (words ++ rest) few)
     (read-then (many_at word_at (length words) (words ++ rest)) (words, rest) _ _ (words-read words rest) refl)))
 
 phrase_prefix-read : (depth most : ℕ) (words rest : List (List ℕ)) → IsCount most → IsCount (length words) →
@@ -103,19 +103,19 @@ unfolding form_named behind_form phrase_prefix_at
 phrase_prefix-read depth most words rest in_range few =
     let behind = decimal most ∷ decimal (length words) ∷ (words ++ rest) in
     form-read depth (codes "prefix") behind PhrasePrefix _ refl
-    (read-then (count_at behind) (most, decimal (length words) ∷ (words ++ rest)) _ _ (count-read most (decimal (length words) ∷ (words ++ rest)) in_range)
-    (read-then (count_at (decimal (length words) ∷ (words ++ rest))) (length words, words ++ rest) _ _ (count-read (length words) (words ++ rest) few)
+    (read-then (count_word_at behind) (most, decimal (length words) ∷ (words ++ rest)) _ _ (count-read most (decimal (length words) ∷ (words ++ rest)) in_range)
+    (read-then (count_word_at (decimal (length words) ∷ (words ++ rest))) (length words, words ++ rest) _ _ (count-read (length words) (words ++ rest) few)
     (read-then (many_at word_at (length words) (words ++ rest)) (words, rest) _ _ (words-read words rest) refl)))
 
 boolean-read : (depth minimum : ℕ) (clauses : Clauses) (words rest : List (List ℕ)) → IsCount minimum → IsCount (clause_count clauses) →
-    many_at (clause_at (query_at depth)) (clause_count clauses) words ≡ Some (clause_list clauses, rest) → clauses_of (clause_list clauses) ≡ clauses →
+    many_at (clause_at (query_at depth)) (clause_count clauses) words ≡ Some (clause_list clauses, rest) → as_clauses (clause_list clauses) ≡ clauses →
     query_at (suc depth) (codes "bool" ∷ decimal minimum ∷ decimal (clause_count clauses) ∷ words) ≡ Some (boolean minimum clauses, rest)
 unfolding form_named behind_form boolean_at
 boolean-read depth minimum clauses words rest in_range few inner same =
     let count = clause_count clauses in
     form-read depth (codes "bool") (decimal minimum ∷ decimal count ∷ words) Boolean _ refl
-    (read-then (count_at (decimal minimum ∷ decimal count ∷ words)) (minimum, decimal count ∷ words) _ _ (count-read minimum (decimal count ∷ words) in_range)
-    (read-then (count_at (decimal count ∷ words)) (count, words) _ _ (count-read count words few)
+    (read-then (count_word_at (decimal minimum ∷ decimal count ∷ words)) (minimum, decimal count ∷ words) _ _ (count-read minimum (decimal count ∷ words) in_range)
+    (read-then (count_word_at (decimal count ∷ words)) (count, words) _ _ (count-read count words few)
     (read-then (many_at (clause_at (query_at depth)) count words) (clause_list clauses, rest) _ _ inner (ap (λ cs. Some (boolean minimum cs, rest)) same))))
 
 disjunction_max-read : (depth tie_breaker : ℕ) (queries : Queries) (list : List Query) (words rest : List (List ℕ)) → IsCount tie_breaker →
@@ -125,9 +125,9 @@ unfolding form_named behind_form disjunction_max_at
 disjunction_max-read depth tie_breaker queries list words rest in_range few inner same =
     let count = query_count queries in
     form-read depth (codes "max") (decimal tie_breaker ∷ decimal count ∷ words) DisjunctionMax _ refl
-    (read-then (count_at (decimal tie_breaker ∷ decimal count ∷ words))
+    (read-then (count_word_at (decimal tie_breaker ∷ decimal count ∷ words))
     (tie_breaker, decimal count ∷ words) _ _ (count-read tie_breaker (decimal count ∷ words) in_range)
-    (read-then (count_at (decimal count ∷ words)) (count, words) _ _ (count-read count words few)
+    (read-then (count_word_at (decimal count ∷ words)) (count, words) _ _ (count-read count words few)
     (read-then (many_at (query_at depth) count words) (list, rest) _ _ inner (ap (λ qs. Some (disjunction_max tie_breaker qs, rest)) same))))
 
 boost-read : (depth : ℕ) (factor : ℤ) (q : Query) (words rest : List (List ℕ)) → IsScore factor → query_at depth words ≡ Some (q, rest) →
@@ -155,7 +155,7 @@ clause-read inner occur q words rest inside =
 
 -- ---- queries
 
-clauses-same : (clauses : Clauses) → clauses_of (clause_list clauses) ≡ clauses
+clauses-same : (clauses : Clauses) → as_clauses (clause_list clauses) ≡ clauses
 clauses-same no_clause = refl
 clauses-same (clause occur q clauses) = ap (clause occur q) (clauses-same clauses)
 

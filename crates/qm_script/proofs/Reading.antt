@@ -2,7 +2,7 @@
 use Rattle.std.proofs.Common.{◌≡◌, ℕ, ◌+◌, ◌-◌, ◌<◌, ◌≤◌, zero, suc, List, [], ◌∷◌, ◌++◌, Option, None, Some, Err, drop, map, length, get_or, refl, ap, sym}
 use Rattle.std.proofs.Common.{◌∙◌, arith, append_assoc, append-nil}
 use Rattle.qm_script.proofs.WordLemmas.{drop_mapped, none_left}
-use Rattle.qm_script.specs.Script.{Reader, form_at, many_at, query_at, word_at, ◌>>=◌}
+use Rattle.qm_script.specs.Script.{WordsReader, form_at, many_at, query_at, word_at, ◌>>=◌}
 use Rattle.qm_script.specs.Spelled.{Reads}
 use Rattle.qm_script.specs.declared.unparsed.Unparsed.{Unparsed}
 use Rattle.qm_script.specs.declared.unparsed.Unparsed.TheVariants.{Memory, NotUnderstood}
@@ -21,10 +21,10 @@ with_front-push : {X : Type 0} (front : List X) (x : X) (r : Option (List X × L
 with_front-push front x None = refl
 with_front-push front x (Some xs) = ap (λ l. Some (l, xs.1)) (sym (append_assoc front (x ∷ []) xs.0))
 
-pub many-begun : {X : Type 0} (one : Reader X) (count : ℕ) (words : List (List ℕ)) → with_front [] (many_at one (count - 0) words) ≡ many_at one count words
+pub many-begun : {X : Type 0} (one : WordsReader X) (count : ℕ) (words : List (List ℕ)) → with_front [] (many_at one (count - 0) words) ≡ many_at one count words
 many-begun one count words = let same : count - 0 ≡ count = omega arith in with_front-none (many_at one (count - 0) words) ∙ ap (λ n. many_at one n words) same
 
-unfolded : {X : Type 0} (one : Reader X) (count : ℕ) (words : List (List ℕ)) →
+unfolded : {X : Type 0} (one : WordsReader X) (count : ℕ) (words : List (List ℕ)) →
     many_at one (suc count) words ≡ (one words >>= λ x. many_at one count x.1 >>= λ xs. Some (x.0 ∷ xs.0, xs.1))
 unfolding many_at
 unfolded one count words = refl
@@ -33,7 +33,7 @@ one_less : (count i : ℕ) → i < count → count - i ≡ suc (count - (i + 1))
 one_less count i h = omega arith
 
 -- one more was read
-pub many-more : {X : Type 0} (one : Reader X) (front : List X) (count i : ℕ) (words after : List (List ℕ)) (x : X) (whole : Option (List X × List (List ℕ))) →
+pub many-more : {X : Type 0} (one : WordsReader X) (front : List X) (count i : ℕ) (words after : List (List ℕ)) (x : X) (whole : Option (List X × List (List ℕ))) →
     i < count → one words ≡ Some (x, after) → with_front front (many_at one (count - i) words) ≡ whole →
     with_front (front ++ x ∷ []) (many_at one (count - (i + 1)) after) ≡ whole
 many-more one front count i words after x whole below reads kept =
@@ -43,18 +43,18 @@ many-more one front count i words after x whole below reads kept =
     ∙ kept
 
 -- where one can't be read, they can't
-pub many-stopped : {X : Type 0} (one : Reader X) (front : List X) (count i : ℕ) (words : List (List ℕ)) (whole : Option (List X × List (List ℕ))) →
+pub many-stopped : {X : Type 0} (one : WordsReader X) (front : List X) (count i : ℕ) (words : List (List ℕ)) (whole : Option (List X × List (List ℕ))) →
     i < count → one words ≡ None → with_front front (many_at one (count - i) words) ≡ whole → whole ≡ None
 many-stopped one front count i words whole below reads kept =
     sym kept ∙ ap (with_front front) (ap (λ n. many_at one n words) (one_less count i below) ∙ unfolded one (count - (i + 1)) words
     ∙ ap (λ r. r >>= λ y. many_at one (count - (i + 1)) y.1 >>= λ xs. Some (y.0 ∷ xs.0, xs.1)) reads)
 
-read_none : {X : Type 0} (one : Reader X) (words : List (List ℕ)) → many_at one zero words ≡ Some ([], words)
+read_none : {X : Type 0} (one : WordsReader X) (words : List (List ℕ)) → many_at one zero words ≡ Some ([], words)
 unfolding many_at
 read_none one words = refl
 
 -- all were read
-pub many-done : {X : Type 0} (one : Reader X) (front : List X) (count i : ℕ) (words : List (List ℕ)) (whole : Option (List X × List (List ℕ))) →
+pub many-done : {X : Type 0} (one : WordsReader X) (front : List X) (count i : ℕ) (words : List (List ℕ)) (whole : Option (List X × List (List ℕ))) →
     i ≡ count → with_front front (many_at one (count - i) words) ≡ whole → whole ≡ Some (front, words)
 many-done one front count i words whole at_end kept =
     let none : count - i ≡ 0 = omega arith in

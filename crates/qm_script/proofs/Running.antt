@@ -5,7 +5,7 @@ use Rattle.std.proofs.lemmas.Bool.{false≢true}
 use Rattle.std.specs.Io.BufRead.{drop_through, first_line}
 use Rattle.std.specs.Io.KnownBytes.{Appends, Keeps}
 use Rattle.qm_script.specs.Lines.{pending}
-use Rattle.qm_script.specs.Runs.{AnswersLine, AnswersLines, IsRun, Output, both, output, script_lines}
+use Rattle.qm_script.specs.Runs.{AnswersLine, AnswersLines, RunsTo, Output, both, output, script_lines}
 use Rattle.qm_script.specs.State.{State, start_state}
 use Rattle.qm_script.specs.declared.lines.Lines.{Lines}
 use Rattle.qm_script.proofs.ScriptLines.{script_lines-first}
@@ -93,7 +93,7 @@ none_left [] h = refl
 none_left (b ∷ left) h = absurd (false≢true (h.1 (omega arith)))
 
 pub run-ended : {now : State} {bytes : List ℕ} {number status : ℕ} {known old new : Option (List ℕ)} →
-    IfSome known (λ b. (false ≡ true) ↔ (0 < length b)) → IsUnderWay start_state bytes now number known status old new → IsRun bytes status old new
+    IfSome known (λ b. (false ≡ true) ↔ (0 < length b)) → IsUnderWay start_state bytes now number known status old new → RunsTo bytes status old new
 run-ended {now = now} {bytes = bytes} {number = number} {status = status} {known = known} ended w =
     let none : w.left ≡ [] = none_left w.left (of_known (λ b. (false ≡ true) ↔ (0 < length b)) known w.left w.to_come ended) in
     let all = w.answered (output [] 0) (subst (λ l. AnswersLines now number (script_lines l) (output [] 0)) (sym none) refl) in

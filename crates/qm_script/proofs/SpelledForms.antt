@@ -2,8 +2,8 @@
 use Rattle.std.proofs.Common.{◌≡◌, ◌∙◌, ℕ, Vec, String, map, subst, sym}
 use Rattle.std.specs.Global.{Global}
 use Rattle.qm_schema.specs.declared.occur.Occur.{Occur}
-use Rattle.qm_script.specs.Script.{boolean, clauses_of, disjunction_max, phrase, queries_of, Query}
-use Rattle.qm_script.specs.Spelled.{clause_of, layer_of, query_of, texts}
+use Rattle.qm_script.specs.Script.{boolean, as_clauses, disjunction_max, phrase, queries_of, Query}
+use Rattle.qm_script.specs.Spelled.{spelled_clause, layer_of, query_of, texts}
 use Rattle.qm_script.specs.declared.spelled_query.SpelledQuery.{SpelledQuery}
 use Rattle.qm_script.specs.declared.spelled_query.SpelledQuery.TheFolds.{fold-roll-SpelledQuery, fold_out-SpelledQuery}
 use Rattle.qm_script.specs.declared.spelled_query.SpelledQuery.TheOpen as open_query
@@ -19,7 +19,7 @@ pub query_of-phrase : (q : SpelledQuery) (slop : ℕ) (words : Vec (String Globa
 query_of-phrase q slop words is = rolled q (open_query.Phrase slop words) is ∙ fold-roll-SpelledQuery Query layer_of (open_query.Phrase slop words)
 
 pub query_of-boolean : (q : SpelledQuery) (minimum : ℕ) (clauses : Vec (Occur × SpelledQuery) Global) →
-    out-SpelledQuery q ≡ open_query.Boolean minimum clauses → query_of q ≡ boolean minimum (clauses_of (map clause_of clauses.items))
+    out-SpelledQuery q ≡ open_query.Boolean minimum clauses → query_of q ≡ boolean minimum (as_clauses (map spelled_clause clauses.items))
 query_of-boolean q minimum clauses is = rolled q (open_query.Boolean minimum clauses) is
     ∙ fold-roll-SpelledQuery Query layer_of (open_query.Boolean minimum clauses)
 

@@ -13,7 +13,7 @@ use Rattle.qm_script.specs.Script as language
 use Rattle.qm_index.specs.Indexed.{Deletes, all_segments, with_segment_ended}
 use Rattle.qm_script.specs.ScriptSegments.{Script, with_document_of}
 use Rattle.qm_script.specs.Spelled.{query_of}
-use Rattle.qm_script.specs.State.{State, with_documents, with_weight}
+use Rattle.qm_script.specs.State.{State, with_documents, with_word_weight}
 use Rattle.qm_script.specs.Text.{listing_text}
 use Rattle.qm_script.specs.TextSegments.{IsTextRefusal}
 use Rattle.qm_script.specs.Under.{IsForDocuments, IsForScores, IsScoreRefusal, IsWithinBest, IsWithinScores}
@@ -140,7 +140,7 @@ abbrev pub Step : State → Option Command → Answer → List ℕ → State →
 Step s None answer text t = (answer ≡ NotUnderstood) × (t ≡ s)
 Step s (Some Nothing) answer text t = (answer ≡ Silence) × (t ≡ s)
 Step s (Some (AddDocument words)) answer text t = AddsDocument (string_bytes words) s answer t
-Step s (Some (SetWeight word weight)) answer text t = (answer ≡ Silence) × (t ≡ with_weight s (string_bytes word) (nat_abs weight.score))
+Step s (Some (SetWeight word weight)) answer text t = (answer ≡ Silence) × (t ≡ with_word_weight s (string_bytes word) (nat_abs weight.score))
 Step s (Some EndSegment) answer text t = EndsSegment s answer t
 Step s (Some (DeleteDocument number)) answer text t = DeletesDocument number s answer t
 Step s (Some (Ask question q)) answer text t = AnswersQuestion question (query_of q) s answer text × (t ≡ s)

@@ -6,5 +6,5 @@ use Rattle.qm_weight.specs.Counts as one
 use Rattle.qm_weight.specs.Tree.{Tree}
 
 -- how many documents of some segments it matches that weren't deleted
-abbrev pub alive_count : Tree → List Segment → ℕ
-alive_count tree segments = sum_by (λ s. one.alive_count tree s) segments
+abbrev pub alive_in_all : Tree → List Segment → ℕ
+alive_in_all tree segments = sum_by (λ s. one.alive_count tree s) segments

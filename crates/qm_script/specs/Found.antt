@@ -9,7 +9,7 @@ use Rattle.qm_query.specs.Query.{Query}
 use Rattle.qm_query.specs.declared.enable_scoring.EnableScoring.{EnableScoring}
 use Rattle.qm_script.specs.AllSegments.{all_listed}
 use Rattle.qm_script.specs.BestListed.{alive_numbers, best_listed}
-use Rattle.qm_script.specs.Counts.{alive_count}
+use Rattle.qm_script.specs.Counts.{alive_in_all}
 use Rattle.qm_script.specs.Parts.{document_count}
 use Rattle.qm_script.specs.Pruned.{all_pruned, parts_pruned}
 use Rattle.qm_script.specs.Under.{tree_of}
@@ -34,7 +34,7 @@ found_best count enable query segments = best_listed count (tree_of enable query
 
 -- how many match that weren't deleted
 abbrev pub found_alive : EnableScoring Searched → Query → List Segment → ℕ
-found_alive enable query segments = alive_count (tree_of enable query) segments
+found_alive enable query segments = alive_in_all (tree_of enable query) segments
 
 -- the numbers of these, ascending, from a number on
 abbrev pub found_from : ℕ → EnableScoring Searched → Query → List Segment → List ℕ

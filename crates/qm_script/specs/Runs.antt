@@ -60,5 +60,5 @@ abbrev pub Answers : List ℕ → List ℕ → ℕ → Type 0
 Answers bytes text status = AnswersLines start_state 1 (script_lines bytes) (output text status)
 
 -- What a run of these bytes came to: this status, and what the writer held before and holds after it.
-abbrev pub IsRun : List ℕ → ℕ → Option (List ℕ) → Option (List ℕ) → Type 0
-IsRun bytes status before after = (text : List ℕ) × Answers bytes text status × Appends before after text
+abbrev pub RunsTo : List ℕ → ℕ → Option (List ℕ) → Option (List ℕ) → Type 0
+RunsTo bytes status before after = (text : List ℕ) × Answers bytes text status × Appends before after text

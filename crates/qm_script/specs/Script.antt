@@ -48,8 +48,8 @@ number_below limit word =
     if nat_lt 0 (length word) && (all_ascii_digits word && nat_lt (digits_value 10 word) limit) then Some (digits_value 10 word) else None
 
 -- a number up to 4294967295, and up to 9223372036854775807
-unfoldable pub count_at : List (List ℕ) → Option (ℕ × List (List ℕ))
-count_at words = do
+unfoldable pub count_word_at : List (List ℕ) → Option (ℕ × List (List ℕ))
+count_word_at words = do
   w ← word_at words
   n ← number_below (2 ^ 32) w.0
   Some (n, w.1)
@@ -81,11 +81,11 @@ threshold_at words = do
   Some (threshold, w.1)
 
 -- What reads something from the front of some words, and leaves the words behind it.
-abbrev pub Reader : Type 0 → Type 0
-Reader X = List (List ℕ) → Option (X × List (List ℕ))
+abbrev pub WordsReader : Type 0 → Type 0
+WordsReader X = List (List ℕ) → Option (X × List (List ℕ))
 
 -- so many, one behind another
-unfoldable pub many_at : {X : Type 0} → Reader X → ℕ → Reader (List X)
+unfoldable pub many_at : {X : Type 0} → WordsReader X → ℕ → WordsReader (List X)
 many_at one zero words = Some ([], words)
 many_at one (suc count) words = do
   x ← one words
@@ -119,9 +119,9 @@ mutual
     no_query : Queries
     query : Query → Queries → Queries
 
-abbrev pub clauses_of : List (Occur × Query) → Clauses
-clauses_of [] = no_clause
-clauses_of (c ∷ cs) = clause c.0 c.1 (clauses_of cs)
+abbrev pub as_clauses : List (Occur × Query) → Clauses
+as_clauses [] = no_clause
+as_clauses (c ∷ cs) = clause c.0 c.1 (as_clauses cs)
 
 abbrev pub clause_list : Clauses → List (Occur × Query)
 clause_list no_clause = []
@@ -155,24 +155,24 @@ occur_named w =
 
 -- ---- what stands at the front of some words, and the words behind it
 
-unfoldable pub term_at : List (List ℕ) → Option (Query × List (List ℕ))
-term_at words = do
+unfoldable pub term_query_at : List (List ℕ) → Option (Query × List (List ℕ))
+term_query_at words = do
   w ← word_at words
   Some (term w.0, w.1)
 
 -- the slop, how many words, and the words
 unfoldable pub phrase_at : List (List ℕ) → Option (Query × List (List ℕ))
 phrase_at words = do
-  slop ← count_at words
-  count ← count_at slop.1
+  slop ← count_word_at words
+  count ← count_word_at slop.1
   ws ← many_at word_at count.0 count.1
   Some (phrase slop.0 ws.0, ws.1)
 
 -- the most expansions, how many words, and the words
 unfoldable pub phrase_prefix_at : List (List ℕ) → Option (Query × List (List ℕ))
 phrase_prefix_at words = do
-  most ← count_at words
-  count ← count_at most.1
+  most ← count_word_at words
+  count ← count_word_at most.1
   ws ← many_at word_at count.0 count.1
   Some (phrase_prefix most.0 ws.0, ws.1)
 
@@ -183,10 +183,10 @@ sign_at words = do
   Some (occur, w.1)
 
 abbrev pub QueryReader : Type 0
-QueryReader = Reader Query
+QueryReader = WordsReader Query
 
 -- a clause: its sign, and its query
-unfoldable pub clause_at : QueryReader → Reader (Occur × Query)
+unfoldable pub clause_at : QueryReader → WordsReader (Occur × Query)
 clause_at inner words = do
   occur ← sign_at words
   q ← inner occur.1
@@ -195,10 +195,10 @@ clause_at inner words = do
 -- the minimum, how many clauses, and the clauses
 unfoldable pub boolean_at : QueryReader → QueryReader
 boolean_at inner words = do
-  minimum ← count_at words
-  count ← count_at minimum.1
+  minimum ← count_word_at words
+  count ← count_word_at minimum.1
   clauses ← many_at (clause_at inner) count.0 count.1
-  Some (boolean minimum.0 (clauses_of clauses.0), clauses.1)
+  Some (boolean minimum.0 (as_clauses clauses.0), clauses.1)
 
 unfoldable pub boost_at : QueryReader → QueryReader
 boost_at inner words = do
@@ -215,8 +215,8 @@ constant_at inner words = do
 -- the tie breaker, how many queries, and the queries
 unfoldable pub disjunction_max_at : QueryReader → QueryReader
 disjunction_max_at inner words = do
-  tie_breaker ← count_at words
-  count ← count_at tie_breaker.1
+  tie_breaker ← count_word_at words
+  count ← count_word_at tie_breaker.1
   queries ← many_at inner count.0 count.1
   Some (disjunction_max tie_breaker.0 (queries_of queries.0), queries.1)
 
@@ -224,7 +224,7 @@ disjunction_max_at inner words = do
 unfoldable pub behind_form : QueryReader → QueryForm → QueryReader
 behind_form inner All words = Some (all, words)
 behind_form inner Empty words = Some (none, words)
-behind_form inner Term words = term_at words
+behind_form inner Term words = term_query_at words
 behind_form inner Phrase words = phrase_at words
 behind_form inner PhrasePrefix words = phrase_prefix_at words
 behind_form inner Boolean words = boolean_at inner words
@@ -295,7 +295,7 @@ prune_at words = do
 
 unfoldable pub top_at : List (List ℕ) → Option Request
 top_at words = do
-  count ← count_at words
+  count ← count_word_at words
   q ← whole_query count.1
   Some (list_best count.0 q)
 

@@ -2,7 +2,7 @@
 use Rattle.std.specs.Prelude.{◌≡◌, ℕ, List, Option, None, Some, Result, Ok, Err, map, String, string_bytes}
 use Rattle.std.specs.Box.{box_value}
 use Rattle.std.specs.Global.{Global}
-use Rattle.qm_script.specs.Script.{Query, all, none, term, phrase, phrase_prefix, boolean, boost, constant, disjunction_max, clauses_of, queries_of}
+use Rattle.qm_script.specs.Script.{Query, all, none, term, phrase, phrase_prefix, boolean, boost, constant, disjunction_max, as_clauses, queries_of}
 use Rattle.qm_schema.specs.declared.occur.Occur.{Occur}
 use Rattle.qm_script.specs.declared.spelled_query.SpelledQuery.{SpelledQuery}
 use Rattle.qm_script.specs.declared.spelled_query.SpelledQuery.TheOpen.{SpelledQuery-F}
@@ -22,7 +22,7 @@ layer_of open_query.Empty = none
 layer_of (open_query.Term word) = term (string_bytes word)
 layer_of (open_query.Phrase slop words) = phrase slop (texts words.items)
 layer_of (open_query.PhrasePrefix most words) = phrase_prefix most (texts words.items)
-layer_of (open_query.Boolean minimum clauses) = boolean minimum (clauses_of clauses.items)
+layer_of (open_query.Boolean minimum clauses) = boolean minimum (as_clauses clauses.items)
 layer_of (open_query.Boost factor q) = boost factor.score (box_value q)
 layer_of (open_query.Const score q) = constant score.score (box_value q)
 layer_of (open_query.DisjunctionMax tie_breaker queries) = disjunction_max tie_breaker (queries_of queries.items)
@@ -30,8 +30,8 @@ layer_of (open_query.DisjunctionMax tie_breaker queries) = disjunction_max tie_b
 abbrev pub query_of : SpelledQuery → Query
 query_of = fold-SpelledQuery Query layer_of
 
-abbrev pub clause_of : Occur × SpelledQuery → Occur × Query
-clause_of c = (c.0, query_of c.1)
+abbrev pub spelled_clause : Occur × SpelledQuery → Occur × Query
+spelled_clause c = (c.0, query_of c.1)
 
 -- What a reader of words answered, where it left these words: what the language reads, unless memory
 -- ran out.

@@ -81,9 +81,9 @@ abbrev pub IsDocumentNumber : ℕ → Type 0
 IsDocumentNumber n = n < 2 ^ 64
 
 -- a threshold, from -2 ^ 63 on
-abbrev pub IsThreshold : ℤ → Type 0
-IsThreshold (pos n) = n < 2 ^ 63
-IsThreshold (negsuc n) = n < 2 ^ 63
+abbrev pub IsSpelledThreshold : ℤ → Type 0
+IsSpelledThreshold (pos n) = n < 2 ^ 63
+IsSpelledThreshold (negsuc n) = n < 2 ^ 63
 
 -- a word of a line: it isn't empty, and no space or tab is in it
 pub record IsLineWord (word : List ℕ) : Type 0 where
@@ -147,7 +147,7 @@ IsAskable (delete_document number) = IsDocumentNumber number
 IsAskable (list_documents q) = CanBeAsked q
 IsAskable (list_scores q) = CanBeAsked q
 IsAskable (count_matches q) = CanBeAsked q
-IsAskable (list_above threshold q) = IsThreshold threshold × CanBeAsked q
+IsAskable (list_above threshold q) = IsSpelledThreshold threshold × CanBeAsked q
 IsAskable (list_best count q) = IsCount count × CanBeAsked q
 
 -- a line that spells a request

@@ -3,7 +3,7 @@ use Rattle.std.specs.Prelude.{ℕ, List}
 use Rattle.std.specs.FinMap.{FinMap, empty, insert}
 use Rattle.qm_schema.specs.Term.{term_cmp}
 use Rattle.qm_index.specs.Indexed.{statistics}
-use Rattle.qm_script.specs.Asked.{term_of}
+use Rattle.qm_script.specs.Asked.{term_of_word}
 use Rattle.qm_script.specs.ScriptSegments.{Script, script}
 use Rattle.qm_script.specs.Start.{start_script}
 use Rattle.qm_script.specs.declared.corpus.Corpus.{Corpus}
@@ -27,5 +27,5 @@ abbrev pub with_documents : State → Script → State
 with_documents s documents = record { documents = documents; weights = s.weights }
 
 -- a word weighs so much from now on
-abbrev pub with_weight : State → List ℕ → ℕ → State
-with_weight s word weight = record { documents = s.documents; weights = insert s.weights (term_of word) weight }
+abbrev pub with_word_weight : State → List ℕ → ℕ → State
+with_word_weight s word weight = record { documents = s.documents; weights = insert s.weights (term_of_word word) weight }

@@ -3,8 +3,8 @@
 ghost use Rattle.std.specs.Prelude.{◌≡◌, map};
 ghost use Rattle.qm_script.specs.Cursor.{words_left};
 ghost use Rattle.qm_script.specs.Script.{behind_form, boolean_at, boost_at, clause_at, constant_at, disjunction_max_at, form_at, many_at, phrase_at};
-ghost use Rattle.qm_script.specs.Script.{phrase_prefix_at, query_at, term_at};
-ghost use Rattle.qm_script.specs.Spelled.{Reads, clause_of, query_of};
+ghost use Rattle.qm_script.specs.Script.{phrase_prefix_at, query_at, term_query_at};
+ghost use Rattle.qm_script.specs.Spelled.{Reads, spelled_clause, query_of};
 
 use crate::form::{QueryForm, query_form};
 use crate::spelled_query::SpelledQuery;
@@ -64,9 +64,9 @@ fn read_behind_form(
     }
 }
 
-#[tactic(auto, unfolding(crate::specs::Script::term_at))]
+#[tactic(auto, unfolding(crate::specs::Script::term_query_at))]
 fn read_term(alloc: Global, words: &mut Words<'_>) -> Result<SpelledQuery, Unparsed>
-    ensures { Reads query_of result (words_left words.new) (term_at (words_left words.old)) }
+    ensures { Reads query_of result (words_left words.new) (term_query_at (words_left words.old)) }
 {
     Ok(SpelledQuery::Term(words.text(alloc)?))
 }
@@ -113,7 +113,7 @@ fn read_clauses(
     depth: u32,
     count: u32,
 ) -> Result<Vec<(Occur, SpelledQuery)>, Unparsed>
-    ensures { Reads (λ v. map clause_of v.items) result (words_left words.new) (many_at (clause_at (query_at depth)) count (words_left words.old)) }
+    ensures { Reads (λ v. map spelled_clause v.items) result (words_left words.new) (many_at (clause_at (query_at depth)) count (words_left words.old)) }
 {
     let mut clauses = Vec::new(alloc);
     // the clauses before this one are read
@@ -131,7 +131,7 @@ fn read_clause(
     words: &mut Words<'_>,
     depth: u32,
 ) -> Result<(Occur, SpelledQuery), Unparsed>
-    ensures { Reads clause_of result (words_left words.new) (clause_at (query_at depth) (words_left words.old)) }
+    ensures { Reads spelled_clause result (words_left words.new) (clause_at (query_at depth) (words_left words.old)) }
 {
     let occur = words.sign()?;
     let query = read_query(alloc, words, depth)?;

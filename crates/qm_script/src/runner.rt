@@ -5,7 +5,7 @@
 ghost use Rattle.std.specs.Prelude.{◌≤◌, IfOk, IfSome, OnOk, string_bytes};
 ghost use Rattle.std.specs.Io.Buffered.{writer_contents};
 ghost use Rattle.std.specs.Io.KnownBytes.{Appends, Keeps};
-ghost use Rattle.qm_script.specs.Runs.{AnswersLine, IsReadAs, IsRun, output};
+ghost use Rattle.qm_script.specs.Runs.{AnswersLine, IsReadAs, RunsTo, output};
 ghost use Rattle.qm_script.specs.State.{state};
 
 mod in_memory;
@@ -59,7 +59,7 @@ pub fn run_buffered<R: Read, W: Write + Drop>(
     output: W,
 ) -> Result<(u8, W), RunError>
     ensures answers { IfSome (R.remaining input.old)
-        (λ bytes. IfOk result (λ ended. IsRun bytes ended.0 (W.contents output) (W.contents ended.1))) }
+        (λ bytes. IfOk result (λ ended. RunsTo bytes ended.0 (W.contents output) (W.contents ended.1))) }
     ensures status { IfOk result (λ ended. ended.0 ≤ 2) }
 {
     let Ok(mut buffer) = BufWriter::new(alloc, output) else {
@@ -108,7 +108,7 @@ fn drop_unwritten<W: Write + Drop>(buffer: BufWriter<W>) {
 /// `Write` nothing more is written, and what was written since the last flush may be anywhere.
 pub fn run<R: Read, W: Write>(alloc: Global, input: &mut R, output: &mut W) -> Result<u8, RunError>
     ensures answers { IfSome (R.remaining input.old)
-        (λ bytes. IfOk result (λ status. IsRun bytes status (W.contents output.old) (W.contents output.new))) }
+        (λ bytes. IfOk result (λ status. RunsTo bytes status (W.contents output.old) (W.contents output.new))) }
     ensures status { IfOk result (λ status. status ≤ 2) }
 {
     match answer_lines(alloc, input, output) {
@@ -129,7 +129,7 @@ fn answer_lines<R: Read, W: Write>(
     output: &mut W,
 ) -> Result<u8, RunError>
     ensures answers { IfSome (R.remaining input.old)
-        (λ bytes. IfOk result (λ status. IsRun bytes status (W.contents output.old) (W.contents output.new))) }
+        (λ bytes. IfOk result (λ status. RunsTo bytes status (W.contents output.old) (W.contents output.new))) }
     ensures status { IfOk result (λ status. status ≤ 2) }
 {
     let mut lines = Lines::new();

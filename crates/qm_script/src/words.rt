@@ -37,7 +37,7 @@ pub(crate) struct Words<'a> {
 
 impl<'a> Words<'a> {
     ghost use Rattle.qm_script.specs.Cursor.{words_left};
-    ghost use Rattle.qm_script.specs.Script.{AreWords, count_at, document_at, score_at, sign_at, many_at, threshold_at, whole, word_at};
+    ghost use Rattle.qm_script.specs.Script.{AreWords, count_word_at, document_at, score_at, sign_at, many_at, threshold_at, whole, word_at};
     ghost use Rattle.qm_postings.specs.Document.{words_of};
     ghost use Rattle.qm_script.specs.Spelled.{Gives, Reads, texts};
 
@@ -62,9 +62,9 @@ impl<'a> Words<'a> {
     }
 
     /// A number up to 4294967295.
-    #[tactic(auto, unfolding(crate::specs::Script::count_at))]
+    #[tactic(auto, unfolding(crate::specs::Script::count_word_at))]
     pub(crate) fn count(&mut self) -> Result<u32, Unparsed>
-        ensures { Reads (λ n. n) result (words_left self.new) (count_at (words_left self.old)) }
+        ensures { Reads (λ n. n) result (words_left self.new) (count_word_at (words_left self.old)) }
     {
         match parse_count(self.word()?) {
             Some(count) => Ok(count),

@@ -17,7 +17,7 @@ use Rattle.qm_postings.specs.declared.segment_postings.SegmentPostings.{SegmentP
 use Rattle.qm_schema.specs.Term.{TermKey}
 use Rattle.qm_schema.specs.declared.schema.option.IndexRecordOption.TheVariants.{WithFreqsAndPositions}
 use Rattle.qm_scorer.specs.Tree.{postings_cursors}
-use Rattle.qm_weight.specs.SharedTerms.{AreNumbered, IsNumberOf}
+use Rattle.qm_weight.specs.SharedTerms.{AreTermNumbers, IsTermNumber}
 
 weaker : (P Q : ℕ → Type 0) (o : Option ℕ) → ((k : ℕ) → P k → Q k) → IfSome o P → IfSome o Q
 weaker P Q None imp h = h
@@ -32,40 +32,40 @@ is_next P None number next within h is reached = is
 is_next P (Some k) number next within h is reached = absurd (omega (arith, within k h, is, reached))
 
 module _ {S : Type 0} (eq : TermInfo → TermInfo → Bool) (reader : Reader) (given : PhraseTerms SegmentPostings) (numbers : HashMap TermInfo ℕ S)
-    (numbered : AreNumbered eq reader given numbers) (info : TermInfo) (number next : ℕ) (is : number ≡ unwrap_or (get eq numbers info) next) where
+    (numbered : AreTermNumbers eq reader given numbers) (info : TermInfo) (number next : ℕ) (is : number ≡ unwrap_or (get eq numbers info) next) where
   -- a number before the next is that of postings which are there
-  pub number-known : number < next → IsNumberOf reader given info number
-  number-known below = found (IsNumberOf reader given info) (get eq numbers info) number next (numbered info) is below
+  pub number-known : number < next → IsTermNumber reader given info number
+  number-known below = found (IsTermNumber reader given info) (get eq numbers info) number next (numbered info) is below
 
   -- and else it is the next
   pub number-next : next ≡ length (members_of given) → next ≤ number → number ≡ next
-  number-next long reached = is_next (IsNumberOf reader given info) (get eq numbers info) number next
+  number-next long reached = is_next (IsTermNumber reader given info) (get eq numbers info) number next
       (λ k h. let within = h.within in omega (arith, within, long)) (numbered info) is reached
 
 -- the numbers in the map stay those of their terms
-pub AreNumbered-more : {S : Type 0} (eq : TermInfo → TermInfo → Bool) → ((a b : TermInfo) → eq a b ≡ true → a.ordinal ≡ b.ordinal) →
+pub AreTermNumbers-more : {S : Type 0} (eq : TermInfo → TermInfo → Bool) → ((a b : TermInfo) → eq a b ≡ true → a.ordinal ≡ b.ordinal) →
     (reader : Reader) (given more : PhraseTerms SegmentPostings) (old new : HashMap TermInfo ℕ S) (info : TermInfo) (number : ℕ) →
-    AreNumbered eq reader given old → Updates eq old new info (Some number) → IsNumberOf reader more info number →
-    ((q : TermInfo) (k : ℕ) → IsNumberOf reader given q k → IsNumberOf reader more q k) → AreNumbered eq reader more new
-AreNumbered-more eq law reader given more old new info number numbered kept own others q =
+    AreTermNumbers eq reader given old → Updates eq old new info (Some number) → IsTermNumber reader more info number →
+    ((q : TermInfo) (k : ℕ) → IsTermNumber reader given q k → IsTermNumber reader more q k) → AreTermNumbers eq reader more new
+AreTermNumbers-more eq law reader given more old new info number numbered kept own others q =
     elim (cases_Bool (eq info q)) [
       | inl same ↦
           let level = law info q same in
           let here : get eq new q ≡ Some number = kept.0 q ∙ (rw same refl) in
-          subst (λ o. IfSome o (IsNumberOf reader more q)) (sym here) (record {
+          subst (λ o. IfSome o (IsTermNumber reader more q)) (sym here) (record {
             within = own.within;
             entries = λ t place. own.entries t (ap (slice_get reader.terms) level ∙ place);
           })
       | inr other ↦
           let here : get eq new q ≡ get eq old q = kept.0 q ∙ (rw other refl) in
-          subst (λ o. IfSome o (IsNumberOf reader more q)) (sym here)
-          (weaker (IsNumberOf reader given q) (IsNumberOf reader more q) (get eq old q) (others q) (numbered q))
+          subst (λ o. IfSome o (IsTermNumber reader more q)) (sym here)
+          (weaker (IsTermNumber reader given q) (IsTermNumber reader more q) (get eq old q) (others q) (numbered q))
     ]
 
 module _ (reader : Reader) (given more : PhraseTerms SegmentPostings) where
   -- the same members
-  pub IsNumberOf-same : members_of more ≡ members_of given → (q : TermInfo) (k : ℕ) → IsNumberOf reader given q k → IsNumberOf reader more q k
-  IsNumberOf-same same q k h = record {
+  pub IsTermNumber-same : members_of more ≡ members_of given → (q : TermInfo) (k : ℕ) → IsTermNumber reader given q k → IsTermNumber reader more q k
+  IsTermNumber-same same q k h = record {
     within = omega (arith, h.within, ap length same);
     entries = λ t place. ap (λ ms. get_or (lists postings_cursors ms) k []) same ∙ h.entries t place;
   }
@@ -77,8 +77,8 @@ module _ (reader : Reader) (given more : PhraseTerms SegmentPostings) where
     at_more k = ap (λ ms. get_or (lists postings_cursors ms) k []) longer
         ∙ ap (λ r. get_or r k []) (map-append postings_left (members_of given) (p ∷ []))
 
-    pub IsNumberOf-longer : (q : TermInfo) (k : ℕ) → IsNumberOf reader given q k → IsNumberOf reader more q k
-    IsNumberOf-longer q k h =
+    pub IsTermNumber-longer : (q : TermInfo) (k : ℕ) → IsTermNumber reader given q k → IsTermNumber reader more q k
+    IsTermNumber-longer q k h =
         let long = length-map (members_of given) postings_left in
         record {
           within = omega (arith, h.within, ap length longer, length-append (members_of given) (p ∷ []));
@@ -86,9 +86,9 @@ module _ (reader : Reader) (given more : PhraseTerms SegmentPostings) where
               (omega (arith, h.within, long)) ∙ h.entries t place;
         }
 
-    pub IsNumberOf-last : (info : TermInfo) (t : TermKey) (number : ℕ) → number ≡ length (members_of given) → slice_get reader.terms info.ordinal ≡ Some t →
-        postings_left p ≡ postings_of reader.segment WithFreqsAndPositions t → IsNumberOf reader more info number
-    IsNumberOf-last info t number is place entries =
+    pub IsTermNumber-last : (info : TermInfo) (t : TermKey) (number : ℕ) → number ≡ length (members_of given) → slice_get reader.terms info.ordinal ≡ Some t →
+        postings_left p ≡ postings_of reader.segment WithFreqsAndPositions t → IsTermNumber reader more info number
+    IsTermNumber-last info t number is place entries =
         let xs = lists postings_cursors (members_of given) in
         let long : number ≡ length xs = is ∙ sym (length-map (members_of given) postings_left) in
         record {

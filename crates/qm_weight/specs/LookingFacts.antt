@@ -15,18 +15,18 @@ use Rattle.qm_term.specs.Bm25.{Weighing, bm25, boosted_by}
 use Rattle.qm_weight.specs.Looking.{AreAlike, HaveAlikeLengths, IsAlike, LooksAlike, StandAlike, StandsAlike}
 use Rattle.qm_weight.specs.Tree.{Tree, Clauses, Placed, all, none, term, phrase, phrase_prefix, boolean, boost, constant, clause, no_clause, boolean_matches}
 use Rattle.qm_weight.specs.Tree.{clause_matches, clause_scores, combined, common_places, expansions, field_of, followed, full_places, greatest_offset, list, matches}
-use Rattle.qm_weight.specs.Tree.{matching, occurs_as, phrase_count, places, prefix_matches, prefix_score, score, weighed}
+use Rattle.qm_weight.specs.Tree.{matching, occurs_as, phrase_count, term_places, prefix_matches, prefix_score, score, weighed_score}
 
 module _ (s : Segment) (d : ℕ) (u : Segment) (e : ℕ) where
   -- ---- phrases
 
-  places-alike : (greatest : ℕ) (t : Placed) → StandsAlike s d u e t.term → places s d greatest t ≡ places u e greatest t
-  places-alike greatest t alike = ap (shifted (greatest - t.offset)) alike
+  term_places-alike : (greatest : ℕ) (t : Placed) → StandsAlike s d u e t.term → term_places s d greatest t ≡ term_places u e greatest t
+  term_places-alike greatest t alike = ap (shifted (greatest - t.offset)) alike
 
-  all_places-alike : (greatest : ℕ) (terms : List Placed) → StandAlike s d u e terms → map (places s d greatest) terms ≡ map (places u e greatest) terms
+  all_places-alike : (greatest : ℕ) (terms : List Placed) → StandAlike s d u e terms → map (term_places s d greatest) terms ≡ map (term_places u e greatest) terms
   all_places-alike greatest [] alike = refl
   all_places-alike greatest (t ∷ terms) alike =
-      let here = places-alike greatest t (All-head (λ (t : Placed). StandsAlike s d u e t.term) t terms alike) in
+      let here = term_places-alike greatest t (All-head (λ (t : Placed). StandsAlike s d u e t.term) t terms alike) in
       let others = all_places-alike greatest terms (All-tail (λ (t : Placed). StandsAlike s d u e t.term) t terms alike) in
       λ i. here i ∷ others i
 
@@ -41,7 +41,7 @@ module _ (s : Segment) (d : ℕ) (u : Segment) (e : ℕ) where
   followed-alike : (full : List Placed) (prefix : Placed) (x : TermKey) → StandAlike s d u e full → StandsAlike s d u e x →
       followed s full prefix d x ≡ followed u full prefix e x
   followed-alike full prefix x alike own =
-      let here = places-alike (greatest_offset (prefix ∷ full)) (record prefix { term = x }) own in
+      let here = term_places-alike (greatest_offset (prefix ∷ full)) (record prefix { term = x }) own in
       λ i. count_by (λ y. is_in y (here i)) (full_places-alike full prefix alike i)
 
   all_followed-alike : (full : List Placed) (prefix : Placed) (xs : List TermKey) → StandAlike s d u e full → All (StandsAlike s d u e) xs →
@@ -99,9 +99,9 @@ module _ (s : Segment) (d : ℕ) (u : Segment) (e : ℕ) where
         λ i. if occurs_as wanted occur then here i ∷ others i else others i
 
   module _ (lengths : HaveAlikeLengths s d u e) where
-    weighed-alike : (weight : Option Weighing) (b field n m : ℕ) → n ≡ m → weighed s weight b field d n ≡ weighed u weight b field e m
-    weighed-alike None b field n m same = refl
-    weighed-alike (Some weight) b field n m same = λ i. bm25 (boosted_by b weight) (lengths field i) (same i)
+    weighed_score-alike : (weight : Option Weighing) (b field n m : ℕ) → n ≡ m → weighed_score s weight b field d n ≡ weighed_score u weight b field e m
+    weighed_score-alike None b field n m same = refl
+    weighed_score-alike (Some weight) b field n m same = λ i. bm25 (boosted_by b weight) (lengths field i) (same i)
 
     prefix_score-alike : (full : List Placed) (prefix : Placed) (weight : Option Weighing) (b : ℕ) → StandAlike s d u e full →
         prefix_score s full prefix weight b d ≡ prefix_score u full prefix weight b e
@@ -109,14 +109,14 @@ module _ (s : Segment) (d : ℕ) (u : Segment) (e : ℕ) where
     prefix_score-alike (t ∷ []) prefix None b alike = refl
     prefix_score-alike (t ∷ []) prefix (Some weight) b alike = refl
     prefix_score-alike (t ∷ v ∷ full) prefix weight b alike =
-        weighed-alike weight b t.term.field _ _ (ap length (full_places-alike (t ∷ v ∷ full) prefix alike))
+        weighed_score-alike weight b t.term.field _ _ (ap length (full_places-alike (t ∷ v ∷ full) prefix alike))
 
     mutual
       pub score-alike : (tree : Tree) (b : ℕ) → IsAlike s d u e tree → score tree b s d ≡ score tree b u e
       score-alike all b alike = refl
       score-alike none b alike = refl
-      score-alike (term t option weight) b alike = weighed-alike weight b t.field _ _ (alike.often option)
-      score-alike (phrase terms slop weight) b alike = weighed-alike weight b (field_of terms) _ _ (phrase_count-alike terms slop alike)
+      score-alike (term t option weight) b alike = weighed_score-alike weight b t.field _ _ (alike.often option)
+      score-alike (phrase terms slop weight) b alike = weighed_score-alike weight b (field_of terms) _ _ (phrase_count-alike terms slop alike)
       score-alike (phrase_prefix full prefix most weight) b alike = prefix_score-alike full prefix weight b alike.0
       score-alike (boolean scoring minimum combiner clauses) b alike =
           let must = clause_scores-alike clauses Must b alike in

@@ -13,11 +13,11 @@ use Rattle.qm_schema.specs.declared.schema.option.IndexRecordOption.TheVariants.
 use Rattle.qm_scorer.specs.Tree.{postings_cursors}
 
 -- the postings of this number are those of the term that an info is of
-pub record IsNumberOf (reader : Reader) (given : PhraseTerms SegmentPostings) (info : TermInfo) (number : ℕ) : Type 0 where
+pub record IsTermNumber (reader : Reader) (given : PhraseTerms SegmentPostings) (info : TermInfo) (number : ℕ) : Type 0 where
   pub within : number < length (members_of given)
   pub entries : (t : TermKey) → slice_get reader.terms info.ordinal ≡ Some t →
       slice_index_or (lists postings_cursors (members_of given)) number [] ≡ postings_of reader.segment WithFreqsAndPositions t
 
 -- so is each number in a map
-abbrev pub AreNumbered : {S : Type 0} → (TermInfo → TermInfo → Bool) → Reader → PhraseTerms SegmentPostings → HashMap TermInfo ℕ S → Type 0
-AreNumbered eq reader given numbers = (info : TermInfo) → IfSome (get eq numbers info) (IsNumberOf reader given info)
+abbrev pub AreTermNumbers : {S : Type 0} → (TermInfo → TermInfo → Bool) → Reader → PhraseTerms SegmentPostings → HashMap TermInfo ℕ S → Type 0
+AreTermNumbers eq reader given numbers = (info : TermInfo) → IfSome (get eq numbers info) (IsTermNumber reader given info)

@@ -25,15 +25,15 @@ abbrev pub clauses_in : TermsWeight → Clauses
 clauses_in w = term_clauses w.rule.scoring_enabled w.norms w.clauses.items
 
 -- a clause by the norms of its weight
-abbrev pub clause_of : TermsWeight → TermClause → Tree
-clause_of w c = clause_tree w.rule.scoring_enabled w.norms c
+abbrev pub clause_tree_in : TermsWeight → TermClause → Tree
+clause_tree_in w c = clause_tree w.rule.scoring_enabled w.norms c
 
 -- all clauses, in order
 abbrev pub trees_in : TermsWeight → List Tree
-trees_in w = map (clause_of w) w.clauses.items
+trees_in w = map (clause_tree_in w) w.clauses.items
 
 abbrev pub tree_in : ClauseIn → Tree
-tree_in c = clause_of c.weight.now c.clause.now
+tree_in c = clause_tree_in c.weight.now c.clause.now
 
 abbrev pub occur_in : ClauseIn → Occur
 occur_in c = clause_occur c.clause.now

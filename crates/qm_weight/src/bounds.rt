@@ -6,7 +6,7 @@ ghost use Rattle.std.specs.Prelude.{◌≡◌, ◌+◌, ◌≤◌, Some, SomeIff
 ghost use Rattle.qm_docset.specs.Entry.{greatest_score};
 ghost use Rattle.qm_term.specs.Bm25Weight.{weighing};
 ghost use Rattle.qm_weight.specs.ClauseScorers.{bound_added};
-ghost use Rattle.qm_weight.specs.TermUnions.{clause_of};
+ghost use Rattle.qm_weight.specs.TermUnions.{clause_tree_in};
 ghost use Rattle.qm_weight.specs.Tree.{Fits, IsLeafBound, bound};
 ghost use Rattle.qm_weight.specs.Weights.{boolean_tree, boost_tree, const_tree, phrase_prefix_tree, phrase_tree, term_tree, terms_tree, tree_of, weighing_of};
 
@@ -176,7 +176,7 @@ pub(crate) fn bound_of_terms(weight: &TermsWeight, boost: u64) -> Option<u64>
 // That of one of the clauses.
 fn bound_of_clause(weight: &TermsWeight, clause: &TermClause, boost: u64) -> Option<u64>
     requires boost { boost ≤ greatest_score }
-    ensures { SomeIff result (Fits (clause_of weight.now clause.now) boost) (bound (clause_of weight.now clause.now) boost) }
+    ensures { SomeIff result (Fits (clause_tree_in weight.now clause.now) boost) (bound (clause_tree_in weight.now clause.now) boost) }
 {
     if weight.rule.scoring_enabled {
         let greatest = score_product(boost, clause.weight)?;

@@ -7,7 +7,7 @@ ghost use Rattle.qm_docset.specs.BitSetDocSetFacts.{AreEntries-remaining};
 ghost use Rattle.qm_docset.specs.Entry.{head_document, head_positions, no_limits};
 ghost use Rattle.qm_docset.specs.Lists.{ArePlaced, IsPlaced, Lists, bounds, lists};
 ghost use Rattle.qm_phrase.specs.BitSetPostingUnion.{IsBitSetUnion, bitset_union_left, bitset_union_limits};
-ghost use Rattle.qm_phrase.specs.PostingUnions.{postings_limits, united_over};
+ghost use Rattle.qm_phrase.specs.PostingUnions.{limits_of_postings, united_over};
 ghost use Rattle.qm_phrase.specs.PostingUnionFacts.{AreEntries-over, ArePositions-over};
 ghost use Rattle.qm_postings.specs.Positions.{HasAdded, shifted};
 
@@ -35,7 +35,7 @@ impl<D: Postings> BitSetPostingUnion<D> {
         requires placed { ArePlaced D.DocSet docsets.items }
         requires set { IsPlaced ⟦<BitSetDocSet as DocSet>⟧ bitset }
         ensures lists { Lists ⟦<Self as DocSet>⟧ result
-            (united_over (remaining_members bitset) (lists D.DocSet docsets.items)) (postings_limits (bounds D.DocSet docsets.items)) }
+            (united_over (remaining_members bitset) (lists D.DocSet docsets.items)) (limits_of_postings (bounds D.DocSet docsets.items)) }
     {
         let mut members = docsets;
         seek_below(&mut members, bitset.doc());

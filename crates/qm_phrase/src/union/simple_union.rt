@@ -4,7 +4,7 @@ ghost use Rattle.std.specs.Prelude.{◌≡◌, ◌+◌, ◌<◌, ◌≤◌, ⊤,
 ghost use Rattle.std.specs.List.Sorted.{IsStrictlyIncreasing};
 ghost use Rattle.qm_docset.specs.Entry.{head_document, head_positions};
 ghost use Rattle.qm_docset.specs.Lists.{ArePlaced, Lists, bounds, lists};
-ghost use Rattle.qm_phrase.specs.PostingUnions.{postings_limits, united_entries};
+ghost use Rattle.qm_phrase.specs.PostingUnions.{limits_of_postings, united_entries};
 ghost use Rattle.qm_phrase.specs.PostingUnionFacts.{AreEntries-united, ArePositions-united};
 ghost use Rattle.qm_phrase.specs.SimpleUnion.{IsSimpleUnion, simple_union_left, simple_union_limits};
 ghost use Rattle.qm_postings.specs.Positions.{HasAdded, shifted};
@@ -30,7 +30,7 @@ impl<D: Postings> SimpleUnion<D> {
     pub fn build(docsets: Vec<D>) -> SimpleUnion<D>
         requires placed { ArePlaced D.DocSet docsets.items }
         ensures lists { Lists ⟦<SimpleUnion<D> as DocSet>⟧ result
-            (united_entries (lists D.DocSet docsets.items)) (postings_limits (bounds D.DocSet docsets.items)) }
+            (united_entries (lists D.DocSet docsets.items)) (limits_of_postings (bounds D.DocSet docsets.items)) }
     {
         let doc = least_document(&docsets);
         SimpleUnion {

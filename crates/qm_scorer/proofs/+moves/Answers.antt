@@ -29,12 +29,12 @@ use Rattle.qm_combine.proofs.Leading.{head_document-together, leader_bound-commo
 use Rattle.qm_combine.proofs.Uniting.{least_head-push, least_head-most, scores_at-more}
 use Rattle.qm_term.specs.TermScorer.{scored_left}
 use Rattle.qm_scorer.specs.Group.{IsGroupNode, group_entries, group_lists}
-use Rattle.qm_scorer.specs.Tree.{AreHeads, HasRoom, IsTree, IsTreePlaced, tree_entries, tree_limits}
-use Rattle.qm_scorer.specs.Tree.{HasParts, kept_score, tree_head}
-use Rattle.qm_scorer.specs.Tree.{tree_top, united}
+use Rattle.qm_scorer.specs.Tree.{AreMemberHeads, HasRoom, IsTree, IsTreePlaced, tree_entries, tree_limits}
+use Rattle.qm_scorer.specs.Tree.{HasUnionParts, kept_score, tree_head}
+use Rattle.qm_scorer.specs.Tree.{tree_top, union_listing}
 use Rattle.qm_scorer.specs.TreeFacts.{tree-ascends}
 use Rattle.qm_scorer.specs.LeastDocs.{least_of}
-use Rattle.qm_scorer.proofs.GroupHeads.{AreHeads-put, all-reached, head-least, heads-length, least_of-heads, passed-more, scores_at-skipped}
+use Rattle.qm_scorer.proofs.GroupHeads.{AreMemberHeads-put, all-reached, head-least, heads-length, least_of-heads, passed-more, scores_at-skipped}
 use Rattle.qm_scorer.proofs.Groups.{HasRoom-moved, group-ended, group-enough, group-moved, group-passed, group-reached, group-there, least_head-from}
 use Rattle.qm_scorer.proofs.Depth.{most-set, same-Own, same-Term, size-kept, size-led}
 use Rattle.qm_scorer.proofs.Depth.{size-members, size-others, size-united}
@@ -65,7 +65,7 @@ use Rattle.qm_scorer.specs.declared.union_node.UnionNode.{UnionNode, size-UnionN
 use Rattle.qm_scorer.proofs.Refilling.{IsRefilling, refilled-behind, refilled-entries, refilled-here, refilling-first, refilling-more, refilling-none}
 use Rattle.qm_scorer.proofs.Refilling.{refilling-room}
 use Rattle.qm_scorer.proofs.Taking.{head_score-within, room-for, taken-next, taken_to-all, taken_to-more, taken_to-none}
-use Rattle.qm_scorer.proofs.Uniting.{cut_twice, least_head-cut_from, parts-same, united-made}
+use Rattle.qm_scorer.proofs.Uniting.{cut_twice, least_head-cut_from, parts-same, union_listing-made}
 use Rattle.qm_scorer.proofs.+moves.Goals.{group_node::danger_group-else-doc-target-via-else-doc-target}
 use Rattle.qm_scorer.proofs.+moves.Goals.{group_node::danger_group-else-doc-target-via-then-doc-target+else-target-lt-TERMINATED}
 use Rattle.qm_scorer.proofs.+moves.Goals.{group_node::seek_group-else-node-target, group_node::seek_group-then-node-target}
@@ -319,7 +319,7 @@ group_node::reach_members-loop-place-preserved g t c =
       members = record {
         valid = All-set (IsTree D) xs k x sought.valid h.members.valid;
         placed = All-set (IsTreePlaced D) xs k x sought.placed h.members.placed;
-        heads = AreHeads-put e xs before.heads h.members.heads k doc x c.put.new.self put.valid put.docs sought.head;
+        heads = AreMemberHeads-put e xs before.heads h.members.heads k doc x c.put.new.self put.valid put.docs sought.head;
       };
       lists = map-map-set_same (from d) e xs k x item here cut ∙ h.lists;
       within = omega (arith, next.within.1, ap length put.docs, length-set before.heads.docs.items k doc, long, length-set xs k x);
@@ -723,7 +723,7 @@ union_node::refill-returns-clause-entries g t c =
     let xs = c.loop-i.node.members.items in
     let h = c.loop-i.invariant.refilling in
     let ended : length xs ≤ c.loop-i.i = omega (arith, c.loop-i.invariant.unvisited.0, c.loop-i-test.false, c.len-i-end.ensures, n.members.ok.0) in
-    ap (λ d. united c.loop-i.node.window d (union_lists D c.loop-i.node)) c.loop-i.invariant.doc
+    ap (λ d. union_listing c.loop-i.node.window d (union_lists D c.loop-i.node)) c.loop-i.invariant.doc
     ∙ refilled-entries (tree_entries D) (tree_limits D) (IsTree D) (IsTreePlaced D) law n.members.items (window_combiner n.window) n.doc
     (n.doc + c.args.span) xs c.loop-i.i c.loop-i.least c.loop-i.node.window h ended c.requires.members.valid c.requires.first (omega arith)
     c.requires.cleared
@@ -757,10 +757,10 @@ union_node::go_on-returns-then-node-eq-TERMINATED g t c =
     let n = c.args.node.now in
     let law = tree-ascends D g.met.S.DocSet.ascending in
     let members = AreMembers-map (tree_limits D) (tree_entries D) n.members.items (λ k d inside. law _ (c.requires.members.valid k d inside)) in
-    let none : united n.window n.ahead (union_lists D n) ≡ gather 1 (any_combined (window_combiner n.window)) (union_lists D n) =
+    let none : union_listing n.window n.ahead (union_lists D n) ≡ gather 1 (any_combined (window_combiner n.window)) (union_lists D n) =
     windowed-ended 1 (omega arith) (window_has n.window) (kept_score n.window) (any_combined (window_combiner n.window)) _ _ members n.ahead c.requires.behind
     (λ d here. let below = c.requires.behind d here in omega (arith, c.requires.ahead)) in
-    let own = united-made (tree_entries D) (tree_limits D) (IsTree D) law n.members.items n.window (window_combiner n.window) n.ahead n.ahead n.top
+    let own = union_listing-made (tree_entries D) (tree_limits D) (IsTree D) law n.members.items n.window (window_combiner n.window) n.ahead n.ahead n.top
     (union_limits D n) (union_lists D n) c.requires.members.valid c.requires.parts refl c.requires.ahead none
     (λ below. absurd (omega (arith, c.if-node-eq-TERMINATED.true))) (omega arith) c.requires.ahead c.requires.behind in
     record {
@@ -794,14 +794,14 @@ union_node::go_on-returns g t c =
     let n = c.refill-node.new.node in
     let r = c.refill-node.ensures in
     let p = c.requires.parts in
-    let parts : HasParts n.window n.top (union_limits D n) = record {
+    let parts : HasUnionParts n.window n.top (union_limits D n) = record {
       fits = omega (arith, ap total_top r.limits, p.fits);
       bound = r.top ∙ p.bound ∙ ap (λ ls. max 1 (total_top ls)) (sym r.limits);
       start = subst (IsCleared any_cleared) (sym r.combiner) p.start;
       until = r.until;
     } in
     let first = r.behind old.ahead r.here in
-    let own = united-made (tree_entries D) (tree_limits D) (IsTree D) law old.members.items n.window
+    let own = union_listing-made (tree_entries D) (tree_limits D) (IsTree D) law old.members.items n.window
     (window_combiner old.window) n.doc c.refill-node.result n.top (union_limits D n) (union_lists D n) c.requires.members.valid parts r.limits
     (r.doc ∙ c.requires.ahead) r.entries (λ _. ap (window_has n.window) r.doc ∙ r.here) (omega (arith, r.doc, first)) r.least r.behind in
     record {
@@ -1598,7 +1598,7 @@ group_node::score_group-loop-place-preserved g t c =
     record {
       valid = All-set (IsTree D) xs i x c.score_tree.ensures.valid h.valid;
       placed = All-set (IsTreePlaced D) xs i x c.score_tree.ensures.placed h.placed;
-      heads = subst (AreHeads before.heads) (sym still) h.heads;
+      heads = subst (AreMemberHeads before.heads) (sym still) h.heads;
       lists = still ∙ h.lists;
       within = omega (arith, within, length-set xs i x);
       here = λ below. next.found (omega (arith, below, long, length-set xs i x));

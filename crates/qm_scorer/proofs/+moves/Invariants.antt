@@ -4,7 +4,7 @@ use Rattle.qm_docset.specs.Entry.{from, head_document, greatest_score, head_scor
 use Rattle.qm_combine.specs.Union.{least_head}
 use Rattle.qm_scorer.specs.Group.{AreStanding, group_entries, group_lists}
 use Rattle.qm_scorer.specs.Intersection.{common_list, other_lists}
-use Rattle.qm_scorer.specs.Tree.{AreHeads, HasRoom, IsTree, IsTreePlaced, kept_entries, tree_entries, tree_limits, tree_top}
+use Rattle.qm_scorer.specs.Tree.{AreMemberHeads, HasRoom, IsTree, IsTreePlaced, kept_entries, tree_entries, tree_limits, tree_top}
 use Rattle.qm_scorer.specs.declared.any_scorer.AnyScorer.{size-AnyScorer}
 use Rattle.qm_scorer.specs.declared.exclude_node.ExcludeNode.{size-ExcludeNode}
 use Rattle.qm_scorer.specs.declared.group_node.GroupNode.{size-GroupNode}
@@ -128,7 +128,7 @@ abbrev pub invariant-group_node::score_group-loop-place : goal.invariant-group_n
 invariant-group_node::score_group-loop-place g l = record {
   valid : All (IsTree g.S.DocSet) l.node.members.items;
   placed : All (IsTreePlaced g.S.DocSet) l.node.members.items;
-  heads : AreHeads l.node.heads (group_lists g.S.DocSet l.node);
+  heads : AreMemberHeads l.node.heads (group_lists g.S.DocSet l.node);
   lists : group_lists g.S.DocSet l.node ≡ group_lists g.S.DocSet l.fn.node;
   within : l.place ≤ length l.node.members.items;
   here : l.place < length l.node.members.items → get_or l.node.heads.docs.items l.place 0 < l.fn.node.current + 1;

@@ -1,6 +1,6 @@
 use Rattle.std.proofs.Common.{◌≡◌, ◌++◌, ◌∙◌, ap, sym, map, rules}
-use Rattle.qm_script.specs.Script.{boolean, clauses_of, disjunction_max, queries_of}
-use Rattle.qm_script.specs.Spelled.{clause_of, query_of}
+use Rattle.qm_script.specs.Script.{boolean, as_clauses, disjunction_max, queries_of}
+use Rattle.qm_script.specs.Spelled.{spelled_clause, query_of}
 use Rattle.qm_script.specs.declared.spelled_query.SpelledQuery.TheViews.{the_lemmas}
 use Rattle.birchagain_queries.specs.QueryWords.{weighing_words, words_of_clauses, words_of_queries}
 use Rattle.birchagain_queries.proofs.SpelledForms.{query_of-boolean, query_of-disjunction_max}
@@ -10,7 +10,7 @@ use Rattle.birchagain_queries.proofs.named_words.+push_words.Goals as goal
 pub loop-inner-preserved : goal.loop-inner-preserved
 loop-inner-preserved t c =
     let xs = c.deref-inner-items.result.now in
-    clause-pushed (map (λ w. w.now) c.args.words.now.items ++ words_of_clauses (clauses_of (map clause_of xs))) xs c.loop-inner.inner-index
+    clause-pushed (map (λ w. w.now) c.args.words.now.items ++ words_of_clauses (as_clauses (map spelled_clause xs))) xs c.loop-inner.inner-index
     c.loop-inner-item.result c.loop-inner-test.true c.loop-inner-item.is (map (λ w. w.now) c.loop-inner.words.items)
     (map (λ w. w.now) c.push_words.new.words.items) c.in_ok-push_words-in-Boolean.ensures c.loop-inner.invariant
 
@@ -18,11 +18,11 @@ pub returns-after-loop-inner : goal.returns-after-loop-inner
 returns-after-loop-inner t c =
     let had = map (λ w. w.now) c.args.words.now.items in
     let xs = c.deref-inner-items.result.now in
-    let tie : query_of c.args.query.now ≡ boolean c.in-Boolean.minimum (clauses_of (map clause_of c.in-Boolean.clauses.items)) =
+    let tie : query_of c.args.query.now ≡ boolean c.in-Boolean.minimum (as_clauses (map spelled_clause c.in-Boolean.clauses.items)) =
     query_of-boolean c.args.query.now c.in-Boolean.minimum c.in-Boolean.clauses (first_of (search (rules, the_lemmas), cc)) in
-    clauses-pushed (had ++ words_of_clauses (clauses_of (map clause_of xs))) xs c.loop-inner.inner-index
+    clauses-pushed (had ++ words_of_clauses (as_clauses (map spelled_clause xs))) xs c.loop-inner.inner-index
     (map (λ w. w.now) c.loop-inner.words.items) c.loop-inner-test.false c.loop-inner.invariant
-    ∙ ap (λ l. had ++ words_of_clauses (clauses_of (map clause_of l))) c.deref-inner-items.ensures.value
+    ∙ ap (λ l. had ++ words_of_clauses (as_clauses (map spelled_clause l))) c.deref-inner-items.ensures.value
     ∙ sym (ap (λ q. had ++ weighing_words q) tie)
 
 pub loop-inner-2-preserved : goal.loop-inner-2-preserved

@@ -2,12 +2,12 @@
 use Rattle.std.proofs.Common.{rules, ◌≡◌, ◌<◌, ◌≤◌, ◌++◌, [], ◌∷◌, List, ℕ, length, map, get_or, arith, refl, ap, subst, sym, ◌∙◌}
 use Rattle.std.specs.Global.{Vec}
 use Rattle.std.proofs.lemmas.List.{get_or-map, length-append, length-map}
-use Rattle.qm_phrase.specs.Places.{first_place, greatest_first, least_first, left_in, past, places_of}
+use Rattle.qm_phrase.specs.Places.{first_place, greatest_first_place, least_first_place, left_in, past, places_of}
 use Rattle.qm_phrase.specs.TermRows.{AreInside, first_term, rows_left, term_left, term_of, terms_of}
 use Rattle.qm_phrase.specs.declared.term_row.TermRow.{TermRow}
-use Rattle.qm_phrase.proofs.StartSteps.{All-past, greatest_first-past, least_first-le, least_first-past, within}
+use Rattle.qm_phrase.proofs.StartSteps.{All-past, greatest_first_place-past, least_first_place-le, least_first_place-past, within}
 use Rattle.qm_phrase.proofs.CommonSteps.{collected-all, collected-common, collected-none, collected-skip, first-common, shorter-common, shorter-past}
-use Rattle.qm_phrase.proofs.PassedPlaces.{collected-passed, least_first-passed, shorter-passed}
+use Rattle.qm_phrase.proofs.PassedPlaces.{collected-passed, least_first_place-passed, shorter-passed}
 use Rattle.qm_phrase.proofs.TermRows.{inside_at, no_term, read_is}
 use Rattle.qm_phrase.proofs.common_places.collect_common.Goals as goal
 use Rattle.qm_phrase.proofs.common_places.collect_common.Goals.{then-least-greatest, else-least-greatest}
@@ -57,14 +57,14 @@ loop-least-smaller c =
     let least = c.first_places-least.result.0 in
     let known = within sets least c.first_places-least.result.1 (omega (arith, length-map c.loop-least.rows (term_left c.args.positions.now)))
     c.first_places-least.ensures.least c.first_places-least.ensures.greatest c.if-greatest-eq-ALL_PLACES.false c.loop-least.invariant.collected.rows in
-    let more = least_first-past least sets known.0 known.2 in
-    let still = least_first-passed c.first_places-least.result.1 (map (past least) sets) new c.pass.ensures.left
+    let more = least_first_place-past least sets known.0 known.2 in
+    let still = least_first_place-passed c.first_places-least.result.1 (map (past least) sets) new c.pass.ensures.left
     (All-past 0 least sets c.loop-least.invariant.collected.rows) in
     omega (arith, more, still, c.first_places-least.ensures.least, known.0)
 
 -- what stands first is the place that all begin with
-first_is : (positions : List (Vec ℕ)) (left : List TermRow) (least : ℕ) → 0 < length left → least ≡ least_first (rows_left positions left) →
-    least ≡ greatest_first (rows_left positions left) → first_place (term_left positions (get_or left 0 no_term)) ≡ least
+first_is : (positions : List (Vec ℕ)) (left : List TermRow) (least : ℕ) → 0 < length left → least ≡ least_first_place (rows_left positions left) →
+    least ≡ greatest_first_place (rows_left positions left) → first_place (term_left positions (get_or left 0 no_term)) ≡ least
 first_is positions left least some is most =
     ap first_place (sym (get_or-map (term_left positions) left 0 no_term [] some))
     ∙ first-common least (rows_left positions left) (omega (arith, length-map left (term_left positions))) is most
@@ -122,12 +122,12 @@ loop-least-preserved c =
     let terms = c.pass.ensures.terms ∙ c.loop-least.invariant.terms in
     let head : (first_term (terms_of left)).0 ≡ (first_term (terms_of c.pass.new.rows)).0 = ap (λ r. (first_term r).0) (sym c.pass.ensures.terms) in
     let shorter = shorter-passed greatest behind new c.pass.ensures.left in
-    let far : greatest ≤ greatest_first behind =
-    omega (arith, c.first_places-least.ensures.greatest, greatest_first-past least sets c.loop-least.invariant.collected.rows) in
+    let far : greatest ≤ greatest_first_place behind =
+    omega (arith, c.first_places-least.ensures.greatest, greatest_first_place-past least sets c.loop-least.invariant.collected.rows) in
     elim c.if-least-greatest.branch [
       | then-least-greatest w ↦
           let first = get_or left 0 no_term in
-          let most : least ≡ greatest_first sets = w.if-least-greatest.true ∙ c.first_places-least.ensures.greatest in
+          let most : least ≡ greatest_first_place sets = w.if-least-greatest.true ∙ c.first_places-least.ensures.greatest in
           let inside = subst (AreInside (length positions)) (sym c.loop-least.invariant.terms) c.requires.inside in
           let read = read_is positions first.member w.index-positions-first.result w.deref.result.now
           (inside_at (length positions) left 0 inside c.loop-least.invariant.some) (search rules) w.deref.ensures.value in
@@ -147,8 +147,8 @@ loop-least-preserved c =
             terms = terms;
           })
       | else-least-greatest w ↦
-          let apart : least < greatest_first sets =
-          omega (arith, w.if-least-greatest.false, c.first_places-least.ensures.least, c.first_places-least.ensures.greatest, least_first-le sets some) in
+          let apart : least < greatest_first_place sets =
+          omega (arith, w.if-least-greatest.false, c.first_places-least.ensures.least, c.first_places-least.ensures.greatest, least_first_place-le sets some) in
           let collected = collected-passed greatest all behind new found far c.pass.ensures.left
           (collected-skip all sets found least c.first_places-least.ensures.least apart known.1 c.loop-least.invariant.collected) in
           rw w.common-is (record {

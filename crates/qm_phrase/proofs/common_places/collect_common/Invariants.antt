@@ -1,5 +1,5 @@
 use Rattle.std.proofs.Common.{◌≡◌, ◌+◌, ◌-◌, ◌<◌, ◌≤◌, [], length, get_or}
-use Rattle.qm_phrase.specs.Places.{least_first, places_of, room_of, shift_of}
+use Rattle.qm_phrase.specs.Places.{least_first_place, places_of, room_of, shift_of}
 use Rattle.qm_phrase.specs.Starts.{all_places}
 use Rattle.qm_phrase.specs.TermRows.{first_term, rows_left, terms_of}
 use Rattle.qm_phrase.proofs.CommonSteps.{IsCollected}
@@ -17,4 +17,4 @@ invariant-loop-least l = record {
 }
 
 abbrev pub decreases-loop-least : goal.decreases-loop-least
-decreases-loop-least l = all_places - least_first (rows_left l.positions l.rows)
+decreases-loop-least l = all_places - least_first_place (rows_left l.positions l.rows)

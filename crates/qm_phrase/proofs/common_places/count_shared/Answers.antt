@@ -1,17 +1,17 @@
 -- The lesser of the first places is counted where both have it, and passed.
 use Rattle.std.proofs.Common.{◌≡◌, ◌≤◌, ℕ, [], ◌∷◌, List, All, min, arith, refl, ap, subst, sym, ◌∙◌}
 use Rattle.std.proofs.lemmas.List.Elements.{All-cons, All-head, All-nil, All-tail}
-use Rattle.qm_phrase.specs.Places.{Ascends, first_place, greatest_first, least_first, past, places_left, places_of}
+use Rattle.qm_phrase.specs.Places.{Ascends, first_place, greatest_first_place, least_first_place, past, places_left, places_of}
 use Rattle.qm_phrase.specs.Starts.{all_places, starts}
 use Rattle.qm_phrase.proofs.CommonSteps.{common-starts}
 use Rattle.qm_phrase.proofs.PassedPlaces.{Ascends-passed, first_place-passed, starts-passed}
-use Rattle.qm_phrase.proofs.StartSteps.{All-past, counted, greatest_first-most, greatest_first-past, least_first-past, starts-ended, within}
+use Rattle.qm_phrase.proofs.StartSteps.{All-past, counted, greatest_first_place-most, greatest_first_place-past, least_first_place-past, starts-ended, within}
 use Rattle.qm_phrase.proofs.common_places.count_shared.Goals as goal
 use Rattle.qm_phrase.proofs.common_places.count_shared.Goals.{then-place-other, else-place-other}
 
 -- the lesser and the greater of two first places
-ends : (a b : List ℕ) (least greatest : ℕ) → All (Ascends 0) (a ∷ b ∷ []) → least ≡ min (first_place a) (first_place b) → (least ≡ least_first (a ∷ b ∷ []))
-ends a b least greatest rows is = let most = greatest_first-most (a ∷ b ∷ []) rows in omega (arith, is, most)
+ends : (a b : List ℕ) (least greatest : ℕ) → All (Ascends 0) (a ∷ b ∷ []) → least ≡ min (first_place a) (first_place b) → (least ≡ least_first_place (a ∷ b ∷ []))
+ends a b least greatest rows is = let most = greatest_first_place-most (a ∷ b ∷ []) rows in omega (arith, is, most)
 
 pub loop-count-init : goal.loop-count-init
 loop-count-init c =
@@ -35,14 +35,14 @@ loop-count-smaller c =
     let b = places_left c.loop-count.common in
     let sets = a ∷ b ∷ [] in
     let least = c.min-least.result in
-    let is : least ≡ least_first sets =
+    let is : least ≡ least_first_place sets =
     ends a b least c.max-greatest.result c.loop-count.invariant.rows (omega (arith, c.min-least.ensures, c.first-place.ensures, c.first-other.ensures)) in
-    let most : c.max-greatest.result ≡ greatest_first sets = omega (arith, c.max-greatest.ensures, c.first-place.ensures, c.first-other.ensures) in
+    let most : c.max-greatest.result ≡ greatest_first_place sets = omega (arith, c.max-greatest.ensures, c.first-place.ensures, c.first-other.ensures) in
     let known = within sets least c.max-greatest.result (omega arith) is most c.if-greatest-eq-ALL_PLACES.false c.loop-count.invariant.rows in
-    let more = least_first-past least sets known.0 known.2 in
+    let more = least_first_place-past least sets known.0 known.2 in
     let c_row = places_left c.pass.new.self in
     let c_common = places_left c.pass-in-loop-count.new.self in
-    let moved : least_first (c_row ∷ c_common ∷ []) ≡ least_first (past least a ∷ past least b ∷ []) =
+    let moved : least_first_place (c_row ∷ c_common ∷ []) ≡ least_first_place (past least a ∷ past least b ∷ []) =
     rw (c.pass.ensures.left, c.pass-in-loop-count.ensures.left) refl in
     let rows : All (Ascends 0) (c_row ∷ c_common ∷ []) =
     rw (c.pass.ensures.left, c.pass-in-loop-count.ensures.left) (All-past 0 least sets c.loop-count.invariant.rows) in
@@ -58,9 +58,9 @@ loop-count-preserved c =
     let b = places_left c.loop-count.common in
     let sets = a ∷ b ∷ [] in
     let least = c.min-least.result in
-    let is : least ≡ least_first sets =
+    let is : least ≡ least_first_place sets =
     ends a b least c.max-greatest.result c.loop-count.invariant.rows (omega (arith, c.min-least.ensures, c.first-place.ensures, c.first-other.ensures)) in
-    let most : c.max-greatest.result ≡ greatest_first sets = omega (arith, c.max-greatest.ensures, c.first-place.ensures, c.first-other.ensures) in
+    let most : c.max-greatest.result ≡ greatest_first_place sets = omega (arith, c.max-greatest.ensures, c.first-place.ensures, c.first-other.ensures) in
     let known = within sets least c.max-greatest.result (omega arith) is most c.if-greatest-eq-ALL_PLACES.false c.loop-count.invariant.rows in
     let step = counted sets 0 least is known.0 known.1 known.2 in
     let greatest = c.max-greatest.result in
@@ -72,10 +72,10 @@ loop-count-preserved c =
     rw (c.pass.ensures.left, c.pass-in-loop-count.ensures.left) (All-past 0 least sets c.loop-count.invariant.rows) in
     let a_ascends = All-head (Ascends 0) a_left (b_left ∷ []) rows in
     let b_ascends = All-head (Ascends 0) b_left [] (All-tail (Ascends 0) a_left (b_left ∷ []) rows) in
-    let far : greatest ≤ greatest_first (a_left ∷ b_left ∷ []) = omega (
+    let far : greatest ≤ greatest_first_place (a_left ∷ b_left ∷ []) = omega (
       arith,
       most,
-      greatest_first-past least sets c.loop-count.invariant.rows,
+      greatest_first_place-past least sets c.loop-count.invariant.rows,
       ap first_place c.pass.ensures.left,
       ap first_place c.pass-in-loop-count.ensures.left,
     ) in
@@ -129,7 +129,7 @@ pub returns-then-greatest-eq-ALL_PLACES-clause-count : goal.returns-then-greates
 returns-then-greatest-eq-ALL_PLACES-clause-count c =
     let sets = places_left c.args.row.now ∷ places_of c.args.common.now ∷ [] in
     let left = places_left c.loop-count.row ∷ places_left c.loop-count.common ∷ [] in
-    let most : greatest_first left ≡ all_places = omega (arith, c.max-greatest.ensures, c.first-place.ensures, c.first-other.ensures, c.if-greatest-eq-ALL_PLACES.true) in
+    let most : greatest_first_place left ≡ all_places = omega (arith, c.max-greatest.ensures, c.first-place.ensures, c.first-other.ensures, c.if-greatest-eq-ALL_PLACES.true) in
     omega (
       arith,
       starts-ended 0 left most c.loop-count.invariant.rows,

@@ -1,5 +1,5 @@
 use Rattle.std.proofs.Common.{◌≡◌, ◌+◌, ◌-◌, ◌≤◌, [], ◌∷◌, All, min}
-use Rattle.qm_phrase.specs.Places.{Ascends, least_first, places_left, places_of, room_of, shift_of}
+use Rattle.qm_phrase.specs.Places.{Ascends, least_first_place, places_left, places_of, room_of, shift_of}
 use Rattle.qm_phrase.specs.Starts.{all_places, starts}
 use Rattle.qm_phrase.proofs.common_places.count_shared.Given as goal
 
@@ -17,4 +17,4 @@ invariant-loop-count l = record {
 }
 
 abbrev pub decreases-loop-count : goal.decreases-loop-count
-decreases-loop-count l = all_places - least_first (places_left l.row ∷ places_left l.common ∷ [])
+decreases-loop-count l = all_places - least_first_place (places_left l.row ∷ places_left l.common ∷ [])

@@ -4,8 +4,8 @@ use Rattle.std.proofs.lemmas.List.{length-map}
 use Rattle.qm_phrase.specs.Places.{past}
 use Rattle.qm_phrase.specs.Starts.{starts}
 use Rattle.qm_phrase.specs.TermRows.{AreInside, rows_left, term_left}
-use Rattle.qm_phrase.proofs.PassedPlaces.{All-passed, least_first-passed, starts-passed}
-use Rattle.qm_phrase.proofs.StartSteps.{All-past, counted, greatest_first-past, least_first-past, starts-ended, within}
+use Rattle.qm_phrase.proofs.PassedPlaces.{All-passed, least_first_place-passed, starts-passed}
+use Rattle.qm_phrase.proofs.StartSteps.{All-past, counted, greatest_first_place-past, least_first_place-past, starts-ended, within}
 use Rattle.qm_phrase.proofs.counting.count_starts.Goals as goal
 use Rattle.qm_phrase.proofs.counting.count_starts.Goals.{then-greatest-least, else-greatest-least}
 
@@ -37,8 +37,8 @@ loop-count-smaller c =
     let least = c.first_places-least.result.0 in
     let known = within sets least c.first_places-least.result.1 (omega (arith, length-map c.loop-count.rows (term_left c.args.positions.now)))
     c.first_places-least.ensures.least c.first_places-least.ensures.greatest c.if-greatest-eq-ALL_PLACES.false c.loop-count.invariant.rows in
-    let more = least_first-past least sets known.0 known.2 in
-    let still = least_first-passed c.saturating_sub.result (map (past least) sets) new c.pass.ensures.left (All-past 0 least sets c.loop-count.invariant.rows) in
+    let more = least_first_place-past least sets known.0 known.2 in
+    let still = least_first_place-passed c.saturating_sub.result (map (past least) sets) new c.pass.ensures.left (All-past 0 least sets c.loop-count.invariant.rows) in
     omega (arith, more, still, c.first_places-least.ensures.least, known.0)
 
 pub loop-count-preserved : goal.loop-count-preserved
@@ -51,7 +51,7 @@ loop-count-preserved c =
     c.first_places-least.ensures.least c.first_places-least.ensures.greatest c.if-greatest-eq-ALL_PLACES.false c.loop-count.invariant.rows in
     let step = counted sets c.args.slop least c.first_places-least.ensures.least known.0 known.1 known.2 in
     let rows = All-past 0 least sets c.loop-count.invariant.rows in
-    let far = greatest_first-past least sets c.loop-count.invariant.rows in
+    let far = greatest_first_place-past least sets c.loop-count.invariant.rows in
     let moved : starts c.args.slop new ≡ starts c.args.slop (map (past least) sets) = starts-passed c.args.slop floor (map (past least) sets) new
     (omega (arith, far, c.saturating_sub.ensures, c.first_places-least.ensures.greatest, c.from-in-loop-count.ensures)) rows c.pass.ensures.left in
     record {

@@ -1,5 +1,5 @@
 use Rattle.std.proofs.Common.{◌≡◌, ◌+◌, ◌-◌, ◌<◌, ◌≤◌, All, length, min}
-use Rattle.qm_phrase.specs.Places.{Ascends, least_first}
+use Rattle.qm_phrase.specs.Places.{Ascends, least_first_place}
 use Rattle.qm_phrase.specs.Starts.{all_places, starts}
 use Rattle.qm_phrase.specs.TermRows.{rows_left, terms_of}
 use Rattle.qm_phrase.proofs.counting.count_starts.Given as goal
@@ -14,4 +14,4 @@ invariant-loop-count l = record {
 }
 
 abbrev pub decreases-loop-count : goal.decreases-loop-count
-decreases-loop-count l = all_places - least_first (rows_left l.positions l.rows)
+decreases-loop-count l = all_places - least_first_place (rows_left l.positions l.rows)

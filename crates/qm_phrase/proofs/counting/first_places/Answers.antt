@@ -2,9 +2,9 @@
 use Rattle.std.proofs.Common.{length, take, get_or, arith, ap}
 use Rattle.std.proofs.lemmas.List.{get_or_default}
 use Rattle.qm_combine.proofs.EachMember.{take-map_more}
-use Rattle.qm_phrase.specs.Places.{greatest_first, least_first}
+use Rattle.qm_phrase.specs.Places.{greatest_first_place, least_first_place}
 use Rattle.qm_phrase.specs.TermRows.{rows_left, term_left}
-use Rattle.qm_phrase.proofs.StartSteps.{least_first-push, greatest_first-push}
+use Rattle.qm_phrase.proofs.StartSteps.{least_first_place-push, greatest_first_place-push}
 use Rattle.qm_phrase.proofs.TermRows.{inside_at, no_term}
 use Rattle.qm_phrase.proofs.counting.first_places.Goals as goal
 
@@ -22,16 +22,16 @@ loop-row-preserved c =
     record {
       least = omega (
         arith,
-        ap least_first more,
-        least_first-push sets (term_left positions row),
+        ap least_first_place more,
+        least_first_place-push sets (term_left positions row),
         c.loop-row.invariant.least,
         c.first-place.ensures,
         c.min-least.ensures,
       );
       greatest = omega (
         arith,
-        ap greatest_first more,
-        greatest_first-push sets (term_left positions row),
+        ap greatest_first_place more,
+        greatest_first_place-push sets (term_left positions row),
         c.loop-row.invariant.greatest,
         c.first-place.ensures,
         c.max-greatest.ensures,

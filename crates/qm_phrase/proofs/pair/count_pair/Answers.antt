@@ -5,9 +5,9 @@ use Rattle.std.proofs.lemmas.Bool.{cases_eq, eq-eqb, ne_eqb}
 use Rattle.std.proofs.lemmas.List.{drop_all}
 use Rattle.std.proofs.lemmas.List.Elements.{All-head, All-tail}
 use Rattle.qm_postings.specs.Positions.{shifted}
-use Rattle.qm_phrase.specs.Places.{Ascends, first_place, greatest_first, least_first, past}
+use Rattle.qm_phrase.specs.Places.{Ascends, first_place, greatest_first_place, least_first_place, past}
 use Rattle.qm_phrase.specs.Starts.{all_places, starts}
-use Rattle.qm_phrase.proofs.StartSteps.{All-past, counted, greatest_first-most, past-first, starts-ended, within}
+use Rattle.qm_phrase.proofs.StartSteps.{All-past, counted, greatest_first_place-most, past-first, starts-ended, within}
 use Rattle.qm_phrase.proofs.pair.count_pair.Goals as goal
 use Rattle.qm_phrase.proofs.pair.count_pair.Goals.{then-max-least, else-max-least}
 
@@ -37,18 +37,18 @@ passes x shift n place k ps below first is =
 
 -- what is known of the lesser and the greater of two first places
 record IsStep (sets : List (List ℕ)) (least greatest : ℕ) : Type 0 where
-  is : least ≡ least_first sets
-  most : greatest ≡ greatest_first sets
+  is : least ≡ least_first_place sets
+  most : greatest ≡ greatest_first_place sets
   under : least < all_places
-  below : greatest_first sets < all_places
+  below : greatest_first_place sets < all_places
   rows : All (Ascends least) sets
 
 step : (a b : List ℕ) (place other least greatest : ℕ) → All (Ascends 0) (a ∷ b ∷ []) → first_place a ≡ place → first_place b ≡ other →
     place < all_places → other < all_places → least ≡ min place other → greatest ≡ max place other → IsStep (a ∷ b ∷ []) least greatest
 step a b place other least greatest rows first second low high lesser greater =
-    let most = greatest_first-most (a ∷ b ∷ []) rows in
-    let is : least ≡ least_first (a ∷ b ∷ []) = omega (arith, lesser, first, second, low, high) in
-    let same : greatest ≡ greatest_first (a ∷ b ∷ []) = omega (arith, greater, first, second) in
+    let most = greatest_first_place-most (a ∷ b ∷ []) rows in
+    let is : least ≡ least_first_place (a ∷ b ∷ []) = omega (arith, lesser, first, second, low, high) in
+    let same : greatest ≡ greatest_first_place (a ∷ b ∷ []) = omega (arith, greater, first, second) in
     let known = within (a ∷ b ∷ []) least greatest (omega arith) is same (omega (arith, greater, low, high)) rows in
     record { is = is; most = same; under = known.0; below = known.1; rows = known.2 }
 
@@ -91,7 +91,7 @@ returns-else-passed-positions c =
     let b = shifted c.args.other_shift (drop c.loop-count.other_passed c.args.other_positions.now) in
     let none : first_place a ≡ all_places = ap (λ r. first_place (shifted c.args.shift r)) (drop_all c.loop-count.passed c.args.positions.now
     c.if-passed-positions.false) in
-    let most = greatest_first-most (a ∷ b ∷ []) c.loop-count.invariant.rows in
+    let most = greatest_first_place-most (a ∷ b ∷ []) c.loop-count.invariant.rows in
     omega (arith, ended a b c.args.slop c.loop-count.invariant.rows (omega (arith, none, most)), c.loop-count.invariant.counted, c.loop-count.invariant.within)
 
 pub returns-else-other_passed-other_positions : goal.returns-else-other_passed-other_positions
@@ -100,5 +100,5 @@ returns-else-other_passed-other_positions c =
     let b = shifted c.args.other_shift (drop c.loop-count.other_passed c.args.other_positions.now) in
     let none : first_place b ≡ all_places = ap (λ r. first_place (shifted c.args.other_shift r)) (drop_all c.loop-count.other_passed
     c.args.other_positions.now c.if-other_passed-other_positions.false) in
-    let most = greatest_first-most (a ∷ b ∷ []) c.loop-count.invariant.rows in
+    let most = greatest_first_place-most (a ∷ b ∷ []) c.loop-count.invariant.rows in
     omega (arith, ended a b c.args.slop c.loop-count.invariant.rows (omega (arith, none, most)), c.loop-count.invariant.counted, c.loop-count.invariant.within)

@@ -6,7 +6,7 @@ use Rattle.qm_combine.proofs.EachMember.{get_or-map-map, map-set_same}
 use Rattle.qm_docset.specs.Entry.{Limits, head_document, head_positions}
 use Rattle.qm_docset.specs.Lists.{lists, bounds}
 use Rattle.qm_docset.specs.declared.numbers.TheConstants.{TERMINATED}
-use Rattle.qm_phrase.specs.TermRows.{positions_in}
+use Rattle.qm_phrase.specs.TermRows.{member_positions}
 use Rattle.qm_phrase.proofs.EachRow.{each_set, each_set_done}
 use Rattle.qm_phrase.proofs.TermSteps.{AreRoomy-set, length-roomy, room_at}
 use Rattle.qm_phrase.proofs.terms.read_positions.Goals as goal
@@ -70,7 +70,7 @@ loop-i-preserved g c =
     let bounds_same = map-set_same g.P.DocSet.limits members i moved member below c.positions.ensures.limits in
     record {
       paired = omega (arith, c.loop-i.invariant.paired, length-set members i moved, length-set positions i read);
-      read = each_set (λ v. v.items) positions zs (positions_in c.args.positions.now) i read [] under
+      read = each_set (λ v. v.items) positions zs (member_positions c.args.positions.now) i read [] under
           (omega (arith, c.loop-i.invariant.paired)) (omega arith) c.loop-i.invariant.read (c.positions.ensures.positions ∙ sym at_positions);
       roomy = rw bounds_same (AreRoomy-set vec_capacity (bounds g.P.DocSet members) positions i read buffer under c.positions.ensures.capacity
           c.loop-i.invariant.roomy);
@@ -89,5 +89,5 @@ returns-clause-positions g c =
     let long_read = length-map (lists g.P.DocSet first) head_positions in
     let wide = length-map c.args.positions.now (λ v. v.items) in
     let same_length = ap length c.loop-i.invariant.entries in
-    c.loop-i.invariant.read ∙ each_set_done (map head_positions (lists g.P.DocSet first)) (positions_in c.args.positions.now) i
+    c.loop-i.invariant.read ∙ each_set_done (map head_positions (lists g.P.DocSet first)) (member_positions c.args.positions.now) i
     (omega (arith, c.loop-i.invariant.paired)) (omega arith)

@@ -4,7 +4,7 @@ use Rattle.qm_docset.specs.EntryFacts.{from-zero}
 use Rattle.qm_scorer.specs.Bare.{IsBounded}
 use Rattle.qm_scorer.specs.BareFacts.{IsBounded-sought}
 use Rattle.qm_scorer.specs.Group.{group_entries}
-use Rattle.qm_scorer.specs.Tree.{AreHeads, tree_entries}
+use Rattle.qm_scorer.specs.Tree.{AreMemberHeads, tree_entries}
 use Rattle.qm_scorer.specs.declared.group_node.Shape.{Shape}
 use Rattle.qm_scorer.proofs.group_builders.first_match.Goals as goal
 
@@ -12,7 +12,7 @@ pub next_match-requires-clause-members : goal.next_match-requires-clause-members
 next_match-requires-clause-members g c = record {
   valid = c.requires.placed.valid;
   placed = c.requires.placed.placed;
-  heads = subst (λ ms. AreHeads c.in_ok-heads.heads (map (tree_entries g.S.DocSet) ms)) c.deref.ensures.value c.in_ok-heads.ensures;
+  heads = subst (λ ms. AreMemberHeads c.in_ok-heads.heads (map (tree_entries g.S.DocSet) ms)) c.deref.ensures.value c.in_ok-heads.ensures;
 }
 
 pub returns : goal.returns

@@ -7,13 +7,13 @@ use Rattle.std.proofs.lemmas.List.Elements.{All-get_or}
 use Rattle.qm_docset.specs.Entry.{Entry, head_document}
 use Rattle.qm_combine.proofs.EachMember.{get_or-map-map}
 use Rattle.qm_scorer.specs.LeastDocs.{IsLeastDocs}
-use Rattle.qm_scorer.specs.Tree.{AreHeads, IsTree, IsTreePlaced, tree_entries}
+use Rattle.qm_scorer.specs.Tree.{AreMemberHeads, IsTree, IsTreePlaced, tree_entries}
 use Rattle.qm_scorer.specs.declared.least_docs.LeastDocs.{LeastDocs}
 use Rattle.qm_scorer.proofs.Heads.{tree-head}
 use Rattle.qm_scorer.proofs.group_builders.heads_of.Goals as goal
 
 made : {E : Type 0} (result : Result LeastDocs E) (docs : List ℕ) (ess : List (List Entry)) → docs ≡ map head_document ess → IfOk result IsLeastDocs →
-    IfOk result (λ row. row.docs.items ≡ docs) → IfOk result (λ heads. AreHeads heads ess)
+    IfOk result (λ row. row.docs.items ≡ docs) → IfOk result (λ heads. AreMemberHeads heads ess)
 made (Ok row) docs ess is valid same = record { valid = valid; docs = same ∙ is }
 made (Err e) docs ess is valid same = tt
 

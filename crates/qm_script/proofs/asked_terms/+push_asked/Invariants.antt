@@ -2,8 +2,8 @@
 use Rattle.std.proofs.Common.{◌≡◌, ◌++◌, drop, map}
 use Rattle.qm_index.specs.Parts.{segments_of}
 use Rattle.qm_script.specs.AskedTerms.{clauses_terms, queries_terms}
-use Rattle.qm_script.specs.Script.{clauses_of, queries_of}
-use Rattle.qm_script.specs.Spelled.{clause_of, query_of}
+use Rattle.qm_script.specs.Script.{as_clauses, queries_of}
+use Rattle.qm_script.specs.Spelled.{spelled_clause, query_of}
 use Rattle.qm_script.proofs.asked_terms.+push_asked.Given as goal
 
 abbrev pub decreases-push_asked : goal.decreases-push_asked
@@ -11,8 +11,8 @@ decreases-push_asked l = goal.size-push_asked l
 
 abbrev pub invariant-loop-inner : goal.invariant-loop-inner
 invariant-loop-inner l =
-    l.terms.items ++ clauses_terms (segments_of l.segments) (clauses_of (drop l.inner-index (map clause_of l.inner-items)))
-    ≡ l.fn.terms.items ++ clauses_terms (segments_of l.segments) (clauses_of (map clause_of l.inner-items))
+    l.terms.items ++ clauses_terms (segments_of l.segments) (as_clauses (drop l.inner-index (map spelled_clause l.inner-items)))
+    ≡ l.fn.terms.items ++ clauses_terms (segments_of l.segments) (as_clauses (map spelled_clause l.inner-items))
 
 abbrev pub invariant-loop-inner-2 : goal.invariant-loop-inner-2
 invariant-loop-inner-2 l =

@@ -3,8 +3,8 @@ use Rattle.std.proofs.Common.{◌≡◌, drop, map}
 use Rattle.qm_script.specs.Prefixes.{have_clauses_failing, have_queries_failing}
 use Rattle.qm_index.specs.Parts.{segments_of}
 use Rattle.qm_script.specs.Reached.{is_reached}
-use Rattle.qm_script.specs.Script.{clauses_of, queries_of}
-use Rattle.qm_script.specs.Spelled.{clause_of, query_of}
+use Rattle.qm_script.specs.Script.{as_clauses, queries_of}
+use Rattle.qm_script.specs.Spelled.{spelled_clause, query_of}
 use Rattle.qm_script.proofs.cut_prefixes.+has_cut.Given as goal
 
 abbrev pub decreases-has_cut : goal.decreases-has_cut
@@ -12,7 +12,7 @@ decreases-has_cut l = goal.size-has_cut l
 
 abbrev pub invariant-loop-inner : goal.invariant-loop-inner
 invariant-loop-inner l =
-    have_clauses_failing (is_reached (segments_of l.segments)) (clauses_of (drop l.inner-index (map clause_of l.inner-items))) ≡ have_clauses_failing (is_reached (segments_of l.segments)) (clauses_of (map clause_of l.inner-items))
+    have_clauses_failing (is_reached (segments_of l.segments)) (as_clauses (drop l.inner-index (map spelled_clause l.inner-items))) ≡ have_clauses_failing (is_reached (segments_of l.segments)) (as_clauses (map spelled_clause l.inner-items))
 
 abbrev pub invariant-loop-inner-2 : goal.invariant-loop-inner-2
 invariant-loop-inner-2 l =

@@ -2,10 +2,10 @@ use Rattle.std.proofs.Common.{◌≡◌, ◌∙◌, ◌+◌, ◌∷◌, ◌++◌
 use Rattle.std.proofs.lemmas.List.{map-append}
 use Rattle.std.proofs.lemmas.Result.{err_from_is_err_and}
 use Rattle.qm_query.specs.Query as query
-use Rattle.qm_query.specs.Query.{clause_of as built_clause, disjuncts_of, query_of as built_query, subqueries_of}
+use Rattle.qm_query.specs.Query.{spelled_clause as built_clause, disjuncts_of, query_of as built_query, subqueries_of}
 use Rattle.qm_script.specs.Asked.{Builds, asked, clauses_asked, disjuncts_asked, phrase_asked}
-use Rattle.qm_script.specs.Script.{boolean, clauses_of, disjunction_max, phrase, queries_of}
-use Rattle.qm_script.specs.Spelled.{clause_of, query_of, texts}
+use Rattle.qm_script.specs.Script.{boolean, as_clauses, disjunction_max, phrase, queries_of}
+use Rattle.qm_script.specs.Spelled.{spelled_clause, query_of, texts}
 use Rattle.qm_script.specs.declared.spelled_query.SpelledQuery.TheViews.{the_lemmas}
 use Rattle.qm_script.proofs.SpelledForms.{query_of-boolean, query_of-disjunction_max, query_of-phrase}
 use Rattle.qm_script.proofs.Building.{boolean-made, boolean-refused, clauses-done, clauses-step, clauses-stopped, disjunction_max-made, disjunction_max-refused}
@@ -23,16 +23,16 @@ pub returns-in_err-query-in-Boolean : goal.returns-in_err-query-in-Boolean
 returns-in_err-query-in-Boolean t c =
     let xs = c.deref-occur-items.result.now in
     let e = c.in_err-query-in-Boolean.field-0.0 in
-    let tie : query_of c.args.spelled.now ≡ boolean c.in-Boolean.minimum (clauses_of (map clause_of c.in-Boolean.clauses.items)) =
+    let tie : query_of c.args.spelled.now ≡ boolean c.in-Boolean.minimum (as_clauses (map spelled_clause c.in-Boolean.clauses.items)) =
     query_of-boolean c.args.spelled.now c.in-Boolean.minimum c.in-Boolean.clauses (first_of (search (rules, the_lemmas), cc)) in
-    let here : query_of c.args.spelled.now ≡ boolean c.in-Boolean.minimum (clauses_of (map clause_of xs)) = tie
-    ∙ ap (λ l. boolean c.in-Boolean.minimum (clauses_of (map clause_of l))) (sym c.deref-occur-items.ensures.value) in
+    let here : query_of c.args.spelled.now ≡ boolean c.in-Boolean.minimum (as_clauses (map spelled_clause xs)) = tie
+    ∙ ap (λ l. boolean c.in-Boolean.minimum (as_clauses (map spelled_clause l))) (sym c.deref-occur-items.ensures.value) in
     let passed = err_from_is_err_and c.from_residual-in_err-query-in-Boolean.result c.from_residual-in_err-query-in-Boolean.ensures.1 in
     rw (passed.1, passed.2) (elim c.in_err-query-in-Boolean.ensures [
       | inl memory ↦ inl memory
-      | inr is ↦ inr (boolean-refused (query_of c.args.spelled.now) c.in-Boolean.minimum (clauses_of (map clause_of xs)) e here
+      | inr is ↦ inr (boolean-refused (query_of c.args.spelled.now) c.in-Boolean.minimum (as_clauses (map spelled_clause xs)) e here
           (clauses-stopped xs c.loop-occur.occur-index c.loop-occur-item.result c.loop-occur-test.true c.loop-occur-item.is
-          (map built_clause c.loop-occur.built.items) e (clauses_asked (clauses_of (map clause_of xs))) is c.loop-occur.invariant))
+          (map built_clause c.loop-occur.built.items) e (clauses_asked (as_clauses (map spelled_clause xs))) is c.loop-occur.invariant))
     ])
 
 pub loop-occur-preserved : goal.loop-occur-preserved
@@ -41,25 +41,25 @@ loop-occur-preserved t c =
     let item = c.loop-occur-item.result in
     let box = c.in_ok-new-in-Boolean.field-0 in
     let front = map built_clause c.loop-occur.built.items in
-    let rest = clauses_asked (clauses_of (drop (c.loop-occur.occur-index + 1) (map clause_of xs))) in
+    let rest = clauses_asked (as_clauses (drop (c.loop-occur.occur-index + 1) (map spelled_clause xs))) in
     let grown : map built_clause c.push.new.self.items ≡ front ++ (item.0, built_query box.value) ∷ [] =
     ap (map built_clause) c.in_ok-push-in-Boolean.ensures.items ∙ map-append built_clause c.loop-occur.built.items ((item.0, box) ∷ []) in
     let same : built_query box.value ≡ built_query c.in_ok-query-in-Boolean.query = search rules in
     ap (λ f. with_front f rest) (grown ∙ ap (λ q. front ++ (item.0, q) ∷ []) same)
     ∙ clauses-step xs c.loop-occur.occur-index item c.loop-occur-test.true c.loop-occur-item.is front (built_query c.in_ok-query-in-Boolean.query)
-    (clauses_asked (clauses_of (map clause_of xs))) c.in_ok-query-in-Boolean.ensures c.loop-occur.invariant
+    (clauses_asked (as_clauses (map spelled_clause xs))) c.in_ok-query-in-Boolean.ensures c.loop-occur.invariant
 
 pub returns-after-loop-occur : goal.returns-after-loop-occur
 returns-after-loop-occur t c =
     let xs = c.deref-occur-items.result.now in
-    let tie : query_of c.args.spelled.now ≡ boolean c.in-Boolean.minimum (clauses_of (map clause_of c.in-Boolean.clauses.items)) =
+    let tie : query_of c.args.spelled.now ≡ boolean c.in-Boolean.minimum (as_clauses (map spelled_clause c.in-Boolean.clauses.items)) =
     query_of-boolean c.args.spelled.now c.in-Boolean.minimum c.in-Boolean.clauses (first_of (search (rules, the_lemmas), cc)) in
-    let here : query_of c.args.spelled.now ≡ boolean c.in-Boolean.minimum (clauses_of (map clause_of xs)) = tie
-    ∙ ap (λ l. boolean c.in-Boolean.minimum (clauses_of (map clause_of l))) (sym c.deref-occur-items.ensures.value) in
+    let here : query_of c.args.spelled.now ≡ boolean c.in-Boolean.minimum (as_clauses (map spelled_clause xs)) = tie
+    ∙ ap (λ l. boolean c.in-Boolean.minimum (as_clauses (map spelled_clause l))) (sym c.deref-occur-items.ensures.value) in
     through _ (query.boolean c.in-Boolean.minimum (subqueries_of c.loop-occur.built.items)) _
-    (boolean-made (query_of c.args.spelled.now) c.in-Boolean.minimum (clauses_of (map clause_of xs)) (map built_clause c.loop-occur.built.items) here
+    (boolean-made (query_of c.args.spelled.now) c.in-Boolean.minimum (as_clauses (map spelled_clause xs)) (map built_clause c.loop-occur.built.items) here
     (clauses-done xs c.loop-occur.occur-index (map built_clause c.loop-occur.built.items)
-    (clauses_asked (clauses_of (map clause_of xs))) c.loop-occur-test.false c.loop-occur.invariant))
+    (clauses_asked (as_clauses (map spelled_clause xs))) c.loop-occur-test.false c.loop-occur.invariant))
     c.build_boolean.ensures
 
 pub returns-in_err-query-in-DisjunctionMax : goal.returns-in_err-query-in-DisjunctionMax

@@ -1,9 +1,9 @@
 -- What was built so far, and what is asked behind it.
 use Rattle.std.proofs.Common.{◌≡◌, drop, map}
-use Rattle.qm_query.specs.Query.{clause_of as built_clause, query_of as built_query}
+use Rattle.qm_query.specs.Query.{spelled_clause as built_clause, query_of as built_query}
 use Rattle.qm_script.specs.Asked.{clauses_asked, disjuncts_asked}
-use Rattle.qm_script.specs.Script.{clauses_of, queries_of}
-use Rattle.qm_script.specs.Spelled.{clause_of, query_of}
+use Rattle.qm_script.specs.Script.{as_clauses, queries_of}
+use Rattle.qm_script.specs.Spelled.{spelled_clause, query_of}
 use Rattle.qm_script.proofs.Building.{with_front}
 use Rattle.qm_script.proofs.query_builder.+build_query.Given as goal
 
@@ -11,8 +11,8 @@ abbrev pub decreases-build_query : goal.decreases-build_query
 decreases-build_query l = goal.size-build_query l
 
 abbrev pub invariant-loop-occur : goal.invariant-loop-occur
-invariant-loop-occur l = with_front (map built_clause l.built.items) (clauses_asked (clauses_of (drop l.occur-index (map clause_of l.occur-items))))
-    ≡ clauses_asked (clauses_of (map clause_of l.occur-items))
+invariant-loop-occur l = with_front (map built_clause l.built.items) (clauses_asked (as_clauses (drop l.occur-index (map spelled_clause l.occur-items))))
+    ≡ clauses_asked (as_clauses (map spelled_clause l.occur-items))
 
 abbrev pub invariant-loop-inner : goal.invariant-loop-inner
 invariant-loop-inner l = with_front (map (λ b. built_query b.value) l.built.items)

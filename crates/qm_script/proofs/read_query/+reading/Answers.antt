@@ -4,7 +4,7 @@ use Rattle.std.proofs.lemmas.Result.{err_from_is_err_and}
 use Rattle.std.specs.Global.{Global}
 use Rattle.qm_script.specs.Cursor.{words_left}
 use Rattle.qm_script.specs.Script.{clause_at, many_at, query_at}
-use Rattle.qm_script.specs.Spelled.{clause_of, query_of}
+use Rattle.qm_script.specs.Spelled.{spelled_clause, query_of}
 use Rattle.qm_schema.specs.declared.occur.Occur.{Occur}
 use Rattle.qm_script.specs.declared.spelled_query.SpelledQuery.{SpelledQuery}
 use Rattle.qm_script.proofs.Reading.{many-done, many-more, many-stopped, query_at-form, query_at-none, reads-error, with_front}
@@ -19,9 +19,9 @@ read_clauses-returns-in_err-clause t c =
     let whole = many_at one c.args.count (words_left c.args.words.now) in
     let passed = err_from_is_err_and c.from_residual.result c.from_residual.ensures.1 in
     rw (passed.1, passed.2)
-    (reads-error clause_of (λ (v : Vec (Occur × SpelledQuery) Global). map clause_of v.items) c.in_err-clause.field-0.0
+    (reads-error spelled_clause (λ (v : Vec (Occur × SpelledQuery) Global). map spelled_clause v.items) c.in_err-clause.field-0.0
     (words_left c.read_clause.new.words) (words_left c.read_clause.new.words) (one (words_left c.loop.words)) whole
-    (λ none. many-stopped one (map clause_of c.loop.clauses.items) c.args.count c.loop.counter
+    (λ none. many-stopped one (map spelled_clause c.loop.clauses.items) c.args.count c.loop.counter
     (words_left c.loop.words) whole c.loop-test.true none c.loop.invariant)
     c.in_err-clause.ensures)
 
@@ -29,14 +29,14 @@ pub read_clauses-loop-preserved : goal.read_clauses-loop-preserved
 read_clauses-loop-preserved t c =
     let one = clause_at (query_at c.args.depth) in
     ap (λ l. with_front l (many_at one (c.args.count - (c.loop.counter + 1)) (words_left c.read_clause.new.words)))
-    (ap (map clause_of) c.in_ok-push.ensures.items ∙ map-append clause_of c.loop.clauses.items (c.in_ok-clause.clause ∷ []))
-    ∙ many-more one (map clause_of c.loop.clauses.items) c.args.count c.loop.counter (words_left c.loop.words) (words_left c.read_clause.new.words)
-    (clause_of c.in_ok-clause.clause) (many_at one c.args.count (words_left c.args.words.now)) c.loop-test.true c.in_ok-clause.ensures c.loop.invariant
+    (ap (map spelled_clause) c.in_ok-push.ensures.items ∙ map-append spelled_clause c.loop.clauses.items (c.in_ok-clause.clause ∷ []))
+    ∙ many-more one (map spelled_clause c.loop.clauses.items) c.args.count c.loop.counter (words_left c.loop.words) (words_left c.read_clause.new.words)
+    (spelled_clause c.in_ok-clause.clause) (many_at one c.args.count (words_left c.args.words.now)) c.loop-test.true c.in_ok-clause.ensures c.loop.invariant
 
 pub read_clauses-returns : goal.read_clauses-returns
 read_clauses-returns t c =
     let one = clause_at (query_at c.args.depth) in
-    many-done one (map clause_of c.loop.clauses.items) c.args.count c.loop.counter (words_left c.loop.words)
+    many-done one (map spelled_clause c.loop.clauses.items) c.args.count c.loop.counter (words_left c.loop.words)
     (many_at one c.args.count (words_left c.args.words.now)) (omega arith) c.loop.invariant
 
 pub read_disjuncts-returns-in_err-query : goal.read_disjuncts-returns-in_err-query

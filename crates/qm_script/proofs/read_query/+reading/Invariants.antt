@@ -1,7 +1,7 @@
 use Rattle.std.proofs.Common.{◌≡◌, ◌+◌, ◌-◌, ◌*◌, map}
 use Rattle.qm_script.specs.Cursor.{words_left}
 use Rattle.qm_script.specs.Script.{clause_at, many_at, query_at}
-use Rattle.qm_script.specs.Spelled.{clause_of, query_of}
+use Rattle.qm_script.specs.Spelled.{spelled_clause, query_of}
 use Rattle.qm_script.proofs.Reading.{with_front}
 use Rattle.qm_script.proofs.read_query.+reading.Given as goal
 
@@ -37,7 +37,7 @@ abbrev pub decreases-read_clause : goal.decreases-read_clause
 decreases-read_clause l = 6 * l.depth + 1
 
 abbrev pub invariant-read_clauses-loop : goal.invariant-read_clauses-loop
-invariant-read_clauses-loop l = with_front (map clause_of l.clauses.items) (many_at (clause_at (query_at l.depth)) (l.count - l.counter) (words_left l.words))
+invariant-read_clauses-loop l = with_front (map spelled_clause l.clauses.items) (many_at (clause_at (query_at l.depth)) (l.count - l.counter) (words_left l.words))
     ≡ many_at (clause_at (query_at l.depth)) l.count (words_left l.initial.words)
 
 abbrev pub invariant-read_disjuncts-loop : goal.invariant-read_disjuncts-loop

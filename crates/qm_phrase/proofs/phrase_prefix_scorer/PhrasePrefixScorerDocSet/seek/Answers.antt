@@ -1,7 +1,7 @@
 -- The first document from the target on that counts.
 use Rattle.std.proofs.Common.{ap, ◌∙◌, sym, arith}
 use Rattle.qm_postings.specs.FieldNorms.{norm_ids}
-use Rattle.qm_phrase.specs.PhrasePrefix.{held}
+use Rattle.qm_phrase.specs.PhrasePrefix.{held_count}
 use Rattle.qm_phrase.specs.PrefixTerms.{lists_of}
 use Rattle.qm_phrase.proofs.PrefixEntries.{found-entries, found-head, gone-same, gone-some}
 use Rattle.qm_phrase.proofs.phrase_prefix_scorer.PhrasePrefixScorerDocSet.seek.Goals as goal
@@ -38,8 +38,8 @@ returns-clause-placed g c =
     record {
       document = found-head self.similarity_weight (norm_ids self.fieldnorm_reader) c.args.target step.result
           (lists_of g.P.DocSet self.terms) (lists_of g.P.DocSet step.new.self) step.ensures.found step.ensures.moved;
-      prefix = λ below. (step.ensures.found.here below).prefix ∙ ap held (sym (step.ensures.moved.counts doc (omega arith)));
-      full = λ below. (step.ensures.found.here below).full ∙ ap held (sym (step.ensures.moved.full doc (omega arith)));
+      prefix = λ below. (step.ensures.found.here below).prefix ∙ ap held_count (sym (step.ensures.moved.counts doc (omega arith)));
+      full = λ below. (step.ensures.found.here below).full ∙ ap held_count (sym (step.ensures.moved.full doc (omega arith)));
     }
 
 pub returns-clause-kept : goal.returns-clause-kept

@@ -4,7 +4,7 @@ use Rattle.qm_docset.proofs.Gathering.{head_document-from}
 use Rattle.qm_docset.specs.Entry.{head_document}
 use Rattle.qm_docset.specs.declared.numbers.TheConstants.{TERMINATED}
 use Rattle.qm_postings.specs.FieldNorms.{norm_ids}
-use Rattle.qm_phrase.specs.PhrasePrefix.{held}
+use Rattle.qm_phrase.specs.PhrasePrefix.{held_count}
 use Rattle.qm_phrase.specs.PhrasePrefixScorer.{phrase_prefix_left}
 use Rattle.qm_phrase.specs.PrefixTerms.{lists_of}
 use Rattle.qm_phrase.proofs.PrefixEntries.{gone-same, gone-some, look-bound, look-entries, look-head}
@@ -51,8 +51,8 @@ returns-in-Ok-clause-placed g c =
     record {
       document = look-head self.similarity_weight (norm_ids self.fieldnorm_reader) c.args.target c.in-Ok.counts
           (lists_of g.P.DocSet self.terms) (lists_of g.P.DocSet step.new.self) (omega (arith, c.requires.target)) step.ensures.moved answer;
-      prefix = λ below. answer.prefix ∙ ap held (sym (step.ensures.moved.counts c.args.target (omega arith)));
-      full = λ below. answer.full ∙ ap held (sym (step.ensures.moved.full c.args.target (omega arith)));
+      prefix = λ below. answer.prefix ∙ ap held_count (sym (step.ensures.moved.counts c.args.target (omega arith)));
+      full = λ below. answer.full ∙ ap held_count (sym (step.ensures.moved.full c.args.target (omega arith)));
     }
 
 pub returns-in-Err-clause-answer : goal.returns-in-Err-clause-answer

@@ -4,7 +4,7 @@ use Rattle.std.proofs.lemmas.Int.{to_z-of_z}
 use Rattle.std.proofs.lemmas.Option.{get_or_from_slice_get}
 use Rattle.qm_docset.specs.declared.numbers.TheConstants.{TERMINATED}
 use Rattle.qm_postings.specs.FieldNorms.{norm_ids}
-use Rattle.qm_phrase.specs.PhrasePrefix.{full_count, has_several, held}
+use Rattle.qm_phrase.specs.PhrasePrefix.{full_count, has_several, held_count}
 use Rattle.qm_phrase.specs.PrefixTerms.{lists_of}
 use Rattle.qm_phrase.proofs.PrefixEntries.{prefix-stands, prefix_points-none, prefix_points-several, prefix_points-single}
 use Rattle.qm_phrase.proofs.phrase_prefix_scorer.PhrasePrefixScorerScorer.score.Goals as goal
@@ -16,7 +16,7 @@ returns-then-not-has_several-clause-score g c =
     let stands = prefix-stands self.similarity_weight (norm_ids self.fieldnorm_reader) t self.doc c.requires.placed.document
     (omega (arith, c.requires.placed.document, c.requires.here)) in
     let points = prefix_points-single self.similarity_weight c.in-Some.weight (has_several t)
-    (norm_ids self.fieldnorm_reader) self.doc (held (full_count t self.doc)) c.in-Some.is c.if-not-has_several.ensures in
+    (norm_ids self.fieldnorm_reader) self.doc (held_count (full_count t self.doc)) c.in-Some.is c.if-not-has_several.ensures in
     to_z-of_z w64 c.boost.result (record { sfits = c.boost.type_inv }) ∙ c.boost.ensures ∙ ap pos (points ∙ sym stands.1)
 
 pub fieldnorm_id-fieldnorm_id-requires : goal.fieldnorm_id-fieldnorm_id-requires
@@ -45,5 +45,5 @@ returns-in-None-clause-score g c =
     let t = lists_of g.P.DocSet self.terms in
     let stands = prefix-stands self.similarity_weight (norm_ids self.fieldnorm_reader) t self.doc c.requires.placed.document
     (omega (arith, c.requires.placed.document, c.requires.here)) in
-    ap pos (prefix_points-none self.similarity_weight (has_several t) (norm_ids self.fieldnorm_reader) self.doc (held (full_count t self.doc)) c.in-None.is
+    ap pos (prefix_points-none self.similarity_weight (has_several t) (norm_ids self.fieldnorm_reader) self.doc (held_count (full_count t self.doc)) c.in-None.is
     ∙ sym stands.1)

@@ -1,6 +1,6 @@
 -- The terms as they are handed in, beside their buffers.
 use Rattle.std.proofs.Common.{◌≡◌, ◌-◌, ◌≤◌, fold, map, max, All, ap, sym, ◌∙◌, arith, subst}
-use Rattle.qm_phrase.specs.PhrasePrefix.{greatest_of}
+use Rattle.qm_phrase.specs.PhrasePrefix.{greatest_offset_of}
 use Rattle.qm_phrase.specs.PhraseTerms.{offsets_of}
 use Rattle.qm_phrase.specs.Places.{room_of, shift_of}
 use Rattle.qm_phrase.proofs.HandedIn.{greatest-le}
@@ -59,10 +59,10 @@ returns-clause-valid g c = record {
 pub returns-clause-lists : goal.returns-clause-lists
 returns-clause-lists g c =
     let offsets = offsets_of c.args.terms in
-    let greatest : c.max-greatest.result ≡ greatest_of offsets c.args.suffix_pos =
+    let greatest : c.max-greatest.result ≡ greatest_offset_of offsets c.args.suffix_pos =
     omega (arith, c.max-greatest.ensures, c.greatest_offset.ensures, ap (λ r. fold max 0 (map (λ t. t.0) r)) c.deref.ensures.value) in
     let shifts = c.in_ok-full.ensures.shifts ∙ ap (λ n. map (λ offset. n - offset) offsets) greatest in
-    let own : shift_of c.in_ok-suffix_places.suffix_places ≡ greatest_of offsets c.args.suffix_pos - c.args.suffix_pos =
+    let own : shift_of c.in_ok-suffix_places.suffix_places ≡ greatest_offset_of offsets c.args.suffix_pos - c.args.suffix_pos =
     omega (arith, c.in_ok-suffix_places.ensures.shift, c.saturating_sub-shift.ensures, greatest) in
     λ i. record {
       full_shifts = shifts i;

@@ -6,7 +6,7 @@ use Rattle.qm_docset.specs.Entry.{head_positions}
 use Rattle.qm_docset.specs.Lists.{bounds, lists}
 use Rattle.qm_phrase.specs.Phrase.{shifted_each}
 use Rattle.qm_phrase.specs.TermRows.{each_of, rows_left, terms_of}
-use Rattle.qm_phrase.specs.Terms.{begun, shifts_in, terms_in}
+use Rattle.qm_phrase.specs.Terms.{unpassed, shifts_in, terms_in}
 use Rattle.qm_phrase.specs.declared.terms.TermPlaces.{TermPlaces}
 use Rattle.qm_phrase.proofs.TermMoves.{AreTerms-kept}
 use Rattle.qm_phrase.proofs.TermRows.{rows_left-begun, terms_of-begun}
@@ -19,7 +19,7 @@ returns-clause-sets g c =
     let positions = whole self.positions.len read self.positions.items
     (c.read_positions.auto.positions ∙ ap length c.deref_mut-2.ensures.value) self.positions.ok.0 in
     let rows = whole self.rows.len c.rewind.new.rows self.rows.items (c.rewind.auto.rows ∙ ap length c.deref_mut-3.ensures.value) self.rows.ok.0 in
-    rw (positions, rows) (ap (rows_left read) (c.rewind.ensures ∙ ap (map begun) c.deref_mut-3.ensures.value) ∙ rows_left-begun read self.rows.items
+    rw (positions, rows) (ap (rows_left read) (c.rewind.ensures ∙ ap (map unpassed) c.deref_mut-3.ensures.value) ∙ rows_left-begun read self.rows.items
     ∙ ap (λ r. shifted_each (shifts_in self) (each_of r (terms_in self)))
     (c.read_positions.ensures.positions ∙ ap (λ ms. map head_positions (lists g.P.DocSet ms)) c.deref_mut.ensures.value))
 
@@ -40,7 +40,7 @@ returns-clause-kept g c =
     let rows : new.rows.items ≡ c.rewind.new.rows =
     whole self.rows.len c.rewind.new.rows self.rows.items (c.rewind.auto.rows ∙ ap length c.deref_mut-3.ensures.value) self.rows.ok.0 in
     let terms : terms_in new ≡ terms_in self =
-    ap terms_of (rows ∙ c.rewind.ensures ∙ ap (map begun) c.deref_mut-3.ensures.value) ∙ terms_of-begun self.rows.items in
+    ap terms_of (rows ∙ c.rewind.ensures ∙ ap (map unpassed) c.deref_mut-3.ensures.value) ∙ terms_of-begun self.rows.items in
     let limits : bounds D new.members.items ≡ bounds D self.members.items =
     ap (map D.limits) members ∙ read.ensures.limits ∙ ap (map D.limits) c.deref_mut.ensures.value in
     record {

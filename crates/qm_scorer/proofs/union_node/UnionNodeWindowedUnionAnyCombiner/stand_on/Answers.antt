@@ -7,7 +7,7 @@ use Rattle.qm_combine.specs.Window.{window_combiner, window_has}
 use Rattle.qm_combine.specs.Windowed.{IsWindowed}
 use Rattle.qm_combine.proofs.Standing.{stands_on}
 use Rattle.qm_scorer.specs.AnyCombiner.{any_combined}
-use Rattle.qm_scorer.specs.Tree.{kept_score, tree_entries, tree_limits, united}
+use Rattle.qm_scorer.specs.Tree.{kept_score, tree_entries, tree_limits, union_listing}
 use Rattle.qm_scorer.specs.TreeFacts.{tree-ascends}
 use Rattle.qm_scorer.specs.United.{union_limits, union_list, union_lists}
 use Rattle.qm_scorer.proofs.union_node.UnionNodeWindowedUnionAnyCombiner.stand_on.Goals as goal
@@ -15,7 +15,7 @@ use Rattle.qm_scorer.proofs.union_node.UnionNodeWindowedUnionAnyCombiner.stand_o
 use Rattle.qm_scorer.proofs.union_node.UnionNodeWindowedUnionAnyCombiner.stand_on.Given.{Over}
 
 stood : (g : Over) (c : Start g)
-    → (united c.args.self.now.window c.args.doc (union_lists g.S.DocSet c.args.self.now) ≡ from c.args.doc (union_list g.S.DocSet c.args.self.now))
+    → (union_listing c.args.self.now.window c.args.doc (union_lists g.S.DocSet c.args.self.now) ≡ from c.args.doc (union_list g.S.DocSet c.args.self.now))
     × IsWindowed 1 (window_has c.args.self.now.window) (kept_score c.args.self.now.window) c.args.doc c.args.self.now.ahead
     (any_combined (window_combiner c.args.self.now.window)) (united_limits (union_limits g.S.DocSet c.args.self.now)) (union_lists g.S.DocSet c.args.self.now)
 stood g c =

@@ -12,7 +12,7 @@ use Rattle.qm_term.specs.declared.norms.Norms.{Ghosts as NormGhosts}
 use Rattle.qm_term.specs.declared.term_scorer.TermScorer.{TermScorer}
 use Rattle.qm_weight.specs.ClauseScorers.{clause_trees}
 use Rattle.qm_weight.specs.Scorers.{IsListOf, IsRefusalOf}
-use Rattle.qm_weight.specs.TermUnions.{AreAll, AreTreeCursors, ListTogether, clause_of, clauses_in, trees_in}
+use Rattle.qm_weight.specs.TermUnions.{AreAll, AreTreeCursors, ListTogether, clause_tree_in, clauses_in, trees_in}
 use Rattle.qm_weight.specs.Tree.{Fits}
 use Rattle.qm_weight.specs.Weights.{clause_occur, terms_tree}
 use Rattle.qm_weight.specs.declared.terms_weight.TermsWeight.{TermsWeight}
@@ -24,13 +24,13 @@ use Rattle.qm_weight.proofs.terms_weight.pruned.prune_must.Goals as goal
 module _ {N : Type 0} {G : NormGhosts N} (w : TermsWeight) (b : ℕ) (segment : Segment) (must : AreAll Must w.clauses.items)
     (terms : List (TermScorer N G)) (cursors : AreTreeCursors of_terms (trees_in w) b segment terms) where
   many : length (clause_trees (clauses_in w) Must) ≡ length w.clauses.items
-  many = ap length (all-trees clause_occur (clause_of w) Must w.clauses.items must) ∙ length-map w.clauses.items (clause_of w)
+  many = ap length (all-trees clause_occur (clause_tree_in w) Must w.clauses.items must) ∙ length-map w.clauses.items (clause_tree_in w)
 
   alone : AreAlone Must (clauses_in w)
-  alone = all-alone clause_occur (clause_of w) Must w.clauses.items must
+  alone = all-alone clause_occur (clause_tree_in w) Must w.clauses.items must
 
   found : AreTreeCursors of_terms (clause_trees (clauses_in w) Must) b segment terms
-  found = all-cursors clause_occur (clause_of w) Must of_terms b segment w.clauses.items terms must cursors
+  found = all-cursors clause_occur (clause_tree_in w) Must of_terms b segment w.clauses.items terms must cursors
 
   valid : All IsTermScorer terms
   valid = (placed-cursors of_terms b segment (trees_in w) terms cursors).valid

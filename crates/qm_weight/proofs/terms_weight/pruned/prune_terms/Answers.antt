@@ -4,7 +4,7 @@ use Rattle.std.proofs.lemmas.Int.{to_z-of_z}
 use Rattle.qm_docset.specs.declared.numbers.TheConstants.{TERMINATED}
 use Rattle.qm_schema.specs.declared.occur.Occur.TheVariants.{Should}
 use Rattle.qm_term.specs.Runs.{InRange}
-use Rattle.qm_weight.specs.TermUnions.{AreAll, clause_of, clauses_in}
+use Rattle.qm_weight.specs.TermUnions.{AreAll, clause_tree_in, clauses_in}
 use Rattle.qm_weight.specs.Weights.{clause_occur, terms_tree}
 use Rattle.qm_weight.proofs.RunSteps.{MayPrune-at, MayPruneTree-from, PrunesTree-from, tree-run}
 use Rattle.qm_weight.proofs.TermRuns.{of_terms}
@@ -25,9 +25,9 @@ prune_by_blocks-requires-clause-terms g c =
     let least : w.rule.minimum_number_should_match ≤ 1 = search rules in
     let should : AreAll Should w.clauses.items = search rules in
     let terms = c.in_ok-terms.terms.items in
-    together of_terms w.rule (clauses_in w) c.args.boost segment few (all-alone clause_occur (clause_of w) Should w.clauses.items should) 1
+    together of_terms w.rule (clauses_in w) c.args.boost segment few (all-alone clause_occur (clause_tree_in w) Should w.clauses.items should) 1
     (omega (arith, least)) terms
-    (all-cursors clause_occur (clause_of w) Should of_terms c.args.boost segment w.clauses.items terms should c.in_ok-terms.ensures.cursors)
+    (all-cursors clause_occur (clause_tree_in w) Should of_terms c.args.boost segment w.clauses.items terms should c.in_ok-terms.ensures.cursors)
 
 pub prune_by_blocks-requires-clause-allowed : goal.prune_by_blocks-requires-clause-allowed
 prune_by_blocks-requires-clause-allowed g c =

@@ -2,7 +2,7 @@
 use Rattle.std.proofs.Common.{rules, ◌≡◌, ◌++◌, ◌∷◌, ◌<◌, [], Err, Global, IfErr, Vec, ap, get_or, length, subst, sym, ◌∙◌}
 use Rattle.std.proofs.lemmas.List.{append-nil}
 use Rattle.qm_weight.specs.ClauseScorers.{IsClauseRefusal}
-use Rattle.qm_weight.specs.TermUnions.{clause_of, clauses_in, there}
+use Rattle.qm_weight.specs.TermUnions.{clause_tree_in, clauses_in, there}
 use Rattle.qm_weight.specs.Weights.{clause_occur, clause_tree}
 use Rattle.qm_weight.proofs.ClauseSteps.{refusal-clause}
 use Rattle.qm_weight.proofs.TermUnions.{cursors-step}
@@ -38,5 +38,5 @@ loop-clause-preserved g c =
           ap (λ (v : Vec g.row.T.Denot Global). v.items) b.cursors-is ∙ sym (append-nil before)
           ∙ ap (λ f. before ++ there (f ∷ [])) (sym b.in_default.is)
     ] in
-    cursors-step g.T.DocSet (clause_of w) c.args.boost c.args.reader.now.segment w.clauses.items i item before
+    cursors-step g.T.DocSet (clause_tree_in w) c.args.boost c.args.reader.now.segment w.clauses.items i item before
     c.match-branch-3.cursors.items found at within c.loop-clause.invariant c.in_ok-cursor.ensures.cursor added

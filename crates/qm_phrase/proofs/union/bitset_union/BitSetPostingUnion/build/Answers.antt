@@ -5,7 +5,7 @@ use Rattle.qm_docset.specs.BitSetDocSet.{remaining_members}
 use Rattle.qm_docset.specs.BitSetDocSetFacts.{AreEntries-remaining}
 use Rattle.qm_docset.specs.Entry.{from, no_limits}
 use Rattle.qm_docset.specs.Lists.{lists, bounds}
-use Rattle.qm_phrase.specs.PostingUnions.{postings_limits}
+use Rattle.qm_phrase.specs.PostingUnions.{limits_of_postings}
 use Rattle.qm_phrase.proofs.UnitedOver.{over-moved}
 use Rattle.qm_phrase.proofs.union.bitset_union.BitSetPostingUnion.build.Goals as goal
 
@@ -23,7 +23,7 @@ returns g c =
       lists = record {
         entries =
             rw same (over-moved no_limits set old (lists g.D.DocSet new) (AreEntries-remaining c.args.bitset c.requires.set.valid) (rw c.doc.ensures at left));
-        limits = rw same (ap postings_limits limits);
+        limits = rw same (ap limits_of_postings limits);
         valid = record {
           set = c.requires.set.valid;
           on_member = c.requires.set.placed;

@@ -4,9 +4,9 @@ use Rattle.qm_combine.proofs.Leading.{whole}
 use Rattle.qm_docset.specs.Entry.{from}
 use Rattle.qm_docset.specs.EntryFacts.{from-reached}
 use Rattle.qm_docset.specs.Lists.{lists, bounds}
-use Rattle.qm_phrase.specs.PostingUnions.{postings_limits}
+use Rattle.qm_phrase.specs.PostingUnions.{limits_of_postings}
 use Rattle.qm_phrase.specs.PostingUnionFacts.{AreEntries-united}
-use Rattle.qm_phrase.proofs.UnitedLists.{head_document-united, united-sought}
+use Rattle.qm_phrase.proofs.UnitedLists.{head_document-united, united_entry-sought}
 use Rattle.qm_phrase.proofs.union.simple_union.SimpleUnionDocSet.seek.Goals as goal
 
 pub returns-then-target-self : goal.returns-then-target-self
@@ -36,9 +36,9 @@ returns g c =
     record {
       head = rw same
           (step.ensures.least ∙ head_document-united g.D.DocSet.valid g.D.DocSet.limits g.D.DocSet.entries g.met.D.DocSet.ascending new step.ensures.valid);
-      entries = rw same (united-sought g.D.DocSet.entries g.D.DocSet.limits c.args.target (lists g.D.DocSet members.items) new
+      entries = rw same (united_entry-sought g.D.DocSet.entries g.D.DocSet.limits c.args.target (lists g.D.DocSet members.items) new
           (λ k d below. g.met.D.DocSet.ascending _ (step.ensures.valid k d below)) (λ k d below. (step.ensures.reached k d below).1) left);
-      limits = rw same (ap postings_limits limits);
+      limits = rw same (ap limits_of_postings limits);
       kept = λ s k. tt;
       valid = record {
         members = rw same (record { valid = step.ensures.valid; placed = λ k d below. (step.ensures.reached k d below).0 });
