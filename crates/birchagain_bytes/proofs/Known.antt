@@ -7,11 +7,8 @@ use Rattle.std.specs.declared.cmp.Ordering.{Ordering}
 use Rattle.std.specs.declared.cmp.Ordering.TheVariants.{Equal, Greater, Less}
 use Rattle.std.proofs.lemmas.Bool.{cases_lt, eq-eqb, ne_eqb}
 use Rattle.std.proofs.lemmas.Cmp.{ranked}
+use Rattle.std.proofs.Math.Bool.{or-true}
 use Rattle.birchagain_bytes.specs.Bytes.{is_known}
-
-or-true : (b : Bool) → (b || true) ≡ true
-or-true true = refl
-or-true false = refl
 
 known-at : (known : List ℕ) (i number : ℕ) → i < length known → get_or known i 0 ≡ number → is_known known number ≡ true
 known-at [] i number below is = absurd (omega (arith, below))

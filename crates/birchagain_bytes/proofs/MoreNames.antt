@@ -3,18 +3,15 @@ use Rattle.std.proofs.Common.{◌≡◌, ◌||◌, Bool, true, false, List, [], 
 use Rattle.std.specs.Str.{bytes_eq}
 use Rattle.qm_folder.specs.Names.{AreDistinct, Name, is_among}
 use Rattle.std.proofs.lemmas.Bool.{both_ways}
+use Rattle.std.proofs.Math.Bool.{or-false}
 use Rattle.qm_folder.proofs.NameLists.{neither, none_of_both, other_name, same_itself}
-
-or_false : (a : Bool) → (a || false) ≡ a
-or_false true = refl
-or_false false = refl
 
 grouped : (a r b : Bool) → (a || (r || b)) ≡ ((a || r) || b)
 grouped true r b = refl
 grouped false r b = refl
 
 pub among_last : (names : List Name) (name n : Name) → is_among (names ++ name ∷ []) n ≡ (is_among names n || bytes_eq n name)
-among_last [] name n = or_false (bytes_eq n name)
+among_last [] name n = or-false (bytes_eq n name)
 among_last (m ∷ names) name n = ap (λ (b : Bool). bytes_eq n m || b) (among_last names name n) ∙ grouped (bytes_eq n m) (is_among names n) (bytes_eq n name)
 
 pub not_same : (n m : Name) → bytes_eq n m ≡ false → bytes_eq m n ≡ false

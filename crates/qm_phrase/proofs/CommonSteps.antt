@@ -7,11 +7,12 @@ use Rattle.std.proofs.lemmas.List.Elements.{All-nil, All-cons, All-head, All-tai
 use Rattle.std.proofs.lemmas.List.Folds.{list_any-append}
 use Rattle.std.proofs.lemmas.List.Sums.{sum_by-cons}
 use Rattle.std.proofs.lemmas.List.{length-append}
+use Rattle.std.proofs.Math.Bool.{or-false, and-true, and-false, or-true}
 use Rattle.qm_postings.specs.Positions.{is_in}
 use Rattle.qm_phrase.specs.PhrasePrefix.{IsCommonOf, common_below, common_count, is_common}
 use Rattle.qm_phrase.specs.Places.{Ascends, first_place, greatest_first_place, least_first_place, past}
 use Rattle.qm_phrase.specs.Starts.{all_places, has_near, is_place, is_start, starts, starts_below}
-use Rattle.qm_phrase.proofs.StartSteps.{All-least, All-past, and_false, or_true, count_by-none, count_by-same, is_start-least, is_start-past, is_start-past_here}
+use Rattle.qm_phrase.proofs.StartSteps.{All-least, All-past, count_by-none, count_by-same, is_start-least, is_start-past, is_start-past_here}
 use Rattle.qm_phrase.proofs.StartSteps.{least_first_place-past, near-empty, one_if, starts-ended, starts-step}
 
 -- A place that all have is a start without slop.
@@ -37,7 +38,7 @@ is_start-zero x [] some = absurd (omega arith)
 is_start-zero x (s ∷ sets) some =
     ap (λ b. is_place (s ∷ sets) x && b) (near-zero x (s ∷ sets)) ∙ elim (cases_Bool (is_in x s)) [
       | inl has ↦ rw has refl
-      | inr lacks ↦ rw lacks (and_false (is_place sets x))
+      | inr lacks ↦ rw lacks (and-false (is_place sets x))
     ]
 
 common_below-starts : (sets : List (List ℕ)) (n : ℕ) → 0 < length sets → common_below sets n ≡ starts_below 0 sets n
@@ -89,14 +90,10 @@ pub common-fewer : (s : List ℕ) (sets : List (List ℕ)) → common_count (s �
 unfolding common_count
 common-fewer s sets = common_below-fewer s sets all_places
 
-and_true : (b : Bool) → (b && true) ≡ b
-and_true true = refl
-and_true false = refl
-
 -- the list of the common places stands for the sets
 pub common-listed : (sets : List (List ℕ)) (places s : List ℕ) → IsCommonOf sets places → common_count (s ∷ places ∷ []) ≡ common_count (s ∷ sets)
 common-listed sets places s is =
-    common-same (s ∷ places ∷ []) (s ∷ sets) (λ x. ap (λ b. is_in x s && b) (and_true (is_in x places) ∙ is.members x))
+    common-same (s ∷ places ∷ []) (s ∷ sets) (λ x. ap (λ b. is_in x s && b) (and-true (is_in x places) ∙ is.members x))
 
 -- Collecting: the places that were found, and what the sets that are left have in common.
 
@@ -137,15 +134,11 @@ below-later x n (p ∷ ps) h all =
     let first = All-head Below p ps all in
     All-cons (λ p. p < n) p ps (omega arith) (below-later x n ps h (All-tail Below p ps all))
 
-or_false : (b : Bool) → (b || false) ≡ b
-or_false true = refl
-or_false false = refl
-
 is_in-push_here : (x y : ℕ) (ps : List ℕ) → y ≡ x → is_in y (ps ++ x ∷ []) ≡ true
-is_in-push_here x y ps same = list_any-append (λ p. y == p) ps (x ∷ []) ∙ rw (eq-eqb y x same) (or_true (is_in y ps))
+is_in-push_here x y ps same = list_any-append (λ p. y == p) ps (x ∷ []) ∙ rw (eq-eqb y x same) (or-true (is_in y ps))
 
 is_in-push_other : (x y : ℕ) (ps : List ℕ) → y ≢ x → is_in y (ps ++ x ∷ []) ≡ is_in y ps
-is_in-push_other x y ps other = list_any-append (λ p. y == p) ps (x ∷ []) ∙ rw (ne_eqb y x other) (or_false (is_in y ps))
+is_in-push_other x y ps other = list_any-append (λ p. y == p) ps (x ∷ []) ∙ rw (ne_eqb y x other) (or-false (is_in y ps))
 
 -- a place that all begin with is found
 pub collected-common : (all left : List (List ℕ)) (found : List ℕ) (x : ℕ) → x ≡ least_first_place left → x ≡ greatest_first_place left →
@@ -163,7 +156,7 @@ collected-common all left found x least greatest under was =
         | inl same ↦
             let found_here = is_in-push_here x y found same in
             let starts_here : is_start 0 left y ≡ true = ap (is_start 0 left) same ∙ start in
-            ap (λ b. b || is_start 0 (map (past x) left) y) found_here ∙ sym (or_true (is_in y found))
+            ap (λ b. b || is_start 0 (map (past x) left) y) found_here ∙ sym (or-true (is_in y found))
             ∙ ap (λ b. is_in y found || b) (sym starts_here) ∙ was.members y
         | inr other ↦
             ap (λ b. b || is_start 0 (map (past x) left) y) (is_in-push_other x y found other)
@@ -201,8 +194,8 @@ pub collected-all : (all left : List (List ℕ)) (found : List ℕ) → 0 < leng
 collected-all all left found some ended was = record {
   ascends = was.ascends;
   members = λ x.
-      let none : is_start 0 left x ≡ false = ap (λ b. is_place left x && b) (near-empty 0 x left ended was.rows) ∙ and_false (is_place left x) in
-      sym (or_false (is_in x found)) ∙ ap (λ b. is_in x found || b) (sym none) ∙ was.members x ∙ is_start-zero x all some;
+      let none : is_start 0 left x ≡ false = ap (λ b. is_place left x && b) (near-empty 0 x left ended was.rows) ∙ and-false (is_place left x) in
+      sym (or-false (is_in x found)) ∙ ap (λ b. is_in x found || b) (sym none) ∙ was.members x ∙ is_start-zero x all some;
   number = omega (arith, starts-ended 0 left ended was.rows, was.number, common-starts all some);
 }
 

@@ -6,6 +6,7 @@ use Rattle.std.proofs.lemmas.List.{get_or_append_left, length-map, map-append}
 use Rattle.std.proofs.lemmas.List.Elements.{All-get_or, All-head, All-map, All-push, All-tail, All-weaker}
 use Rattle.std.proofs.lemmas.List.Folds.{list_any-append}
 use Rattle.std.proofs.Math.Seq.{get_or-append_seam}
+use Rattle.std.proofs.Math.Bool.{or-true}
 use Rattle.qm_docset.specs.Entry.{Entry, head_positions}
 use Rattle.qm_docset.specs.Gather.{entries_of}
 use Rattle.qm_docset.specs.GatherFacts.{entries_of-nil, entries_of-other}
@@ -21,7 +22,6 @@ use Rattle.qm_phrase.specs.Terms.{AreRoomy, AreTerms, shifts_in, term_lists, ter
 use Rattle.qm_phrase.specs.declared.phrase_terms.PhraseTerms.{PhraseTerms}
 use Rattle.qm_phrase.specs.declared.terms.TermPlaces.{TermPlaces}
 use Rattle.qm_phrase.proofs.PhraseSteps.{starts_at-lacks}
-use Rattle.qm_phrase.proofs.StartSteps.{or_true}
 
 fold_max-le : (n a : ℕ) (xs : List ℕ) → a ≤ n → All (λ x. x ≤ n) xs → fold max a xs ≤ n
 fold_max-le n a [] h all = h
@@ -70,7 +70,7 @@ used-push count offset terms used k below =
     elim (cases_lt k count) [
       | inl before ↦ used-before k terms (offset, count) (used k before)
       | inr last ↦ list_any-append (λ u. u.1 == k) terms ((offset, count) ∷ [])
-          ∙ rw (eq-eqb count k (omega (arith, below, last))) (or_true (is_used terms k))
+          ∙ rw (eq-eqb count k (omega (arith, below, last))) (or-true (is_used terms k))
     ]
 
 each_of-longer : {X : Type 0} (xs : List (List X)) (x : List X) (terms : List (ℕ × ℕ)) → AreInside (length xs) terms →

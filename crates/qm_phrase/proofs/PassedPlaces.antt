@@ -6,11 +6,12 @@ use Rattle.std.specs.List.Sorted.{IsStrictlyIncreasing}
 use Rattle.std.proofs.lemmas.Bool.{cases_lt, lt-leb, ne_eqb}
 use Rattle.std.proofs.lemmas.List.{drop-drop, drop-map}
 use Rattle.std.proofs.lemmas.List.Elements.{All-cons, All-head, All-nil, All-tail}
+use Rattle.std.proofs.Math.Bool.{and-false}
 use Rattle.qm_postings.specs.Positions.{is_in, shifted}
 use Rattle.qm_phrase.specs.Places.{Ascends, HasPassed, HavePassed, first_place, greatest_first_place, least_first_place}
 use Rattle.qm_phrase.specs.Starts.{has_near, is_place, is_start, starts}
 use Rattle.qm_phrase.proofs.CommonSteps.{IsCollected, below-later}
-use Rattle.qm_phrase.proofs.StartSteps.{Ascends-first, Ascends-lower, and_false, first_place-ascends, has_near-none, starts-same}
+use Rattle.qm_phrase.proofs.StartSteps.{Ascends-first, Ascends-lower, first_place-ascends, has_near-none, starts-same}
 
 Ascends-drop : (low n : ℕ) (s : List ℕ) → Ascends low s → Ascends low (drop n s)
 Ascends-drop low zero s a = a
@@ -112,7 +113,7 @@ near-far slop y [] h all = absurd (omega arith)
 near-far slop y (s ∷ sets) h all =
     elim (cases_lt (y + slop) (first_place s)) [
       | inl far ↦ rw (has_near-none slop y (first_place s) s far (Ascends-first (first_place s) s (omega arith) (All-head (Ascends 0) s sets all))) refl
-      | inr near ↦ rw (near-far slop y sets (omega (arith, h, near)) (All-tail (Ascends 0) s sets all)) (and_false (has_near slop y s))
+      | inr near ↦ rw (near-far slop y sets (omega (arith, h, near)) (All-tail (Ascends 0) s sets all)) (and-false (has_near slop y s))
     ]
 
 -- so the same numbers are starts once it is passed
@@ -124,7 +125,7 @@ is_start-passed slop place old new far all h y =
         near-far slop y old (omega (arith, far, below)) all,
         near-far slop y new (omega (arith, far, below, greatest_first_place-passed place old new h all)) (All-passed 0 place old new h all),
       )
-          (and_false (is_place new y) ∙ sym (and_false (is_place old y)))
+          (and-false (is_place new y) ∙ sym (and-false (is_place old y)))
       | inr reached ↦ rw (is_place-passed y place old new h reached, near-passed slop y place old new h reached) refl
     ]
 

@@ -4,6 +4,7 @@ use Rattle.std.specs.List.{list_all}
 use Rattle.std.proofs.lemmas.List.{get_or-map, length-map}
 use Rattle.std.proofs.lemmas.List.Elements.{All-head, All-tail}
 use Rattle.std.proofs.lemmas.List.Folds.{list_all_at}
+use Rattle.std.proofs.Math.Bool.{and-false}
 use Rattle.qm_combine.proofs.Uniting.{entries_of-ahead}
 use Rattle.qm_docset.proofs.Gathering.{entries_of-from}
 use Rattle.qm_docset.specs.Entry.{Entry, Limits, AreEntries, from, head_document, head_positions}
@@ -12,7 +13,7 @@ use Rattle.qm_docset.specs.GatherFacts.{entries_of-first, entries_of-nil}
 use Rattle.qm_docset.specs.declared.numbers.TheConstants.{TERMINATED}
 use Rattle.qm_phrase.specs.Phrase.{positions_at, shifted_each, sets_at, starts_at}
 use Rattle.qm_phrase.specs.Starts.{has_near, is_place}
-use Rattle.qm_phrase.proofs.StartSteps.{and_false, starts-none}
+use Rattle.qm_phrase.proofs.StartSteps.{starts-none}
 use Rattle.qm_phrase.proofs.TermSteps.{get_or-shifted_each, length-shifted_each}
 
 -- What the lists say from a target on is all that counts there.
@@ -45,7 +46,7 @@ starts_at-lacks slop d k shifts ess paired h none =
     ∙ ap (λ ps. map (λ p. p + get_or shifts k 0) ps) (get_or-map (positions_at d) ess k [] [] h ∙ none) in
     let sets = shifted_each shifts positions in
     let wide = length-shifted_each shifts positions (omega arith) in
-    starts-none slop sets (λ y. ap (λ b. is_place sets y && b) (near-lacks slop y k sets (omega arith) set) ∙ and_false (is_place sets y))
+    starts-none slop sets (λ y. ap (λ b. is_place sets y && b) (near-lacks slop y k sets (omega arith) set) ∙ and-false (is_place sets y))
 
 -- a list has no positions of a document before the one that it stands on, nor has an empty one
 pub positions_at-past : (d t : ℕ) (limits : Limits) (es : List Entry) → AreEntries 0 limits es → t ≤ head_document es → d < t → positions_at d es ≡ []

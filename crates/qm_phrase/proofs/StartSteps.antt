@@ -6,6 +6,7 @@ use Rattle.std.proofs.lemmas.Bool.{cases_lt, cases_eq, eq-eqb, ne_eqb, le-leb, l
 use Rattle.std.proofs.lemmas.List.Elements.{All-nil, All-cons, All-head, All-tail, All-map, All-weaker}
 use Rattle.std.proofs.lemmas.List.Sums.{sum_by-cons}
 use Rattle.std.proofs.lemmas.List.{drop_all}
+use Rattle.std.proofs.Math.Bool.{and-false, or-true}
 use Rattle.qm_postings.specs.Positions.{is_in, shifted}
 use Rattle.qm_phrase.specs.Starts.{has_near, is_place, is_start, starts_below, starts, all_places}
 use Rattle.qm_phrase.specs.Places.{Ascends, first_place, least_first_place, greatest_first_place, past}
@@ -119,14 +120,6 @@ first_place-past x (p ∷ ps) h a =
 
 -- All sets.
 
-pub or_true : (b : Bool) → (b || true) ≡ true
-or_true true = refl
-or_true false = refl
-
-pub and_false : (b : Bool) → (b && false) ≡ false
-and_false true = refl
-and_false false = refl
-
 is_place-past_other : (y x : ℕ) (sets : List (List ℕ)) → y ≢ x → is_place (map (past x) sets) y ≡ is_place sets y
 is_place-past_other y x [] other = refl
 is_place-past_other y x (s ∷ sets) other = rw (is_in-past_other y x s other, is_place-past_other y x sets other) refl
@@ -214,7 +207,7 @@ is_place-least x ([] ∷ sets) h below = is_place-least x sets (omega arith) bel
 is_place-least x ((p ∷ ps) ∷ sets) h below =
     elim (cases_eq x p) [
       | inl here ↦ rw (eq-eqb x p here) refl
-      | inr other ↦ rw (is_place-least x sets (omega arith) below) (or_true (is_in x (p ∷ ps)))
+      | inr other ↦ rw (is_place-least x sets (omega arith) below) (or-true (is_in x (p ∷ ps)))
     ]
 
 near-greatest : (slop x : ℕ) (sets : List (List ℕ)) → greatest_first_place sets < all_places →
@@ -237,10 +230,10 @@ near-empty slop y [] h all = absurd (omega arith)
 near-empty slop y ([] ∷ sets) h all = refl
 near-empty slop y ((p ∷ ps) ∷ sets) h all =
     let here = All-head (Ascends 0) (p ∷ ps) sets all in
-    rw (near-empty slop y sets (omega arith) (All-tail (Ascends 0) (p ∷ ps) sets all)) (and_false (has_near slop y (p ∷ ps)))
+    rw (near-empty slop y sets (omega arith) (All-tail (Ascends 0) (p ∷ ps) sets all)) (and-false (has_near slop y (p ∷ ps)))
 
 pub starts-ended : (slop : ℕ) (sets : List (List ℕ)) → greatest_first_place sets ≡ all_places → All (Ascends 0) sets → starts slop sets ≡ 0
-starts-ended slop sets h all = starts-none slop sets (λ y. rw (near-empty slop y sets h all) (and_false (is_place sets y)))
+starts-ended slop sets h all = starts-none slop sets (λ y. rw (near-empty slop y sets h all) (and-false (is_place sets y)))
 
 pub least_first_place-le : (sets : List (List ℕ)) → 0 < length sets → least_first_place sets ≤ greatest_first_place sets
 least_first_place-le [] h = absurd (omega arith)

@@ -9,6 +9,7 @@ use Rattle.std.proofs.lemmas.List.Elements.{All-append, All-contains, All-contai
 use Rattle.std.proofs.lemmas.List.Folds.{list_any-append, list_any_none}
 use Rattle.std.proofs.lemmas.List.Sums.{sum_by-append, sum_by-cons, sum_by_more, sum_by_more_le}
 use Rattle.std.proofs.lemmas.Map.Views.{Contains-from_any, list_any-from_Contains}
+use Rattle.std.proofs.Math.Bool.{or-true, or-false}
 use Rattle.qm_combine.proofs.EachMember.{take-map_more}
 use Rattle.qm_docset.specs.Entry.{Entry, Limits, AreEntries, head_document, head_frequency, head_positions}
 use Rattle.qm_docset.specs.Gather.{entries_of}
@@ -40,14 +41,10 @@ frequency-first : (es : List Entry) → sum_by (λ e. e.frequency) (first_of es)
 frequency-first [] = refl
 frequency-first (e ∷ es) = omega (arith, sum_by-cons (λ (x : Entry). x.frequency) e [])
 
-pub or_false : (b : Bool) → (b || false) ≡ b
-or_false true = refl
-or_false false = refl
-
 pub positions-first : (x offset : ℕ) (es : List Entry) →
     list_any (λ e. is_in x (shifted offset e.positions)) (first_of es) ≡ is_in x (shifted offset (head_positions es))
 positions-first x offset [] = refl
-positions-first x offset (e ∷ es) = or_false (is_in x (shifted offset e.positions))
+positions-first x offset (e ∷ es) = or-false (is_in x (shifted offset e.positions))
 
 module _ {X : Type 0} (list : X → List Entry) where
   -- the entries of the first members, and of one more that stands on the document, or past it
@@ -164,10 +161,6 @@ is_in-united_shifted x offset es all =
 
 -- ---- all members
 
-or_true : (b : Bool) → (b || true) ≡ true
-or_true true = refl
-or_true false = refl
-
 -- what holds of each entry of the lists holds of those of a document
 All-entries_of : (P : Entry → Type 0) (d : ℕ) (es : List Entry) → All P es → All P (entries_of d es)
 unfolding entries_of
@@ -187,11 +180,11 @@ has_position-member p d (es ∷ ess) zero e h here =
     ap (λ r. has_position r p) (entries_at-cons d es ess) ∙ list_any-append (λ x. is_in p x.positions) (entries_of d es) (entries_at d ess) ∙ rw here refl
 has_position-member p d (es ∷ ess) (suc i) e h here =
     ap (λ r. has_position r p) (entries_at-cons d es ess) ∙ list_any-append (λ x. is_in p x.positions) (entries_of d es) (entries_at d ess)
-    ∙ rw (has_position-member p d ess i e (omega arith) here) (or_true (has_position (entries_of d es) p))
+    ∙ rw (has_position-member p d ess i e (omega arith) here) (or-true (has_position (entries_of d es) p))
 
 position-first : (p : ℕ) (es : List Entry) → has_position (first_of es) p ≡ is_in p (head_positions es)
 position-first p [] = refl
-position-first p (e ∷ es) = or_false (is_in p e.positions)
+position-first p (e ∷ es) = or-false (is_in p e.positions)
 
 module _ {X : Type 0} (list : X → List Entry) (bound : X → Limits) where
   abbrev pub AreOrdered : List X → Type 0

@@ -3,7 +3,7 @@
 use Rattle.std.proofs.Common.{◌≡◌, ◌⊎◌, arith, inl, inr, ℕ, zero, suc, ◌+◌, ◌==◌, ◌&&◌, Bool, true, false, if◌then◌else◌, nat_lt, is_none}
 use Rattle.std.proofs.Common.{List, [], ◌∷◌, Option, None, Some, Ok}
 use Rattle.std.proofs.Common.{IfOk, length, map, refl, ap, sym, subst}
-use Rattle.std.proofs.lemmas.Bool.{false≢true}
+use Rattle.std.proofs.lemmas.Bool.{false≢true, and_parts}
 use Rattle.std.specs.List.{enumerate_from}
 use Rattle.qm_postings.specs.Statistics.{Searched}
 use Rattle.qm_postings.specs.contracts.searcher.SearcherBm25StatisticsProvider.TheImpl.{ghosts}
@@ -98,10 +98,6 @@ mutual
 
 -- ---- what is left of its refusals
 
-both : (a b : Bool) → (a && b) ≡ true → (a ≡ true) × (b ≡ true)
-both true b h = (refl, h)
-both false b h = absurd (false≢true h)
-
 leaf-refused : (due : Option QueryError) (by_provider : QueryError → Type 0) (e : QueryError) →
     is_none due ≡ true → IsLeafRefusal due by_provider e → by_provider e
 leaf-refused None by_provider e served refused = refused
@@ -144,13 +140,13 @@ module _ (e : QueryError) where
 
       clauses-bound : (cs : Subqueries) → are_clauses_served (schema_of enable) cs ≡ true → IsClauseRefused ghosts enable cs e → e ≡ ScoreBound
       clauses-bound no_subquery served refused = absurd refused
-      clauses-bound (subquery occur q cs) served (inl here) = refused-bound q (both _ _ served).0 here
-      clauses-bound (subquery occur q cs) served (inr later) = clauses-bound cs (both (is_served (schema_of enable) q) _ served).1 later.1
+      clauses-bound (subquery occur q cs) served (inl here) = refused-bound q (and_parts _ _ served).0 here
+      clauses-bound (subquery occur q cs) served (inr later) = clauses-bound cs (and_parts (is_served (schema_of enable) q) _ served).1 later.1
 
       disjuncts-bound : (ds : Disjuncts) → are_disjuncts_served (schema_of enable) ds ≡ true → IsDisjunctRefused ghosts enable ds e → e ≡ ScoreBound
       disjuncts-bound no_disjunct served refused = absurd refused
-      disjuncts-bound (disjunct q ds) served (inl here) = refused-bound q (both _ _ served).0 here
-      disjuncts-bound (disjunct q ds) served (inr later) = disjuncts-bound ds (both (is_served (schema_of enable) q) _ served).1 later.1
+      disjuncts-bound (disjunct q ds) served (inl here) = refused-bound q (and_parts _ _ served).0 here
+      disjuncts-bound (disjunct q ds) served (inr later) = disjuncts-bound ds (and_parts (is_served (schema_of enable) q) _ served).1 later.1
 
   leaf-past : (enable : EnableScoring Searched) (terms : List TermKey) → IsByProvider ghosts enable terms e →
       ¬ WeighsScore (leaf_weighing ghosts enable terms)
@@ -181,16 +177,16 @@ module _ (e : QueryError) where
       clauses-past : (cs : Subqueries) → are_clauses_served (schema_of enable) cs ≡ true → IsClauseRefused ghosts enable cs e →
           ¬ ClauseLeavesFit (clause_trees ghosts enable cs)
       clauses-past no_subquery served refused = absurd refused
-      clauses-past (subquery occur q cs) served (inl here) = λ fits. refused-past q (both _ _ served).0 here fits.0
+      clauses-past (subquery occur q cs) served (inl here) = λ fits. refused-past q (and_parts _ _ served).0 here fits.0
       clauses-past (subquery occur q cs) served (inr later) = λ fits.
-          clauses-past cs (both (is_served (schema_of enable) q) _ served).1 later.1 fits.1
+          clauses-past cs (and_parts (is_served (schema_of enable) q) _ served).1 later.1 fits.1
 
       disjuncts-past : (ds : Disjuncts) → are_disjuncts_served (schema_of enable) ds ≡ true → IsDisjunctRefused ghosts enable ds e →
           ¬ ClauseLeavesFit (disjunct_trees ghosts enable ds)
       disjuncts-past no_disjunct served refused = absurd refused
-      disjuncts-past (disjunct q ds) served (inl here) = λ fits. refused-past q (both _ _ served).0 here fits.0
+      disjuncts-past (disjunct q ds) served (inl here) = λ fits. refused-past q (and_parts _ _ served).0 here fits.0
       disjuncts-past (disjunct q ds) served (inr later) = λ fits.
-          disjuncts-past ds (both (is_served (schema_of enable) q) _ served).1 later.1 fits.1
+          disjuncts-past ds (and_parts (is_served (schema_of enable) q) _ served).1 later.1 fits.1
 
 tree-refused : (e : QueryError) (tree : Tree) → IsRefusalOf tree 1 e → (e ≡ Memory) ⊎ ((e ≡ ScoreBound) × (¬ Fits tree 1))
 tree-refused ScoreBound tree refused = inr (refl, refused)

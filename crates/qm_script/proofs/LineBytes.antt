@@ -12,6 +12,7 @@ use Rattle.std.proofs.lemmas.List.Sums.{fails_before_first}
 use Rattle.std.proofs.lemmas.Option.{IfSome_then}
 use Rattle.std.proofs.lemmas.List.{take-append-drop, drop-take, drop-drop, length-take, get_or-take}
 use Rattle.std.proofs.Math.Seq.{get_or-append_seam, take-append_seam, drop-cons}
+use Rattle.std.proofs.Math.Bool.{and-false}
 use Rattle.qm_script.specs.Lines.{has_break}
 
 -- no break in two pieces, none in both together
@@ -59,17 +60,13 @@ ends_with_byte-break xs =
     let some : 0 < length (xs ++ 10 ∷ []) = omega (arith, length-append xs (10 ∷ [])) in
     rw (at_end, get_or-append_seam xs 10 [] 0) (search (tests, rules))
 
-both-false : (a : Bool) → (a && false) ≡ false
-both-false true = refl
-both-false false = refl
-
 ends_with_byte-none : (xs : List ℕ) → has_break xs ≡ false → ends_with_byte 10 xs ≡ false
 ends_with_byte-none [] none = refl
 ends_with_byte-none (x ∷ xs) none = go (get_or (x ∷ xs) (length (x ∷ xs) - 1) 0 == 10) refl
   where
     go : (b : Bool) → (get_or (x ∷ xs) (length (x ∷ xs) - 1) 0 == 10) ≡ b → ends_with_byte 10 (x ∷ xs) ≡ false
     go true is = absurd (false≢true (sym none ∙ list_any_at (λ b. b == 10) (x ∷ xs) (length (x ∷ xs) - 1) 0 (omega arith) is))
-    go false is = ap (λ b. nat_lt 0 (length (x ∷ xs)) && b) is ∙ both-false (nat_lt 0 (length (x ∷ xs)))
+    go false is = ap (λ b. nat_lt 0 (length (x ∷ xs)) && b) is ∙ and-false (nat_lt 0 (length (x ∷ xs)))
 
 strip_last-break : (xs : List ℕ) → strip_last 10 (xs ++ 10 ∷ []) ≡ xs
 strip_last-break xs =

@@ -1,7 +1,7 @@
 -- What a line spells is read back from it.
 use Rattle.std.proofs.Common.{◌≡◌, ◌<◌, ◌≤◌, ◌^◌, ◌==◌, ◌||◌, Bool, true, false, cond, ℕ, zero, suc, ℤ, pos, negsuc, List, [], ◌∷◌, ◌++◌, Some, length, refl}
 use Rattle.std.proofs.Common.{ap, sym, subst, ◌∙◌, append-nil, arith, option_map}
-use Rattle.std.proofs.lemmas.Bool.{ne_eqb}
+use Rattle.std.proofs.lemmas.Bool.{ne_eqb, or_parts}
 use Rattle.std.proofs.lemmas.Fmt.{decimal_is_IsNumeral}
 use Rattle.std.proofs.lemmas.List.Splits.{slice_split_at, slice_split_none}
 use Rattle.std.proofs.lemmas.Str.Parse.{digit_from_value}
@@ -24,21 +24,14 @@ use Rattle.qm_script.proofs.WordLemmas.{non_empty-cons}
 
 -- ---- the words of a line are cut where they were joined
 
-either-false : (a b : Bool) → (a || b) ≡ false → (a ≡ false) × (b ≡ false)
-either-false true b h = absurd (true-not-false h)
-  where
-    true-not-false : true ≡ false → ⊥
-    true-not-false e = subst (λ t. cond t (Unit {0}) ⊥) e tt
-either-false false b h = (refl, h)
-
 no-space : (word : List ℕ) → AllByRecursion (λ b. ((b == 32) || (b == 9)) ≡ false) word → All (λ b. (b == 32) ≡ false) word
 no-space [] h k d within = absurd (omega arith)
-no-space (b ∷ word) h zero d within = (either-false (b == 32) (b == 9) h.0).0
+no-space (b ∷ word) h zero d within = (or_parts (b == 32) (b == 9) h.0).0
 no-space (b ∷ word) h (suc k) d within = no-space word h.1 k d (omega arith)
 
 no-tab : (word : List ℕ) → AllByRecursion (λ b. ((b == 32) || (b == 9)) ≡ false) word → All (λ b. (b == 9) ≡ false) word
 no-tab [] h k d within = absurd (omega arith)
-no-tab (b ∷ word) h zero d within = (either-false (b == 32) (b == 9) h.0).1
+no-tab (b ∷ word) h zero d within = (or_parts (b == 32) (b == 9) h.0).1
 no-tab (b ∷ word) h (suc k) d within = no-tab word h.1 k d (omega arith)
 
 cut-joined : (word : List ℕ) (words : List (List ℕ)) → AreLineWords (word ∷ words) →

@@ -9,6 +9,7 @@ use Rattle.std.proofs.lemmas.Bool.{cases_Bool, false≢true}
 use Rattle.std.proofs.lemmas.List.{take_all}
 use Rattle.std.proofs.lemmas.List.Sums.{sum_by-cons}
 use Rattle.std.proofs.lemmas.Map.Lookups.{btree_set_from_contains}
+use Rattle.std.proofs.Math.Bool.{or-false}
 use Rattle.qm_schema.specs.Schema.{FieldFacts}
 use Rattle.qm_schema.specs.Term.{TermKey, term_cmp, term_cmp_antisymmetric, term_cmp_total}
 use Rattle.qm_schema.specs.declared.schema.option.IndexRecordOption.TheVariants.{WithFreqsAndPositions}
@@ -84,10 +85,6 @@ three true false k all = refl
 three false true k all = refl
 three false false k all = refl
 
-or_false : (b : Bool) → (b || false) ≡ b
-or_false true = refl
-or_false false = refl
-
 module _ (s : Segment) (d : ℕ) where
   abbrev one : Segment
   one = alone s.schema (document_at s d)
@@ -108,7 +105,7 @@ module _ (s : Segment) (d : ℕ) where
       among-filter (λ k. holds s k d) q (prefixed s prefix)
       ∙ ap (λ b. holds s q d && b) (among-filter (begins_with prefix) q (held_terms s) ∙ ap (λ b. begins_with prefix q && b) (among-held s q))
       ∙ three (holds s q d) (begins_with prefix q) (is_held s q) (held-here q)
-      ∙ ap (λ b. begins_with prefix q && b) (sym (or_false (holds s q d)) ∙ sym (among-held one q))
+      ∙ ap (λ b. begins_with prefix q && b) (sym (or-false (holds s q d)) ∙ sym (among-held one q))
       ∙ sym (among-filter (begins_with prefix) q (held_terms one)))
       term_cmp_antisymmetric
 

@@ -13,6 +13,7 @@ use Rattle.std.proofs.lemmas.List.Folds.{list_any-append}
 use Rattle.std.proofs.lemmas.List.Sums.{sum_by-cons}
 use Rattle.std.proofs.lemmas.Map.Keys.{IsDistinct-from_sorted}
 use Rattle.std.proofs.lemmas.Map.Steps.{length-le_from_keys}
+use Rattle.std.proofs.Math.Bool.{or-true}
 use Rattle.qm_schema.specs.Term.{TermKey, term_cmp, term_eq_laws}
 use Rattle.qm_index.specs.Parts.{AreParts, ArePartsFrom}
 use Rattle.qm_postings.specs.Segment.{Document, Segment}
@@ -62,10 +63,6 @@ pub both-right : (a b : Bool) → (a && b) ≡ true → b ≡ true
 both-right true b h = h
 both-right false b h = absurd (false≢true h)
 
-or_true : (b : Bool) → (b || true) ≡ true
-or_true true = refl
-or_true false = refl
-
 found-key : (q : TermKey) (ks : List TermKey) → list_any (eq_by_cmp term_cmp q) ks ≡ true → IsSome {T = ℕ} (lookup (eq_by_cmp term_cmp q) (map (λ k. (k, 0)) ks))
 found-key q [] found = absurd (false≢true found)
 found-key q (k ∷ ks) found =
@@ -90,7 +87,7 @@ among-parts prefix q (p ∷ parts) begins held =
           whole ∙ ap (λ b. b || is_among q others) found
       | inr other ↦
           let rest = among-parts prefix q parts begins (sym (split ∙ ap (λ b. b || list_any holds_it (all_documents parts)) other) ∙ held) in
-          whole ∙ ap (λ b. is_among q (prefixed p prefix) || b) rest ∙ or_true (is_among q (prefixed p prefix))
+          whole ∙ ap (λ b. is_among q (prefixed p prefix) || b) rest ∙ or-true (is_among q (prefixed p prefix))
     ]
 
 pub whole-reaches : (whole : Segment) (parts : List Segment) → AreParts whole parts → Reaches (is_reached parts) whole

@@ -3,7 +3,7 @@ use Rattle.std.proofs.Common.{◌≡◌, ℕ, Bool, true, false, ◌||◌, List,
 use Rattle.std.specs.FinMap.{get}
 use Rattle.std.specs.List.{list_any, range_with_len}
 use Rattle.std.specs.Prelude.{is_some}
-use Rattle.std.proofs.lemmas.Bool.{false≢true}
+use Rattle.std.proofs.lemmas.Bool.{false≢true, or_parts}
 use Rattle.std.proofs.lemmas.List.{length-map}
 use Rattle.std.proofs.lemmas.Map.Lookups.{btree_set_from_contains}
 use Rattle.qm_docset.specs.Gather.{scored}
@@ -34,10 +34,6 @@ held_terms-unplaced s =
 expansions-unplaced : (s : Segment) (prefix : TermKey) (most : ℕ) → expansions (unplaced s) prefix most ≡ expansions s prefix most
 expansions-unplaced s prefix most = ap (λ ts. take most (filter (begins_with prefix) ts)) (held_terms-unplaced s)
 
-neither : (a b : Bool) → (a || b) ≡ false → (a ≡ false) × (b ≡ false)
-neither true b fails = absurd (false≢true (sym fails))
-neither false b fails = (refl, fails)
-
 module _ (s : Segment) where
   module _ (d : ℕ) where
     looks : (t : TermKey) → LooksAlike (unplaced s) d s d t
@@ -59,7 +55,7 @@ module _ (s : Segment) where
       clauses-alike : (clauses : Clauses) → clauses_ask_places clauses ≡ false → AreAlike (unplaced s) d s d clauses
       clauses-alike no_clause asks = tt
       clauses-alike (clause occur inside clauses) asks =
-          let both = neither (asks_places inside) (clauses_ask_places clauses) asks in (unplaced-alike inside both.0, clauses-alike clauses both.1)
+          let both = or_parts (asks_places inside) (clauses_ask_places clauses) asks in (unplaced-alike inside both.0, clauses-alike clauses both.1)
 
   module _ (tree : Tree) (asks : asks_places tree ≡ false) where
     pub matches-unplaced : (d : ℕ) → matches tree (unplaced s) d ≡ matches tree s d

@@ -1,7 +1,7 @@
 -- A member that stands on the document adds its positions; then the whole is sorted.
 use Rattle.std.proofs.Common.{◌≡◌, ℕ, ◌+◌, ◌<◌, ◌≤◌, ◌||◌, All, length, take, get_or, ap, sym, subst, ◌∙◌, arith, refl}
 use Rattle.std.specs.List.{sum_by}
-use Rattle.std.proofs.Math.Bool.{or_assoc}
+use Rattle.std.proofs.Math.Bool.{or_assoc, or-false}
 use Rattle.std.proofs.lemmas.List.{length-map, take_all}
 use Rattle.std.proofs.lemmas.List.Elements.{All-get_or, All-set}
 use Rattle.qm_combine.proofs.EachMember.{All-same_lists, map-set_same}
@@ -11,7 +11,7 @@ use Rattle.qm_postings.specs.Positions.{is_in, shifted}
 use Rattle.qm_phrase.specs.PostingUnions.{entries_at, united_positions}
 use Rattle.qm_phrase.specs.PostingUnionFacts.{entries_at-nil}
 use Rattle.qm_phrase.proofs.SortedNumbers.{IsStrictlyIncreasing-tidied, is_in-tidied}
-use Rattle.qm_phrase.proofs.UnitedMembers.{All-head_positions, AreOrdered, entries_at-more_ahead, has_shifted, has_shifted-more, is_in-united_shifted, or_false}
+use Rattle.qm_phrase.proofs.UnitedMembers.{All-head_positions, AreOrdered, entries_at-more_ahead, has_shifted, has_shifted-more, is_in-united_shifted}
 use Rattle.qm_phrase.proofs.UnitedMembers.{ordered-entries_at, room-more, room-within}
 use Rattle.std.proofs.lemmas.Grind.{common_steps}
 use Rattle.qm_phrase.proofs.union.members.append_positions.Goals as goal
@@ -23,7 +23,7 @@ loop-member-init g c = record {
   entries = refl;
   limits = refl;
   added = λ x.
-      sym (ap (λ r. is_in x c.args.output.now.items || has_shifted c.args.offset r x) (entries_at-nil c.args.doc) ∙ or_false (is_in x c.args.output.now.items));
+      sym (ap (λ r. is_in x c.args.output.now.items || has_shifted c.args.offset r x) (entries_at-nil c.args.doc) ∙ or-false (is_in x c.args.output.now.items));
   longer = omega arith;
   capacity = omega arith;
 }
