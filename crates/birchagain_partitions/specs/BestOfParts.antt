@@ -8,6 +8,7 @@ use Rattle.std.proofs.lemmas.Int.{ints, by_lt_z}
 use Rattle.std.proofs.lemmas.List.{take-take}
 use Rattle.std.proofs.lemmas.List.Sums.{fold-append}
 use Rattle.qm_weight.specs.Best.{best, by_score, placed}
+use Rattle.qm_weight.specs.BestFacts.{placed-before, placed-behind}
 use Rattle.birchagain_partitions.specs.Ranked.{IsRanked, IsRankedBelow}
 
 module _ {A : Type 0} where
@@ -19,16 +20,6 @@ module _ {A : Type 0} where
   -- some items placed among others, one after another
   abbrev pub joined : List (A × ℤ) → List (A × ℤ) → List (A × ℤ)
   joined xs ys = fold (λ ranked p. placed p ranked) xs ys
-
-  pub placed-before : (p x : A × ℤ) (xs : List (A × ℤ)) → x.1 <ℤ p.1 → placed p (x ∷ xs) ≡ p ∷ x ∷ xs
-  placed-before p x xs less =
-      let test : lt_z x.1 p.1 ≡ true = grind (arith, ints) in
-      ap (λ b. if b then p ∷ x ∷ xs else x ∷ placed p xs) test
-
-  pub placed-behind : (p x : A × ℤ) (xs : List (A × ℤ)) → p.1 ≤ℤ x.1 → placed p (x ∷ xs) ≡ x ∷ placed p xs
-  placed-behind p x xs order =
-      let test : lt_z x.1 p.1 ≡ false = grind (arith, ints) in
-      ap (λ b. if b then p ∷ x ∷ xs else x ∷ placed p xs) test
 
   -- ---- the first k alone count
 

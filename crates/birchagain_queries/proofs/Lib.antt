@@ -1,4 +1,3 @@
 mod TypedForms
-mod SpelledForms
 mod Clauses
 mod Words

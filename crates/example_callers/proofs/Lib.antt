@@ -3,4 +3,3 @@ mod BestFound
 mod Searched
 mod PhraseFields
 mod HeldTerms
-mod WantedRows

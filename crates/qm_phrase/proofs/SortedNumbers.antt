@@ -75,7 +75,7 @@ same_rising low (x ∷ xs) (y ∷ ys) a b same =
 
 -- ---- a sort, and a removal of repeats
 
-both_ways : (a b : Bool) → (a ≡ true → b ≡ true) → (b ≡ true → a ≡ true) → a ≡ b
+pub both_ways : (a b : Bool) → (a ≡ true → b ≡ true) → (b ≡ true → a ≡ true) → a ≡ b
 both_ways true b forth back = sym (forth refl)
 both_ways false true forth back = back refl
 both_ways false false forth back = refl

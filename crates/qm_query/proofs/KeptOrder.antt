@@ -12,6 +12,7 @@ use Rattle.std.proofs.lemmas.List.Elements.{All-head, All-nil, All-tail}
 use Rattle.qm_postings.specs.Address.{address_cmp}
 use Rattle.qm_postings.specs.declared.address.DocAddress.{DocAddress}
 use Rattle.qm_weight.specs.Best.{by_score, placed}
+use Rattle.qm_weight.specs.BestFacts.{lt_z-less, lt_z-not_less}
 use Rattle.qm_query.specs.KeptDocument.{address_total, kept_of, ranked, worst_last}
 use Rattle.qm_query.specs.Ranking.{put}
 use Rattle.qm_query.specs.TopDocs.{AreByAddress}
@@ -41,26 +42,20 @@ worst_last-same x y equal =
 
 -- ---- scores
 
-under : (a b : ℤ) → a <ℤ b → lt_z a b ≡ true
-under a b less = grind (arith, ints)
-
-pub not_under : (a b : ℤ) → b ≤ℤ a → lt_z a b ≡ false
-not_under a b order = grind (arith, ints)
-
 lesser : (a b : ℤ) → lt_z a b ≡ true → int_cmp a b ≡ Less
 lesser a b less = ap (λ c. if c then Less else (if lt_z b a then Greater else Equal)) less
 
 pub no_lesser : (a b : ℤ) (o : Ordering) → is_lt (ordering_then (int_cmp a b) o) ≡ false → b ≤ℤ a
 no_lesser a b o first =
     by_lt_z a b
-    (λ less. absurd (true≢false (sym (ap (λ r. is_lt (ordering_then r o)) (lesser a b (under a b less))) ∙ first)))
+    (λ less. absurd (true≢false (sym (ap (λ r. is_lt (ordering_then r o)) (lesser a b (lt_z-less a b less))) ∙ first)))
     (λ order. order)
 
 -- of the documents that come before it by address those stand behind it that score less
 after_by : (a b : ℤ) (r : Ordering) → int_cmp a b ≡ r → is_lt (ordering_then r Greater) ≡ lt_z a b
-after_by a b Less is = sym (under a b (int_ranked a b Less (sym is)))
-after_by a b Equal is = let same : a ≡ b = int_ranked a b Equal (sym is) in sym (not_under a b (omega (arith, ints, same)))
-after_by a b Greater is = let more : b <ℤ a = int_ranked a b Greater (sym is) in sym (not_under a b (omega (arith, ints, more)))
+after_by a b Less is = sym (lt_z-less a b (int_ranked a b Less (sym is)))
+after_by a b Equal is = let same : a ≡ b = int_ranked a b Equal (sym is) in sym (lt_z-not_less a b (omega (arith, ints, same)))
+after_by a b Greater is = let more : b <ℤ a = int_ranked a b Greater (sym is) in sym (lt_z-not_less a b (omega (arith, ints, more)))
 
 pub lt-behind : (x y : KeptDocument) → address_cmp y.address x.address ≡ Less → is_lt (worst_last x y) ≡ lt_z y.score x.score
 lt-behind x y before =

@@ -20,7 +20,3 @@ pub row_disjuncts-items : {n : _} (row : Row_of-DisjunctionMaxQuery-disjuncts-1 
 row_disjuncts-items end_of-DisjunctionMaxQuery-disjuncts-1 = refl
 row_disjuncts-items (more_of-DisjunctionMaxQuery-disjuncts-1 p x more) = ap (disjunct (query_of x)) (row_disjuncts-items more)
 
--- the same of the clauses of a weight
-pub row_clauses-items : {n : _} (row : Row_of-BooleanWeight-weights-3 n) → clauses_of row ≡ clauses_from (items-the_row-BooleanWeight-weights-3 n row)
-row_clauses-items end_of-BooleanWeight-weights-3 = refl
-row_clauses-items (more_of-BooleanWeight-weights-3 occur p x more) = ap (clause occur (tree_of x)) (row_clauses-items more)

@@ -25,10 +25,10 @@ mod AskedFields
 mod Building
 mod ListedSegments
 mod Answering
-mod SpelledForms
+pub mod SpelledForms
 mod LastWords
 mod FoundRows
-mod WantedRows
+pub mod WantedRows
 mod RestrictedJoin
 mod JoinedParts
 mod PartExpansions

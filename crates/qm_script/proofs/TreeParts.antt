@@ -8,18 +8,11 @@ use Rattle.qm_weight.specs.Tree.{Tree, Clauses, all, none, term, phrase, phrase_
 use Rattle.qm_script.specs.PrefixFree.{PrefixTest, all_prefixes, clauses_all_prefixes}
 use Rattle.qm_script.specs.Reached.{Reaches}
 use Rattle.qm_script.proofs.PrefixDocuments.{alone, document_at, prefix_matches-alone}
+use Rattle.qm_script.proofs.ReachedParts.{both-left, both-right}
 
 -- ---- one document decides, where each prefix is expanded to all terms that begin with it
 
 -- both halves of what is true
-
-and-left : (a b : Bool) → (a && b) ≡ true → a ≡ true
-and-left true b both = refl
-and-left false b both = both
-
-and-right : (a b : Bool) → (a && b) ≡ true → b ≡ true
-and-right true b both = both
-and-right false b both = absurd (false≢true both)
 
 module _ (test : PrefixTest) (s : Segment) (d : ℕ) (reach : Reaches test s) where
   abbrev one : Segment
@@ -40,8 +33,8 @@ module _ (test : PrefixTest) (s : Segment) (d : ℕ) (reach : Reaches test s) wh
     clauses_alike-alone : (clauses : Clauses) → clauses_all_prefixes test clauses ≡ true → AreAlike s d one 0 clauses
     clauses_alike-alone no_clause pass = tt
     clauses_alike-alone (clause occur inside clauses) pass = (
-      alike-alone inside (and-left (all_prefixes test inside) (clauses_all_prefixes test clauses) pass),
-      clauses_alike-alone clauses (and-right (all_prefixes test inside) (clauses_all_prefixes test clauses) pass),
+      alike-alone inside (both-left (all_prefixes test inside) (clauses_all_prefixes test clauses) pass),
+      clauses_alike-alone clauses (both-right (all_prefixes test inside) (clauses_all_prefixes test clauses) pass),
     )
 
   matches-alone : (tree : Tree) → all_prefixes test tree ≡ true → matches tree s d ≡ matches tree one 0

@@ -14,7 +14,7 @@ mod TreeRows
 mod Booleans
 mod Joins
 mod TermRuns
-mod ClauseSteps
+pub mod ClauseSteps
 mod TermUnions
 mod TermRows
 mod Nodes

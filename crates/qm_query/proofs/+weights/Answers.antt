@@ -11,9 +11,10 @@ use Rattle.qm_query.specs.QueryTree.{query_tree}
 use Rattle.qm_query.specs.WeightRefusals.{IsWeightRefusal}
 use Rattle.qm_query.proofs.ClauseWeights.{are_clauses_served-step, are_clauses_served-whole, are_disjuncts_served-whole, clause_trees-step, clause_trees-whole}
 use Rattle.qm_query.proofs.ClauseWeights.{clause_weight_refused, disjunct_trees-whole, disjunct_weight_refused, weight_clause}
-use Rattle.qm_query.proofs.Rows.{row_clauses-items, row_disjuncts-items, row_subqueries-items}
+use Rattle.qm_query.proofs.Rows.{row_disjuncts-items, row_subqueries-items}
 use Rattle.std.proofs.lemmas.Result.{IfOk-weaker}
 use Rattle.qm_weight.specs.declared.any_weight.AnyWeight.TheVariants.{Boolean}
+use Rattle.qm_weight.proofs.ClauseSteps.{row_clauses-items}
 use Rattle.qm_query.proofs.+weights.Goals as goal
 
 pub any_query::AnyQuery::build_weight-returns-in-Boolean-clause-tree :

@@ -17,7 +17,7 @@ use Rattle.qm_docset.specs.declared.numbers.TheConstants.{TERMINATED}
 use Rattle.qm_docset.proofs.ExclusionLemmas.{has_document-before, has_document-head}
 use Rattle.qm_docset.proofs.Gathering.{head_document-from}
 use Rattle.qm_combine.specs.HeldSum.{held_sum}
-use Rattle.qm_combine.specs.RescoredFacts.{IsSeekAnswer-rescored, head_score-rescored}
+use Rattle.qm_combine.specs.RescoredFacts.{IsSeekAnswer-rescored, head_score-rescored, head_score-le}
 use Rattle.qm_combine.specs.SharedSeek.{StandOn}
 use Rattle.qm_combine.specs.Union.{least_head, total_top, united_limits}
 use Rattle.qm_combine.specs.Without.{without}
@@ -64,8 +64,8 @@ use Rattle.qm_scorer.specs.United.{IsUnionNode, union_limits, union_list, union_
 use Rattle.qm_scorer.specs.declared.union_node.UnionNode.{UnionNode, size-UnionNode, size_is-UnionNode}
 use Rattle.qm_scorer.proofs.Refilling.{IsRefilling, refilled-behind, refilled-entries, refilled-here, refilling-first, refilling-more, refilling-none}
 use Rattle.qm_scorer.proofs.Refilling.{refilling-room}
-use Rattle.qm_scorer.proofs.Taking.{head_score-within, room-for, taken-next, taken_to-all, taken_to-more, taken_to-none}
-use Rattle.qm_scorer.proofs.Uniting.{cut_twice, least_head-cut_from, parts-same, union_listing-made}
+use Rattle.qm_scorer.proofs.Taking.{room-for, taken-next, taken_to-all, taken_to-more, taken_to-none}
+use Rattle.qm_scorer.proofs.Uniting.{cut_twice, parts-same, union_listing-made}
 use Rattle.qm_scorer.proofs.+moves.Goals.{group_node::danger_group-else-doc-target-via-else-doc-target}
 use Rattle.qm_scorer.proofs.+moves.Goals.{group_node::danger_group-else-doc-target-via-then-doc-target+else-target-lt-TERMINATED}
 use Rattle.qm_scorer.proofs.+moves.Goals.{group_node::seek_group-else-node-target, group_node::seek_group-then-node-target}
@@ -599,7 +599,7 @@ union_node::take_document-add-requires-clause-room g t c =
     let m = c.args.member.now in
     let n : ℕ = nat_abs (to_z w64 c.score_tree-score.result) in
     let is : n ≡ c.score_tree-score.result = ap nat_abs (to_z_pos w64 c.score_tree-score.result (omega (arith, c.score_tree-score.ensures.fits))) in
-    let within = head_score-within 0 _ _ (tree-ascends D g.met.S.DocSet.ascending m c.requires.valid) in
+    let within = head_score-le 0 _ _ (tree-ascends D g.met.S.DocSet.ascending m c.requires.valid) in
     room-for _ n (tree_top D m) c.requires.room (omega (arith, is, c.score_tree-score.ensures.score, within))
 
 pub union_node::take_document-returns-else-keeps_no_states-clause-added : goal.union_node::take_document-returns-else-keeps_no_states-clause-added
@@ -924,7 +924,7 @@ union_node::seek_union-go_on-requires-2 g t c κs within =
     let n = c.args.node.now in
     let e = c.reach_each-node.ensures in
     let reached : c.args.target ≤ c.reach_each-node.result =
-    omega (arith, e.least, ap least_head e.lists, least_head-cut_from c.args.target (union_lists D n) c.requires.target) in
+    omega (arith, e.least, ap least_head e.lists, least_head-from c.args.target (union_lists D n) c.requires.target) in
     let behind : (d : ℕ) → window_has c.reach_each-node.new.node.window d ≡ true → d < c.reach_each-node.result = λ d here. elim (cases_lt d c.args.target) [
       | inl below ↦ omega (arith, reached)
       | inr past ↦ absurd (true≢false (sym here ∙ ap (λ w. window_has w d) e.window ∙ answers_none n.window c.args.target c.in_default.ensures d past))
@@ -952,7 +952,7 @@ union_node::seek_union-returns-clause-entries g t c =
     let kept : map (from c.args.target) (union_lists D new) ≡ map (from c.args.target) (union_lists D n) = ap (map (from c.args.target)) e.lists
     ∙ cut_twice c.args.target (union_lists D n) in
     let reached : c.args.target ≤ least_head (union_lists D new) =
-    omega (arith, ap least_head e.lists, least_head-cut_from c.args.target (union_lists D n) c.requires.target) in
+    omega (arith, ap least_head e.lists, least_head-from c.args.target (union_lists D n) c.requires.target) in
     c.go_on-2.ensures.entries ∙ ap (λ w. gather 1 (any_combined (window_combiner w)) (union_lists D new)) e.window
     ∙ goes_past 1 (omega arith) (window_has n.window) (kept_score n.window) n.doc n.ahead (any_combined (window_combiner n.window))
     (united_limits (union_limits D n)) _ _ members h.standing c.args.target _ _ after (omega (arith, c.if-target-node.false))

@@ -3,7 +3,7 @@ use Rattle.qm_script.specs.Script.{boolean, as_clauses, disjunction_max, queries
 use Rattle.qm_script.specs.Spelled.{spelled_clause, query_of}
 use Rattle.qm_script.specs.declared.spelled_query.SpelledQuery.TheViews.{the_lemmas}
 use Rattle.birchagain_queries.specs.QueryWords.{weighing_words, words_of_clauses, words_of_queries}
-use Rattle.birchagain_queries.proofs.SpelledForms.{query_of-boolean, query_of-disjunction_max}
+use Rattle.qm_script.proofs.SpelledForms.{query_of-boolean, query_of-disjunction_max}
 use Rattle.birchagain_queries.proofs.Words.{clause-pushed, clauses-pushed, disjunct-pushed, disjuncts-pushed}
 use Rattle.birchagain_queries.proofs.named_words.+push_words.Goals as goal
 

@@ -11,7 +11,7 @@ use Rattle.qm_script.specs.declared.spelled_query.SpelledQuery.TheViews as spell
 use Rattle.qm_script.specs.declared.spelled_query.SpelledQuery.TheViews.{the_lemmas as spelled_lemmas}
 use Rattle.birchagain_queries.specs.Translation.{said_query}
 use Rattle.birchagain_queries.proofs.Clauses.{said-clauses, said_clause}
-use Rattle.birchagain_queries.proofs.SpelledForms.{query_of-boolean as spelled-boolean}
+use Rattle.qm_script.proofs.SpelledForms.{query_of-boolean as spelled-boolean}
 use Rattle.birchagain_queries.proofs.TypedForms.{query_of-boolean}
 use Rattle.birchagain_queries.proofs.translated.+translated.Goals as goal
 

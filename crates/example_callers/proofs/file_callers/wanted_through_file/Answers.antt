@@ -8,7 +8,7 @@ use Rattle.qm_store.specs.StoredSegment.{opened, opened_of, opened_segment, rows
 use Rattle.qm_store.specs.Wanted.{is_wanted}
 use Rattle.qm_store.proofs.FileRead.{segment-opens, wanted-kept}
 use Rattle.qm_store.proofs.SameOk.{same-ok}
-use Rattle.example_callers.proofs.WantedRows.{segment-of_wanted}
+use Rattle.qm_script.proofs.WantedRows.{segment-of_wanted}
 use Rattle.example_callers.proofs.file_callers.wanted_through_file.Goals as goal
 
 pub returns : goal.returns

@@ -3,7 +3,7 @@ use Rattle.qm_postings.specs.LentRow.{lent_row}
 use Rattle.qm_postings.specs.Restriction.{rows_wanted}
 use Rattle.qm_postings.specs.Rows.{Row, no_row}
 use Rattle.example_callers.specs.Found.{is_wanted}
-use Rattle.example_callers.proofs.WantedRows.{wanted-more}
+use Rattle.qm_script.proofs.WantedRows.{wanted-more}
 use Rattle.example_callers.proofs.row_callers.rows_of_terms.Goals as goal
 use Rattle.example_callers.proofs.row_callers.rows_of_terms.Goals.{then-contains+in_ok-copy+in_ok-push, else-contains}
 

@@ -4,7 +4,7 @@ use Rattle.qm_postings.specs.Reading.{Reader}
 use Rattle.qm_postings.specs.Restriction.{rows_wanted}
 use Rattle.qm_postings.specs.Rows.{MakeSegment, Row, columns_of, segment_of_rows}
 use Rattle.example_callers.specs.Found.{is_wanted}
-use Rattle.example_callers.proofs.WantedRows.{make-wanted, segment-of_wanted}
+use Rattle.qm_script.proofs.WantedRows.{make-wanted, segment-of_wanted}
 use Rattle.example_callers.proofs.row_callers.with_terms_alone.Goals as goal
 
 pub unreachable-requires : goal.unreachable-requires

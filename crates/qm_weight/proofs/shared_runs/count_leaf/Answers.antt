@@ -1,7 +1,7 @@
 use Rattle.std.proofs.Common.{subst, sym, ◌∙◌}
 use Rattle.qm_weight.specs.LeafScorers.{IsLeafOf}
-use Rattle.qm_weight.proofs.Listings.{documents-bare}
 use Rattle.qm_weight.proofs.shared_runs.count_leaf.Goals as goal
+use Rattle.qm_scorer.specs.BareFacts.{documents-bare}
 
 pub returns-in-Some : goal.returns-in-Some
 returns-in-Some g c =

@@ -3,8 +3,8 @@ use Rattle.std.proofs.Common.{subst, sym, ◌∙◌}
 use Rattle.std.specs.Fn.{CalledAt, TakesAt}
 use Rattle.qm_term.specs.Runs.{CallsEach, MayCallEach, slices}
 use Rattle.qm_weight.specs.LeafScorers.{IsLeafOf}
-use Rattle.qm_weight.proofs.Listings.{documents-bare}
 use Rattle.qm_weight.proofs.shared_runs.run_leaf_slices.Goals as goal
+use Rattle.qm_scorer.specs.BareFacts.{documents-bare}
 
 pub for_each_docset_buffered-requires-clause-allowed :
     goal.for_each_docset_buffered-requires-clause-allowed

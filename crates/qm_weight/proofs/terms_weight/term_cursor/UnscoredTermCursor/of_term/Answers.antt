@@ -7,9 +7,9 @@ use Rattle.qm_postings.specs.FieldIndex.{FieldIndex, shown}
 use Rattle.qm_postings.specs.Segment.{holders}
 use Rattle.qm_weight.specs.Weights.{shared_weighing}
 use Rattle.qm_weight.proofs.Leaves.{IsListOf-absent, nothing_left, scored-shared}
-use Rattle.qm_weight.proofs.Listings.{documents-bare}
 use Rattle.qm_weight.proofs.terms_weight.term_cursor.UnscoredTermCursor.of_term.Goals as goal
 use Rattle.qm_weight.proofs.terms_weight.term_cursor.UnscoredTermCursor.of_term.Goals.{After-read_documents}
+use Rattle.qm_scorer.specs.BareFacts.{documents-bare}
 
 -- what the index shows of the term is what the segment has of it
 holders-same : (c : After-read_documents) → holders (shown c.inverted_index-index.result).reader.segment c.args.clause.clause.now.term
