@@ -13,47 +13,45 @@ use Rattle.qm_docset.specs.declared.numbers.TheConstants.{TERMINATED}
 use Rattle.qm_term.specs.Bm25.{bm25}
 use Rattle.qm_term.specs.Bm25Weight.{weighing}
 use Rattle.qm_term.specs.OwnNorms.{OwnWeight}
+use Rattle.qm_phrase.specs.PhrasePrefix.{held_count}
 use Rattle.qm_phrase.specs.Phrase.{phrase_points}
 use Rattle.qm_phrase.specs.PhraseScorer.{most_starts}
 use Rattle.qm_phrase.specs.Terms.{AreMovedTo, IsFirstStart, IsLook, term_starts}
 use Rattle.qm_phrase.specs.declared.terms.TermPlaces.{TermPlaces}
 use Rattle.qm_phrase.proofs.TermMoves.{starts-ahead}
 
-abbrev pub held : ℕ → ℕ
-held n = min 4294967295 n
-
 abbrev pub by_counts : (ℕ → ℕ → ℕ) → (ℕ → ℕ) → List Entry
-by_counts points f = listed (λ d. nat_lt 0 (held (f d))) (λ d. scored d (points d (held (f d))))
+by_counts points f = listed (λ d. nat_lt 0 (held_count (f d))) (λ d. scored d (points d (held_count (f d))))
 
-pub kept-none : (n : ℕ) → n ≡ 0 → nat_lt 0 (held n) ≡ false
-kept-none n none = ap (λ m. nat_lt 0 (held m)) none
+pub kept-none : (n : ℕ) → n ≡ 0 → nat_lt 0 (held_count n) ≡ false
+kept-none n none = ap (λ m. nat_lt 0 (held_count m)) none
 
-kept-some : (n : ℕ) → 0 < n → nat_lt 0 (held n) ≡ true
-kept-some n some = lt-ltb 0 (held n) (omega arith)
+kept-some : (n : ℕ) → 0 < n → nat_lt 0 (held_count n) ≡ true
+kept-some n some = lt-ltb 0 (held_count n) (omega arith)
 
 pub by_counts-moved : (points : ℕ → ℕ → ℕ) (t : ℕ) (f g : ℕ → ℕ) → ((d : ℕ) → d < t → f d ≡ 0) →
     ((d : ℕ) → t ≤ d → f d ≡ g d) → by_counts points f ≡ from t (by_counts points g)
 by_counts-moved points t f g behind same =
-    listed-moved t (λ d. nat_lt 0 (held (g d))) (λ d. nat_lt 0 (held (f d)))
-    (λ d. scored d (points d (held (g d)))) (λ d. scored d (points d (held (f d)))) (λ d. refl) (record {
+    listed-moved t (λ d. nat_lt 0 (held_count (g d))) (λ d. nat_lt 0 (held_count (f d)))
+    (λ d. scored d (points d (held_count (g d)))) (λ d. scored d (points d (held_count (f d)))) (λ d. refl) (record {
       none_below = λ d below. kept-none (f d) (behind d below);
-      same_test = λ d past. ap (λ n. nat_lt 0 (held n)) (same d past);
-      same_entry = λ d past here. ap (λ n. scored d (points d (held n))) (same d past);
+      same_test = λ d past. ap (λ n. nat_lt 0 (held_count n)) (same d past);
+      same_entry = λ d past here. ap (λ n. scored d (points d (held_count n))) (same d past);
     })
 
 pub by_counts-first : (points : ℕ → ℕ → ℕ) (d : ℕ) (f : ℕ → ℕ) → d < TERMINATED → ((e : ℕ) → e < d → f e ≡ 0) →
-    0 < f d → by_counts points f ≡ scored d (points d (held (f d))) ∷ from (d + 1) (by_counts points f)
+    0 < f d → by_counts points f ≡ scored d (points d (held_count (f d))) ∷ from (d + 1) (by_counts points f)
 by_counts-first points d f below behind some =
-    listed-first d (λ e. nat_lt 0 (held (f e))) (λ e. scored e (points e (held (f e)))) below
+    listed-first d (λ e. nat_lt 0 (held_count (f e))) (λ e. scored e (points e (held_count (f e)))) below
     (λ e. refl) (λ e h. kept-none (f e) (behind e h)) (kept-some (f d) some)
 
 pub by_counts-bound : (points : ℕ → ℕ → ℕ) (t : ℕ) (f : ℕ → ℕ) → t ≤ TERMINATED → ((d : ℕ) → d < t → f d ≡ 0) → t ≤ head_document (by_counts points f)
 by_counts-bound points t f below behind =
-    head_document-listed t (λ e. nat_lt 0 (held (f e))) (λ e. scored e (points e (held (f e)))) below (λ e. refl) (λ e h. kept-none (f e) (behind e h))
+    head_document-listed t (λ e. nat_lt 0 (held_count (f e))) (λ e. scored e (points e (held_count (f e)))) below (λ e. refl) (λ e h. kept-none (f e) (behind e h))
 
 by_counts-none : (points : ℕ → ℕ → ℕ) (f : ℕ → ℕ) → ((d : ℕ) → d < TERMINATED → f d ≡ 0) → by_counts points f ≡ []
 by_counts-none points f behind =
-    listed-none (λ e. nat_lt 0 (held (f e))) (λ e. scored e (points e (held (f e)))) (λ e h. kept-none (f e) (behind e h))
+    listed-none (λ e. nat_lt 0 (held_count (f e))) (λ e. scored e (points e (held_count (f e)))) (λ e h. kept-none (f e) (behind e h))
 
 -- it begins with the first document that has a start
 pub by_counts-head : (points : ℕ → ℕ → ℕ) (d : ℕ) (f : ℕ → ℕ) → d ≤ TERMINATED →
@@ -139,10 +137,10 @@ listed-stands limits kept made d (e ∷ es) is a named here below =
     ]
 
 pub by_counts-stands : (limits : Limits) (points : ℕ → ℕ → ℕ) (d : ℕ) (f : ℕ → ℕ) → AreEntries 0 limits (by_counts points f) →
-    d ≡ head_document (by_counts points f) → d < TERMINATED → (0 < f d) × (head_score (by_counts points f) ≡ points d (held (f d)))
+    d ≡ head_document (by_counts points f) → d < TERMINATED → (0 < f d) × (head_score (by_counts points f) ≡ points d (held_count (f d)))
 by_counts-stands limits points d f a here below =
     let stands =
-    listed-stands limits (λ e. nat_lt 0 (held (f e))) (λ e. scored e (points e (held (f e)))) d (by_counts points f) refl a (λ e. refl) here below in (
+    listed-stands limits (λ e. nat_lt 0 (held_count (f e))) (λ e. scored e (points e (held_count (f e)))) d (by_counts points f) refl a (λ e. refl) here below in (
       elim (cases_lt 0 (f d)) [
         | inl some ↦ some
         | inr none ↦ absurd (cc (kept-none (f d) (omega arith), stands.0))
@@ -152,7 +150,7 @@ by_counts-stands limits points d f a here below =
 
 -- what the weight gives a count at the document's length id
 pub points-some : (given : Option OwnWeight) (weight : OwnWeight) (ids : List ℕ) (d count id n : ℕ) → given ≡ Some weight → d < length ids →
-    id ≡ get_or ids d id → count ≡ min (most_starts given) n → bm25 (weighing weight) id count ≡ phrase_points given ids d (held n)
+    id ≡ get_or ids d id → count ≡ min (most_starts given) n → bm25 (weighing weight) id count ≡ phrase_points given ids d (held_count n)
 points-some None weight ids d count id n is below read counted = absurd (cc)
 points-some (Some other) weight ids d count id n is below read counted =
     let same : other ≡ weight = cc in

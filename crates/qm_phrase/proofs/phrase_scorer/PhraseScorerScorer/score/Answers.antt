@@ -7,7 +7,8 @@ use Rattle.qm_phrase.specs.Phrase.{phrase_limits, phrase_points}
 use Rattle.qm_phrase.specs.PhraseScorer.{phrase_starts}
 use Rattle.qm_phrase.specs.PhraseFacts.{AreEntries-phrase}
 use Rattle.qm_phrase.specs.Terms.{shifts_in, term_lists}
-use Rattle.qm_phrase.proofs.PhraseLists.{by_counts-stands, held, points-none, points-some}
+use Rattle.qm_phrase.specs.PhrasePrefix.{held_count}
+use Rattle.qm_phrase.proofs.PhraseLists.{by_counts-stands, points-none, points-some}
 use Rattle.qm_phrase.proofs.phrase_scorer.PhraseScorerScorer.score.Goals as goal
 
 pub fieldnorm_id-requires : goal.fieldnorm_id-requires
@@ -39,5 +40,5 @@ returns-in-None-clause-score g c =
     (shifts_in self.terms) (term_lists g.P.DocSet self.terms) in
     let stands = by_counts-stands (phrase_limits self.similarity_weight) (phrase_points self.similarity_weight (norm_ids self.fieldnorm_reader)) self.doc
     (phrase_starts g.P.DocSet self) ascending c.requires.placed.document (omega (arith, c.requires.placed.document, c.requires.here)) in
-    ap pos (points-none self.similarity_weight (norm_ids self.fieldnorm_reader) self.doc (held (phrase_starts g.P.DocSet self self.doc)) c.in-None.is
+    ap pos (points-none self.similarity_weight (norm_ids self.fieldnorm_reader) self.doc (held_count (phrase_starts g.P.DocSet self self.doc)) c.in-None.is
     ∙ sym stands.1)
