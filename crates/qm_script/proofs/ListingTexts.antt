@@ -1,9 +1,9 @@
 -- Texts of listings: one document more, and several.
-use Rattle.std.proofs.Common.{◌≡◌, ℕ, ℤ, ◌+◌, ◌<◌, ◌^◌, List, [], ◌∷◌, ◌++◌, Option, None, Some, length, map, ap, sym, ◌∙◌, append_assoc, arith}
+use Rattle.std.proofs.Common.{◌≡◌, ℕ, ℤ, ◌+◌, ◌<◌, ◌^◌, List, [], ◌∷◌, ◌++◌, Option, length, map, ap, sym, ◌∙◌, append_assoc, arith}
 use Rattle.std.proofs.Common.{refl, length-append, take}
 use Rattle.std.proofs.Common.{get_or}
 use Rattle.std.specs.List.{join_with_byte}
-use Rattle.std.specs.Fmt.{decimal, signed_decimal}
+use Rattle.std.specs.Fmt.{decimal}
 use Rattle.std.proofs.lemmas.Fmt.{decimal_nonempty}
 use Rattle.std.proofs.lemmas.List.{map-append, take_more}
 use Rattle.qm_script.specs.Text.{numbered}
@@ -43,22 +43,6 @@ IsListing-next (i ∷ items) text new item is some e = record {
   listed = e ∙ append_assoc text (32 ∷ []) (item_text item) ∙ ap (λ t. t ++ (32 ∷ item_text item)) is.listed ∙ sym (listing-push i items item);
   begun = λ h. absurd (omega (arith, ap length e, length-append (text ++ 32 ∷ []) (item_text item), length-append text (32 ∷ [])));
 }
-
--- the last one gets its score, behind a colon
-pub IsListing-scored : (items : List Item) (text new : List ℕ) (d : ℕ) (s : ℤ) → IsListing (items ++ (d, None) ∷ []) text →
-    new ≡ text ++ (58 ∷ signed_decimal s) → IsListing (items ++ (d, Some s) ∷ []) new
-IsListing-scored [] text new d s is e = record {
-  listed = e ∙ ap (λ t. t ++ (58 ∷ signed_decimal s)) is.listed ∙ append_assoc (decimal d) [] (58 ∷ signed_decimal s);
-  begun = λ h. absurd (omega (arith, ap length e, length-append text (58 ∷ signed_decimal s)));
-}
-IsListing-scored (i ∷ items) text new d s is e =
-    let front = join_with_byte 32 (map item_text (i ∷ items)) in
-    record {
-      listed = e ∙ ap (λ t. t ++ (58 ∷ signed_decimal s)) (is.listed ∙ listing-push i items (d, None))
-          ∙ append_assoc front (32 ∷ item_text (d, None)) (58 ∷ signed_decimal s)
-          ∙ ap (λ t. front ++ (32 ∷ t)) (append_assoc (decimal d) [] (58 ∷ signed_decimal s)) ∙ sym (listing-push i items (d, Some s));
-      begun = λ h. absurd (omega (arith, ap length e, length-append text (58 ∷ signed_decimal s)));
-    }
 
 -- a loop over the documents of a segment: one more
 pub listing-more : {X : Type 0} (make : X → Item) (items : List Item) (first : ℕ) (found : List X) (i : ℕ) (d : X) → i < length found →

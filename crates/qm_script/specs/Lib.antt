@@ -7,6 +7,7 @@ pub mod Reached
 pub mod Prefixes
 pub mod Under
 pub mod Found
+pub mod Backwards
 pub mod Text
 pub mod Written
 pub mod Answers

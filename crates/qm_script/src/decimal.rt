@@ -1,16 +1,15 @@
-//! Numbers in decimal digits, behind bytes.
+//! Short texts that are written from their end to their front, with numbers in decimal digits.
 //!
 //! A formatter goes by a width, a sign and a fill for each number, and takes what stands before it apart: that is half as
-//! much again as the digits take.
+//! much again as the digits take. A number's last digit is known first. So what stands behind a number is written before it,
+//! and all of it is copied at once.
 
-ghost use Rattle.std.specs.Prelude.{◌≡◌, ◌+◌, ◌/◌, ◌%◌, ◌<◌, ◌≤◌, ◌∷◌, ◌++◌, OnErr, OnOk, drop, take};
+ghost use Rattle.std.specs.Prelude.{◌≡◌, ◌+◌, ◌/◌, ◌%◌, ◌<◌, ◌≤◌, ◌∷◌, ◌++◌, [], drop};
 ghost use Rattle.std.specs.Fmt.{decimal};
 ghost use Rattle.qm_script.specs.declared.decimal.TheConstants.{ROOM};
 
-use std::alloc::AllocError;
-
-/// The digits of the greatest number, and a byte before them.
-const ROOM: usize = 21;
+/// What such a text has at most: two numbers of 20 digits, a byte before each, and a sign.
+const ROOM: usize = 43;
 
 // The two digits of each number below 100.
 static PAIRS: [u8; 200] = *b"0001020304050607080910111213141516171819\
@@ -19,35 +18,70 @@ static PAIRS: [u8; 200] = *b"0001020304050607080910111213141516171819\
 6061626364656667686970717273747576777879\
 8081828384858687888990919293949596979899";
 
-/// Writes a number's digits behind the bytes.
-pub(crate) fn push_number(bytes: &mut Vec<u8>, number: u64) -> Result<(), AllocError>
-    ensures written { OnOk result (bytes.new.items ≡ bytes.old.items ++ decimal number) }
-    ensures unchanged { OnErr result (bytes.new.items ≡ bytes.old.items) }
-{
-    let mut text = [0; ROOM];
-    let from = write_digits(&mut text, number);
-    bytes.extend_from_slice(&text[from..])
+/// A text that is written from its end to its front.
+#[derive(Drop)]
+pub(crate) struct Backwards {
+    text: [u8; ROOM],
+    // where what is written begins
+    from: usize,
+    ghost within: { from ≤ ROOM },
 }
 
-/// Writes a byte and a number's digits behind the bytes.
-pub(crate) fn push_behind(bytes: &mut Vec<u8>, byte: u8, number: u64) -> Result<(), AllocError>
-    ensures written { OnOk result (bytes.new.items ≡ bytes.old.items ++ byte ∷ decimal number) }
-    ensures unchanged { OnErr result (bytes.new.items ≡ bytes.old.items) }
-{
-    let mut text = [byte; ROOM];
-    let from = write_digits(&mut text, number);
-    bytes.extend_from_slice(&text[from - 1..])
+impl Backwards {
+    ghost use Rattle.qm_script.specs.Backwards.{room_in, written_in};
+
+    /// A text of which nothing is written.
+    #[inline]
+    pub(crate) fn new() -> Backwards
+        ensures written { written_in result ≡ [] }
+        ensures room { room_in result ≡ ROOM }
+    {
+        Backwards {
+            text: [0; ROOM],
+            from: ROOM,
+        }
+    }
+
+    /// Writes a byte before what stands there.
+    #[inline]
+    pub(crate) fn put_byte(&mut self, byte: u8)
+        requires room { 1 ≤ room_in self.old }
+        ensures written { written_in self.new ≡ byte ∷ written_in self.old }
+        ensures room { room_in self.new + 1 ≡ room_in self.old }
+    {
+        self.from -= 1;
+        self.text[self.from] = byte;
+    }
+
+    /// Writes a number's digits before what stands there.
+    #[inline]
+    pub(crate) fn put_number(&mut self, number: u64)
+        requires room { 20 ≤ room_in self.old }
+        ensures written { written_in self.new ≡ decimal number ++ written_in self.old }
+        ensures room { room_in self.old ≤ room_in self.new + 20 }
+    {
+        self.from = write_digits(&mut self.text, self.from, number);
+    }
+
+    /// What is written.
+    #[inline]
+    pub(crate) fn written(&self) -> &[u8]
+        ensures { result.now ≡ written_in self.now }
+    {
+        &self.text[self.from..]
+    }
 }
 
-// Writes a number's digits up to the end of the text, and answers where they begin.
-fn write_digits(text: &mut [u8; ROOM], number: u64) -> usize
-    ensures some { 1 ≤ result }
-    ensures within { result ≤ ROOM }
-    ensures digits { drop result text.new ≡ decimal number }
-    ensures before { take result text.new ≡ take result text.old }
+// Writes a number's digits up to a place of the text, and answers where they begin.
+fn write_digits(text: &mut [u8; ROOM], end: usize, number: u64) -> usize
+    requires end { end ≤ ROOM }
+    requires room { 20 ≤ end }
+    ensures within { result ≤ end }
+    ensures room { end ≤ result + 20 }
+    ensures digits { drop result text.new ≡ decimal number ++ drop end text.old }
 {
     let mut left = number;
-    let mut from = ROOM;
+    let mut from = end;
     // the number's digits are those of what is left, and behind these what stands from here on
     while left >= 100 {
         from -= 2;
@@ -68,8 +102,7 @@ fn write_digits(text: &mut [u8; ROOM], number: u64) -> usize
 fn write_pair(text: &mut [u8; ROOM], from: usize, number: u8)
     requires below { number < 100 }
     requires room { from + 2 ≤ ROOM }
-    ensures digits { drop from text.new ≡ (48 + number / 10) ∷ (48 + number % 10) ∷ drop (from + 2) text.old }
-    ensures before { take from text.new ≡ take from text.old }
+    ensures { drop from text.new ≡ (48 + number / 10) ∷ (48 + number % 10) ∷ drop (from + 2) text.old }
 {
     let place = 2 * number as usize;
     let (tens, ones) = (PAIRS[place], PAIRS[place + 1]);

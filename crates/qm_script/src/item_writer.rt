@@ -1,9 +1,10 @@
 //! A text to which documents are added, one after another.
 
-ghost use Rattle.std.specs.Prelude.{◌≡◌, ℕ, ℤ, ◌∷◌, [], IsAscii, IsOkUnless, List, None, Option, Some, length, string_bytes};
-ghost use Rattle.qm_script.specs.Text.{IsListing};
+ghost use Rattle.std.specs.Prelude.{◌≡◌, ◌≤◌, ℕ, ℤ, ◌∷◌, [], IsAscii, IsOkUnless, List, None, Option, Some, length, string_bytes};
+ghost use Rattle.qm_script.specs.Backwards.{room_in, written_in};
+ghost use Rattle.qm_script.specs.Text.{IsListing, score_text};
 
-use crate::decimal::{push_behind, push_number};
+use crate::decimal::Backwards;
 use qm_docset::Score;
 use qm_schema::QueryError;
 use std::alloc::{AllocError, Global};
@@ -49,25 +50,36 @@ impl ItemWriter {
     pub(crate) fn write_document(&mut self, document: u64) -> Result<(), AllocError>
         ensures { AddsToListing result ((document, None) ∷ []) self.old self.new }
     {
-        if self.is_begun {
-            push_behind(&mut self.bytes, b' ', document)
-        } else {
-            self.is_begun = true;
-            push_number(&mut self.bytes, document)
-        }
+        self.write_before(document, Backwards::new())
     }
 
     /// The same with its score, behind a colon.
     pub(crate) fn write_score(&mut self, document: u64, score: Score) -> Result<(), AllocError>
         ensures { AddsToListing result ((document, Some score) ∷ []) self.old self.new }
     {
-        self.write_document(document)?;
+        let mut behind = Backwards::new();
+        behind.put_number(score.unsigned_abs());
         if score < 0 {
-            self.bytes.push(b':')?;
-            push_behind(&mut self.bytes, b'-', score.unsigned_abs())
-        } else {
-            push_behind(&mut self.bytes, b':', score.unsigned_abs())
+            behind.put_byte(b'-');
         }
+        behind.put_byte(b':');
+        self.write_before(document, behind)
+    }
+
+    // Writes a document's number before the text of its score, which is none where no score is wanted.
+    fn write_before(&mut self, document: u64, behind: Backwards) -> Result<(), AllocError>
+        requires room { 21 ≤ room_in behind }
+        requires ascii { IsAscii (written_in behind) }
+        ensures { (score : Option ℤ) → written_in behind ≡ score_text score → AddsToListing result ((document, score) ∷ []) self.old self.new }
+    {
+        let mut item = behind;
+        item.put_number(document);
+        if self.is_begun {
+            item.put_byte(b' ');
+        }
+        self.bytes.extend_from_slice(item.written())?;
+        self.is_begun = true;
+        Ok(())
     }
 }
 

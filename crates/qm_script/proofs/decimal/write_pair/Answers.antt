@@ -4,8 +4,8 @@ use Rattle.std.proofs.lemmas.List.{drop-set, set_comm}
 use Rattle.qm_script.proofs.Decimals.{table-pair}
 use Rattle.qm_script.proofs.decimal.write_pair.Goals as goal
 
-pub returns-clause-digits : goal.returns-clause-digits
-returns-clause-digits c =
+pub returns : goal.returns
+returns c =
     let digits = table-pair c.args.number c.requires.below in
     let from = c.args.from in
     let text = c.args.text.now in
