@@ -19,4 +19,3 @@ pub row_disjuncts-items : {n : _} (row : Row_of-DisjunctionMaxQuery-disjuncts-1 
     row_disjuncts row ≡ disjuncts_of (items-the_row-DisjunctionMaxQuery-disjuncts-1 n row)
 row_disjuncts-items end_of-DisjunctionMaxQuery-disjuncts-1 = refl
 row_disjuncts-items (more_of-DisjunctionMaxQuery-disjuncts-1 p x more) = ap (disjunct (query_of x)) (row_disjuncts-items more)
-

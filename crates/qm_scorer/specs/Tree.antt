@@ -16,7 +16,7 @@ use Rattle.qm_combine.specs.Constant.{IsConstant, IsConstantPlaced, constant_lef
 use Rattle.qm_combine.specs.HeldSum.{held_sum}
 use Rattle.qm_combine.specs.Rescored.{rescored, with_optional}
 use Rattle.qm_combine.specs.Union.{least_head}
-use Rattle.qm_combine.specs.United.{HasUnionParts as HasPartsBy, IsUnited as IsUnitedBy, kept_score as kept_by, union_listing as united_by}
+use Rattle.qm_combine.specs.United.{HasParts as HasPartsBy, IsUnited as IsUnitedBy, kept_score as kept_by, united as united_by}
 use Rattle.qm_combine.specs.declared.union.window.Window.{Window}
 use Rattle.qm_combine.specs.Without.{without}
 use Rattle.qm_combine.specs.WithoutFacts.{IsKept}

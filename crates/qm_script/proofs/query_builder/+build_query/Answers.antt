@@ -2,7 +2,7 @@ use Rattle.std.proofs.Common.{◌≡◌, ◌∙◌, ◌+◌, ◌∷◌, ◌++◌
 use Rattle.std.proofs.lemmas.List.{map-append}
 use Rattle.std.proofs.lemmas.Result.{err_from_is_err_and}
 use Rattle.qm_query.specs.Query as query
-use Rattle.qm_query.specs.Query.{spelled_clause as built_clause, disjuncts_of, query_of as built_query, subqueries_of}
+use Rattle.qm_query.specs.Query.{clause_of as built_clause, disjuncts_of, query_of as built_query, subqueries_of}
 use Rattle.qm_script.specs.Asked.{Builds, asked, clauses_asked, disjuncts_asked, phrase_asked}
 use Rattle.qm_script.specs.Script.{boolean, as_clauses, disjunction_max, phrase, queries_of}
 use Rattle.qm_script.specs.Spelled.{spelled_clause, query_of, texts}

@@ -1,6 +1,6 @@
 -- What was built so far, and what is asked behind it.
 use Rattle.std.proofs.Common.{◌≡◌, drop, map}
-use Rattle.qm_query.specs.Query.{spelled_clause as built_clause, query_of as built_query}
+use Rattle.qm_query.specs.Query.{clause_of as built_clause, query_of as built_query}
 use Rattle.qm_script.specs.Asked.{clauses_asked, disjuncts_asked}
 use Rattle.qm_script.specs.Script.{as_clauses, queries_of}
 use Rattle.qm_script.specs.Spelled.{spelled_clause, query_of}
