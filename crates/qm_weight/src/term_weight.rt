@@ -1,13 +1,14 @@
 //! The weight of a term.
 
-ghost use Rattle.std.specs.Prelude.{◌≡◌, ◌<◌, ◌≤◌, ◌≤ℤ◌, IfErr, IfOk, if◌then◌else◌, length, nat_abs, pos};
+ghost use Rattle.std.specs.Prelude.{◌≡◌, ◌<◌, ◌≤◌, ◌≤ℤ◌, IfErr, IfOk, None, if◌then◌else◌, length, nat_abs, pos};
+ghost use Rattle.qm_schema.specs.declared.schema.option.IndexRecordOption.TheVariants.{Basic};
 ghost use Rattle.qm_docset.specs.Entry.{greatest_score};
 ghost use Rattle.qm_term.specs.Bm25.{boosted_by};
 ghost use Rattle.qm_term.specs.Bm25Weight.{weighing};
 ghost use Rattle.qm_term.specs.Explained.{value_of};
 ghost use Rattle.qm_weight.specs.Counts.{alive_count};
 ghost use Rattle.qm_weight.specs.Explanations.{IsExplained, IsExplainRefusal};
-ghost use Rattle.qm_weight.specs.LeafScorers.{IsLeafOf, IsLeafOfSome};
+ghost use Rattle.qm_weight.specs.LeafScorers.{IsLeafOf};
 ghost use Rattle.qm_weight.specs.Scorers.{IsRefusalOf};
 ghost use Rattle.qm_weight.specs.Tree.{term as leaf_of};
 ghost use Rattle.qm_weight.specs.TreeRuns.{MayPruneTree, PrunesTreeBy};
@@ -18,8 +19,8 @@ use crate::counts::count_alive;
 use crate::explanations::explain_term;
 use crate::leaf_scorers::scorer_of_leaf;
 use crate::pruning::counted_none;
-use crate::shared_runs::{StandsFor, check_document, prune_leaf, run_leaf, run_leaf_slices};
-use crate::weight::Weight;
+use crate::shared_runs::{StandsFor, check_document, prune_leaf, run_leaf};
+use crate::weight::{Weight, empty_buffer, for_each_docset_buffered};
 use qm_combine::Scorer;
 use qm_docset::{DocId, DocSet, Score, TERMINATED};
 use qm_postings::SegmentReader;
@@ -87,7 +88,6 @@ impl TermWeight {
     ) -> Result<Option<TermScorer<'a>>, QueryError>
         requires boost { boost ≤ greatest_score }
         ensures scorer { IfOk result (IsLeafOf ⟦<TermScorer<'a> as DocSet>⟧ (term_tree self.now) boost reader.now.segment) }
-        ensures some { IfOk result (IsLeafOfSome (term_tree self.now) reader.now.segment) }
         ensures refused { IfErr result (IsRefusalOf (term_tree self.now) boost) }
     {
         let weight = self.weight_at(boost)?;
@@ -137,7 +137,7 @@ impl Weight for TermWeight {
     }
 
     fn count(&self, _alloc: Global, reader: &SegmentReader) -> Result<u32, QueryError> {
-        Ok(count_term(self, reader))
+        Ok(count_term(&self.term, reader))
     }
 
     fn explain(
@@ -169,9 +169,9 @@ impl Weight for TermWeight {
         reader: &SegmentReader,
         callback: &mut F,
     ) -> Result<(), QueryError> {
-        let leaf = self.term_scorer(reader, 1)?;
-        if leaf.is_some() {
-            run_leaf_slices(self, reader, leaf, callback);
+        let index = reader.inverted_index(self.term.field());
+        if let Some(mut documents) = index.read_documents(&self.term) {
+            for_each_docset_buffered(&mut documents, &mut empty_buffer(), callback);
         }
         Ok(())
     }
@@ -212,13 +212,13 @@ fn prune_term<'a, F: FnMut(DocId, Score) -> Score>(
     }
 }
 
-// How many documents hold the term and weren't deleted. Reads the term's postings where some document was
-// deleted, and else only their number; takes no memory and is never refused.
-pub(crate) fn count_term(weight: &TermWeight, reader: &SegmentReader) -> u32
-    ensures { result ≡ alive_count (term_tree weight.now) reader.now.segment }
+/// How many documents of a segment hold a term and weren't deleted. Reads the term's postings where some document was
+/// deleted, and else only their number; takes no memory and is never refused.
+pub fn count_term(term: &Term, reader: &SegmentReader) -> u32
+    ensures { result ≡ alive_count (leaf_of term.now Basic None) reader.now.segment }
 {
-    let index = reader.inverted_index(weight.term.field());
-    let Some(info) = index.get_term_info(&weight.term) else {
+    let index = reader.inverted_index(term.field());
+    let Some(info) = index.get_term_info(term) else {
         return 0;
     };
     if !reader.has_deletes() {
