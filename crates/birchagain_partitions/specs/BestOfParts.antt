@@ -8,7 +8,7 @@ use Rattle.std.proofs.lemmas.Int.{ints, by_lt_z}
 use Rattle.std.proofs.lemmas.List.{take-take}
 use Rattle.std.proofs.lemmas.List.Sums.{fold-append}
 use Rattle.qm_weight.specs.Best.{best, by_score, placed}
-use Rattle.qm_weight.specs.BestFacts.{placed-before, placed-behind}
+use Rattle.qm_weight.specs.BestFacts.{kept_with-take, placed-before, placed-behind}
 use Rattle.birchagain_partitions.specs.Ranked.{IsRanked, IsRankedBelow}
 
 module _ {A : Type 0} where
@@ -23,25 +23,11 @@ module _ {A : Type 0} where
 
   -- ---- the first k alone count
 
-  take-placed : (k : ℕ) (p : A × ℤ) (xs : List (A × ℤ)) → take k (placed p xs) ≡ take k (placed p (take k xs))
-  take-placed zero p xs = refl
-  take-placed (suc k) p [] = refl
-  take-placed (suc k) p (x ∷ xs) =
-      by_lt_z x.1 p.1
-      (λ less.
-      ap (take (suc k)) (placed-before p x xs less)
-      ∙ ap (λ l. p ∷ l) (sym (take-take k (suc k) (x ∷ xs) (omega arith)))
-      ∙ sym (ap (take (suc k)) (placed-before p x (take k xs) less)))
-      (λ order.
-      ap (take (suc k)) (placed-behind p x xs order)
-      ∙ ap (λ l. x ∷ l) (take-placed k p xs)
-      ∙ sym (ap (take (suc k)) (placed-behind p x (take k xs) order)))
-
   take-joined : (k : ℕ) (xs ys : List (A × ℤ)) → take k (joined xs ys) ≡ take k (joined (take k xs) ys)
   take-joined k xs [] = sym (take-take k k xs (omega arith))
   take-joined k xs (y ∷ ys) =
       take-joined k (placed y xs) ys
-      ∙ ap (λ l. take k (joined l ys)) (take-placed k y xs)
+      ∙ ap (λ l. take k (joined l ys)) (sym (kept_with-take k y xs))
       ∙ sym (take-joined k (placed y (take k xs)) ys)
 
   -- ---- items that stand by their scores
