@@ -22,6 +22,7 @@ use Rattle.qm_term.specs.Runs.{InRange, Plain, Turn}
 use Rattle.qm_term.specs.RunsFacts.{Plain-enters}
 use Rattle.qm_term.specs.declared.wand.ticks.WandCount.{WandCount}
 use Rattle.qm_term.proofs.WandPlain.{is_above}
+use Rattle.qm_weight.specs.BestFacts.{lt_z-not_less}
 use Rattle.qm_weight.specs.Best.{best, by_score}
 use Rattle.qm_weight.specs.Tree.{Tree, is_scoring, list, matching, score}
 use Rattle.qm_weight.specs.TreeRuns.{PrunesTreeBy}
@@ -32,7 +33,7 @@ use Rattle.qm_query.specs.TopDocs.{AreBestOf, AreByAddress, IsScoredIn, alive_ma
 use Rattle.qm_query.specs.TopDocsOrder.{AreByAddress-from}
 use Rattle.qm_query.specs.declared.top_docs.kept_document.KeptDocument.{KeptDocument}
 use Rattle.qm_query.specs.declared.top_docs.kept_documents.KeptDocuments.{KeptDocuments}
-use Rattle.qm_query.proofs.KeptOrder.{lt-behind, no_lesser, not_under, ranked-by_score}
+use Rattle.qm_query.proofs.KeptOrder.{lt-behind, no_lesser, ranked-by_score}
 use Rattle.qm_query.proofs.RankingFacts.{All-ranking, length-put, length-ranking, ranked_with-last, ranked_with-take}
 
 All-front : {X : Type 0} (P : X → Type 0) (xs ys : List X) → All P (xs ++ ys) → All P xs
@@ -48,7 +49,7 @@ no_better : (p : DocAddress × ℤ) (worst y : KeptDocument) → is_lt (worst_la
     address_cmp y.address p.0 ≡ Less → p.1 ≤ℤ worst.score → is_lt (worst_last (kept_of p) y) ≡ false
 no_better p worst y top before low =
     let order : worst.score ≤ℤ y.score = no_lesser y.score worst.score (address_cmp worst.address y.address) top in
-    lt-behind (kept_of p) y before ∙ not_under y.score p.1 (omega (arith, ints, order, low))
+    lt-behind (kept_of p) y before ∙ lt_z-not_less y.score p.1 (omega (arith, ints, order, low))
 
 -- ---- documents by address
 
