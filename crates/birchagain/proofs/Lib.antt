@@ -1,7 +1,7 @@
 mod HolderCounts
-mod LeftWords
+pub mod LeftWords
 mod Logarithms
 mod PlacedRows
-mod Spaces
+pub mod Spaces
 mod TextDrafts
 mod WordRefusals

@@ -30,7 +30,8 @@ kept_if t w pieces h = rw h refl
 some-kept : (w : List ℕ) (pieces : List (List ℕ)) → 0 < length w → words_of_pieces (w ∷ pieces) ≡ w ∷ words_of_pieces pieces
 some-kept w pieces h = kept_if (length w == 0) w (words_of_pieces pieces) (ne_eqb (length w) 0 (λ e. absurd (omega (arith, h, e))))
 
-one_word : (w : List ℕ) (rest : List ℕ) → 0 < length w → AllByRecursion (λ b. (b == 32) ≡ false) w → words_of ((w ++ 32 ∷ []) ++ rest) ≡ w ∷ words_of rest
+-- a word with a space behind it is the first of a text
+pub one_word : (w : List ℕ) (rest : List ℕ) → 0 < length w → AllByRecursion (λ b. (b == 32) ≡ false) w → words_of ((w ++ 32 ∷ []) ++ rest) ≡ w ∷ words_of rest
 one_word w rest some lacks =
     ap words_of (append_assoc w (32 ∷ []) rest)
     ∙ ap words_of_pieces (slice_split_at (λ b. b == 32) w 32 rest (lacks-all w lacks) refl)

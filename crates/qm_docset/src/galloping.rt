@@ -1,16 +1,14 @@
 //! Search in an ascending list, from a place near the answer.
 //!
-//! Four single steps come first, then blocks of eight that are counted without a branch, then doubling and halving:
-//! most seeks are near.
+//! The first document is looked at by itself, then come blocks of eight that are counted without a branch, then
+//! doubling and halving: most seeks are near.
 
 ghost use Rattle.std.specs.Prelude.{ℕ, ◌<◌, ◌≤◌, length, slice_index};
 ghost use Rattle.std.specs.List.Sorted.{IsStrictlyIncreasing};
 
 use crate::numbers::DocId;
 
-// how many documents are looked at one by one, and how many blocks behind them by their last document
-const NEAR_STEPS: usize = 4;
-
+// how many blocks are looked at one by one, by their last document
 const NEAR_BLOCKS: usize = 4;
 
 // how many documents a block has: of so many those below the target are counted without a branch
@@ -19,9 +17,9 @@ const BLOCK: usize = 8;
 /// The place of the first document at or past `target` in an ascending list, from the place `start`
 /// on, or the list's length where there is none.
 ///
-/// Most targets are near: the first few documents are looked at one by one, and then a few blocks of
-/// eight by their last document; in the block that has the target the documents below it are
-/// counted. Behind these the stride doubles until it reaches the target, and the last stride is
+/// Most targets are near: the first document is looked at by itself, and then a few blocks of eight
+/// by their last document; in the block that has the target the documents below it are counted,
+/// without a branch that a processor would have to guess. Behind these the stride doubles until it reaches the target, and the last stride is
 /// halved. So the cost is logarithmic in the distance from `start`, not in the list's length.
 #[inline]
 pub fn gallop(docs: &[DocId], start: usize, target: DocId) -> usize
@@ -32,15 +30,11 @@ pub fn gallop(docs: &[DocId], start: usize, target: DocId) -> usize
     ensures passed { (k : ℕ) → start ≤ k → k < result → slice_index docs.now k < target }
     ensures reached { result < length docs.now → target ≤ slice_index docs.now result }
 {
-    let mut low = start;
-    // all before low are below the target
-    'steps: for _ in 0..NEAR_STEPS {
-        if low == docs.len() || docs[low] >= target {
-            return low;
-        }
-        low += 1;
+    if start == docs.len() || docs[start] >= target {
+        return start;
     }
-    // as before
+    let mut low = start + 1;
+    // all before low are below the target
     'skips: for _ in 0..NEAR_BLOCKS {
         if docs.len() - low < BLOCK {
             break;

@@ -23,10 +23,9 @@ use crate::const_score_query::ConstScoreQuery;
 use crate::disjunction_max_query::DisjunctionMaxQuery;
 use crate::empty_query::EmptyQuery;
 use crate::enable_scoring::EnableScoring;
-use crate::fitting::check_fits;
 use crate::phrase_prefix_query::PhrasePrefixQuery;
 use crate::phrase_query::PhraseQuery;
-use crate::searches::{count_alive, segment_at};
+use crate::searches::{count_by_weight, segment_at};
 use crate::term_query::TermQuery;
 use qm_postings::{Bm25StatisticsProvider, DocAddress, Searcher};
 use qm_schema::{QueryError, Term};
@@ -66,16 +65,15 @@ pub trait Query {
     ///
     /// Refused as [`weight`](Query::weight) is, then with [`QueryError::ScoreBound`] exactly where the
     /// query doesn't fit, whatever the segments are, and else with [`QueryError::Memory`] alone. Builds the
-    /// weight once, and costs what `Weight::count` does for each segment.
+    /// weight once, and costs what `Weight::count` does for each segment. A term is counted without a weight: it
+    /// takes no memory, and is refused for its field alone.
     fn count(&self, alloc: Global, searcher: &Searcher) -> Result<usize, QueryError>
         ensures count { IfOk result (IsCountOf ⟦<Searcher as Bm25StatisticsProvider>⟧ searcher.now (query self.now)) }
         ensures fits { IfOk result (λ _. QueryFits ⟦<Searcher as Bm25StatisticsProvider>⟧ (without_scores searcher.now) (query self.now)) }
+        ensures served { IfOk result (λ _. IsTrue (is_served searcher.now.schema (query self.now))) }
         ensures refused { IfErr result (IsCountRefusal ⟦<Searcher as Bm25StatisticsProvider>⟧ searcher.now (query self.now)) }
     {
-        let enable_scoring = EnableScoring::<Searcher>::disabled_from_searcher(searcher);
-        let weight = self.weight(alloc, enable_scoring)?;
-        check_fits(&weight)?;
-        count_alive(&weight, alloc, searcher)
+        count_by_weight(self, alloc, searcher)
     }
 
     /// Why a document of a segment of the searcher scores what it does, by the weights that the
@@ -238,6 +236,13 @@ impl Query for AnyQuery {
         self.build_weight(alloc, enable_scoring)
     }
 
+    fn count(&self, alloc: Global, searcher: &Searcher) -> Result<usize, QueryError> {
+        match self {
+            AnyQuery::Term(query) => query.count(alloc, searcher),
+            _ => count_by_weight(self, alloc, searcher),
+        }
+    }
+
     fn query_terms<F: FnMut(&Term, bool)>(&self, visitor: &mut F) {
         self.visit_terms(visitor);
     }
@@ -254,6 +259,10 @@ impl Query for Box<AnyQuery> {
         enable_scoring: EnableScoring<'_, P>,
     ) -> Result<Box<AnyWeight>, QueryError> {
         (**self).build_weight(alloc, enable_scoring)
+    }
+
+    fn count(&self, alloc: Global, searcher: &Searcher) -> Result<usize, QueryError> {
+        (**self).count(alloc, searcher)
     }
 
     fn query_terms<F: FnMut(&Term, bool)>(&self, visitor: &mut F) {

@@ -15,8 +15,9 @@ use crate::enable_scoring::EnableScoring;
 use crate::fields::term_field_refusal;
 use crate::leaf_weight::{leaf_weight, no_weight, shared_weight};
 use crate::query::Query;
+use crate::searches::count_holders;
 use crate::visits::visit_term;
-use qm_postings::Bm25StatisticsProvider;
+use qm_postings::{Bm25StatisticsProvider, Searcher};
 use qm_schema::{IndexRecordOption, Occur, QueryError, Term};
 use qm_term::{Bm25Weight, Explanation};
 use qm_weight::{AnyWeight, TermClause, TermWeight};
@@ -168,6 +169,13 @@ impl Query for TermQuery {
             EnableScoring::Disabled { .. } => {
                 self.boxed_weight(alloc, IndexRecordOption::Basic, &no_weight(), false)
             }
+        }
+    }
+
+    fn count(&self, _alloc: Global, searcher: &Searcher) -> Result<usize, QueryError> {
+        match term_field_refusal(searcher.schema(), self.term.field()) {
+            Some(refusal) => Err(refusal),
+            None => Ok(count_holders(searcher, &self.term)),
         }
     }
 

@@ -10,7 +10,8 @@ use Rattle.qm_script.specs.AskedTerms.{all_expansions, asked_terms, clauses_term
 use Rattle.qm_script.specs.Script.{as_clauses, queries_of}
 use Rattle.qm_script.specs.Spelled.{spelled_clause, query_of, texts}
 use Rattle.qm_script.specs.declared.spelled_query.SpelledQuery.{SpelledQuery}
-use Rattle.qm_script.proofs.WordLemmas.{drop_mapped, none_left}
+use Rattle.birchagain.proofs.LeftWords.{left-mapped}
+use Rattle.qm_script.proofs.WordLemmas.{none_left}
 
 module _ (segments : List Segment) (all : List TermKey) where
   module _ (xs : List (Occur × SpelledQuery)) (i : ℕ) where
@@ -23,7 +24,7 @@ module _ (segments : List Segment) (all : List TermKey) where
     clause-pushed x below is front pushed added kept =
         let rest = clauses_terms segments (as_clauses (drop (i + 1) (map spelled_clause xs))) in
         ap (λ l. l ++ rest) added ∙ append_assoc front (asked_terms segments (query_of x.1)) rest
-        ∙ ap (λ l. front ++ clauses_terms segments (as_clauses l)) (sym (drop_mapped spelled_clause xs i x x below is)) ∙ kept
+        ∙ ap (λ l. front ++ clauses_terms segments (as_clauses l)) (sym (left-mapped spelled_clause xs i x x below is)) ∙ kept
 
     pub clauses-pushed : (front : List TermKey) → length xs ≤ i → front ++ clauses_left ≡ all → front ≡ all
     clauses-pushed front past kept =
@@ -39,7 +40,7 @@ module _ (segments : List Segment) (all : List TermKey) where
     disjunct-pushed x below is front pushed added kept =
         let rest = queries_terms segments (queries_of (drop (i + 1) (map query_of xs))) in
         ap (λ l. l ++ rest) added ∙ append_assoc front (asked_terms segments (query_of x)) rest
-        ∙ ap (λ l. front ++ queries_terms segments (queries_of l)) (sym (drop_mapped query_of xs i x x below is)) ∙ kept
+        ∙ ap (λ l. front ++ queries_terms segments (queries_of l)) (sym (left-mapped query_of xs i x x below is)) ∙ kept
 
     pub disjuncts-pushed : (front : List TermKey) → length xs ≤ i → front ++ queries_left ≡ all → front ≡ all
     disjuncts-pushed front past kept =

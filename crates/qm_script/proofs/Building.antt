@@ -20,7 +20,8 @@ use Rattle.qm_script.specs.Script as language
 use Rattle.qm_script.specs.Script.{as_clauses, queries_of}
 use Rattle.qm_script.specs.Spelled.{spelled_clause, query_of}
 use Rattle.qm_script.specs.declared.spelled_query.SpelledQuery.{SpelledQuery}
-use Rattle.qm_script.proofs.WordLemmas.{drop_mapped, none_left}
+use Rattle.birchagain.proofs.LeftWords.{left-mapped}
+use Rattle.qm_script.proofs.WordLemmas.{none_left}
 
 abbrev made : {X : Type 0} → X → Result X QueryError
 made x = Ok x
@@ -130,7 +131,7 @@ with_front-push front x (Err e) = refl
 
 module _ (xs : List (Occur × SpelledQuery)) (i : ℕ) (x : Occur × SpelledQuery) (below : i < length xs) (is : x ≡ get_or xs i x) where
   clause-next : drop i (map spelled_clause xs) ≡ spelled_clause x ∷ drop (i + 1) (map spelled_clause xs)
-  clause-next = drop_mapped spelled_clause xs i x x below is
+  clause-next = left-mapped spelled_clause xs i x x below is
 
   pub clauses-step : (front : List (Occur × Query)) (q : Query) (whole : Result (List (Occur × Query)) QueryError) →
       asked (query_of x.1) ≡ Ok q → with_front front (clauses_asked (as_clauses (drop i (map spelled_clause xs)))) ≡ whole →
@@ -173,7 +174,7 @@ clauses-prefix-done test xs i whole past kept = sym kept ∙ ap (λ l. have_clau
 
 module _ (xs : List SpelledQuery) (i : ℕ) (x : SpelledQuery) (below : i < length xs) (is : x ≡ get_or xs i x) where
   disjunct-next : drop i (map query_of xs) ≡ query_of x ∷ drop (i + 1) (map query_of xs)
-  disjunct-next = drop_mapped query_of xs i x x below is
+  disjunct-next = left-mapped query_of xs i x x below is
 
   pub disjuncts-step : (front : List Query) (q : Query) (whole : Result (List Query) QueryError) → asked (query_of x) ≡ Ok q → with_front front (disjuncts_asked
       (queries_of (drop i (map query_of xs)))) ≡ whole → with_front (front ++ q ∷ []) (disjuncts_asked (queries_of (drop (i + 1) (map query_of xs)))) ≡ whole

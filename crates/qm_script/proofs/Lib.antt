@@ -9,6 +9,7 @@ mod Reading
 mod Numbers
 mod DocumentLines
 mod WordLemmas
+mod BlankLemmas
 mod ScriptLines
 mod SearchedIndexes
 mod Running

@@ -1,17 +1,16 @@
 -- What a line spells is read back from it.
-use Rattle.std.proofs.Common.{◌≡◌, ◌<◌, ◌≤◌, ◌^◌, ◌==◌, ◌||◌, Bool, true, false, cond, ℕ, zero, suc, ℤ, pos, negsuc, List, [], ◌∷◌, ◌++◌, Some, length, refl}
+use Rattle.std.proofs.Common.{◌≡◌, ◌<◌, ◌≤◌, ◌^◌, Bool, true, false, cond, ℕ, zero, suc, ℤ, pos, negsuc, List, [], ◌∷◌, ◌++◌, Some, length, refl}
 use Rattle.std.proofs.Common.{ap, sym, subst, ◌∙◌, append-nil, arith, option_map}
-use Rattle.std.proofs.lemmas.Bool.{ne_eqb, or_parts}
 use Rattle.std.proofs.lemmas.Fmt.{decimal_is_IsNumeral}
 use Rattle.std.proofs.lemmas.List.Splits.{slice_split_at, slice_split_none}
 use Rattle.std.proofs.lemmas.Str.Parse.{digit_from_value}
 use Rattle.std.specs.Fmt.{decimal, signed_decimal}
-use Rattle.std.specs.List.{All, AllByRecursion, flat_map, join_with_byte, slice_split}
+use Rattle.std.specs.List.{All, AllByRecursion, join_with_byte, slice_split}
 use Rattle.std.specs.Str.Parse.{AllDigits}
 use Rattle.qm_schema.specs.declared.occur.Occur.{Occur}
 use Rattle.qm_schema.specs.declared.occur.Occur.TheVariants.{Should, Must, MustNot}
 use Rattle.qm_script.specs.Script.{Clauses, Queries, Query, Request, add_document, all, behind_line_form, boolean, boost, clause, constant, count_matches}
-use Rattle.qm_script.specs.Script.{cut_at_tabs, delete_at, delete_document, disjunction_max, document_at, end_segment, line_form_named, line_request}
+use Rattle.qm_script.specs.Script.{delete_at, delete_document, disjunction_max, document_at, end_segment, is_blank, line_form_named, line_request}
 use Rattle.qm_script.specs.Script.{line_words, list_above, list_best, list_documents, list_scores, no_clause, no_query, non_empty, none, nothing, phrase}
 use Rattle.qm_script.specs.Script.{phrase_prefix}
 use Rattle.qm_script.specs.Script.{count_word_at, prune_at, query, query_at, score_at, set_weight, term, threshold_at, top_at, weight_at, whole_query, words_request}
@@ -20,30 +19,22 @@ use Rattle.qm_script.specs.Spelling.{IsSpelledThreshold, QueriesCanBeSpelled, cl
 use Rattle.qm_script.specs.Spelling.{spelled_queries}
 use Rattle.qm_script.specs.ProgramNumbers.{most_depth}
 use Rattle.qm_script.proofs.ReadBack.{count-read, document-read, query-read, read-then, score-read, threshold-read}
+use Rattle.qm_script.proofs.BlankLemmas.{above-blanks}
 use Rattle.qm_script.proofs.WordLemmas.{non_empty-cons}
 
 -- ---- the words of a line are cut where they were joined
 
-no-space : (word : List ℕ) → AllByRecursion (λ b. ((b == 32) || (b == 9)) ≡ false) word → All (λ b. (b == 32) ≡ false) word
-no-space [] h k d within = absurd (omega arith)
-no-space (b ∷ word) h zero d within = (or_parts (b == 32) (b == 9) h.0).0
-no-space (b ∷ word) h (suc k) d within = no-space word h.1 k d (omega arith)
-
-no-tab : (word : List ℕ) → AllByRecursion (λ b. ((b == 32) || (b == 9)) ≡ false) word → All (λ b. (b == 9) ≡ false) word
-no-tab [] h k d within = absurd (omega arith)
-no-tab (b ∷ word) h zero d within = (or_parts (b == 32) (b == 9) h.0).1
-no-tab (b ∷ word) h (suc k) d within = no-tab word h.1 k d (omega arith)
+no-blanks : (word : List ℕ) → AllByRecursion (λ b. is_blank b ≡ false) word → All (λ b. is_blank b ≡ false) word
+no-blanks [] h k d within = absurd (omega arith)
+no-blanks (b ∷ word) h zero d within = h.0
+no-blanks (b ∷ word) h (suc k) d within = no-blanks word h.1 k d (omega arith)
 
 cut-joined : (word : List ℕ) (words : List (List ℕ)) → AreLineWords (word ∷ words) →
-    slice_split (λ b. b == 32) (join_with_byte 32 (word ∷ words)) ≡ word ∷ words
-cut-joined word [] h = slice_split_none (λ b. b == 32) word (no-space word h.0.no_blank)
+    slice_split is_blank (join_with_byte 32 (word ∷ words)) ≡ word ∷ words
+cut-joined word [] h = slice_split_none is_blank word (no-blanks word h.0.no_blank)
 cut-joined word (next ∷ words) h =
-    slice_split_at (λ b. b == 32) word 32 (join_with_byte 32 (next ∷ words)) (no-space word h.0.no_blank) refl
+    slice_split_at is_blank word 32 (join_with_byte 32 (next ∷ words)) (no-blanks word h.0.no_blank) refl
     ∙ ap (λ l. word ∷ l) (cut-joined next words h.1)
-
-no-tabs-cut : (words : List (List ℕ)) → AreLineWords words → flat_map cut_at_tabs words ≡ words
-no-tabs-cut [] h = refl
-no-tabs-cut (word ∷ words) h = λ i. slice_split_none (λ b. b == 9) word (no-tab word h.0.no_blank) i ++ no-tabs-cut words h.1 i
 
 none-empty : (words : List (List ℕ)) → AreLineWords words → non_empty words ≡ words
 none-empty [] h = refl
@@ -51,19 +42,13 @@ none-empty (word ∷ words) h = non_empty-cons word words h.0.some ∙ ap (λ l.
 
 words-of-joined : (words : List (List ℕ)) → AreLineWords words → line_words (join_with_byte 32 words) ≡ words
 words-of-joined [] h = refl
-words-of-joined (word ∷ words) h =
-    ap (λ pieces. non_empty (flat_map cut_at_tabs pieces)) (cut-joined word words h)
-    ∙ ap non_empty (no-tabs-cut (word ∷ words) h)
-    ∙ none-empty (word ∷ words) h
+words-of-joined (word ∷ words) h = ap non_empty (cut-joined word words h) ∙ none-empty (word ∷ words) h
 
 -- ---- what is spelled is words
 
-digit-no-blank : (b : ℕ) → 48 ≤ b → ((b == 32) || (b == 9)) ≡ false
-digit-no-blank b h = ap (λ t. t || (b == 9)) (ne_eqb b 32 (λ e. absurd (omega arith))) ∙ ne_eqb b 9 (λ e. absurd (omega arith))
-
-digits-no-blank : (digits : List ℕ) → AllDigits 10 digits → AllByRecursion (λ b. ((b == 32) || (b == 9)) ≡ false) digits
+digits-no-blank : (digits : List ℕ) → AllDigits 10 digits → AllByRecursion (λ b. is_blank b ≡ false) digits
 digits-no-blank [] h = tt
-digits-no-blank (b ∷ digits) h = (digit-no-blank b (omega (arith, digit_from_value b h.0)), digits-no-blank digits h.1)
+digits-no-blank (b ∷ digits) h = (above-blanks b (omega (arith, digit_from_value b h.0)), digits-no-blank digits h.1)
 
 number-word : (n : ℕ) → n < 2 ^ 64 → IsLineWord (decimal n)
 number-word n h = let k = decimal_is_IsNumeral n h in record { some = k.0.0; no_blank = digits-no-blank (decimal n) k.0.1 }

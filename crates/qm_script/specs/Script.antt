@@ -1,8 +1,8 @@
 -- The language of a script's lines: which words a line has, and what it asks for. What reads a thing from
 -- the front of some words gives it, and the words behind it; None where it doesn't stand there.
-use Rattle.std.specs.Prelude.{◌≡◌, ◌<◌, ◌+◌, ℕ, zero, suc, ℤ, neg_ℤ, pos, drop, option_map, ◌^◌, ◌==◌, ◌&&◌, false, not, if◌then◌else◌, List, [], ◌∷◌, Option}
+use Rattle.std.specs.Prelude.{◌≡◌, ◌<◌, ◌+◌, ℕ, zero, suc, ℤ, neg_ℤ, pos, drop, option_map, ◌^◌, ◌==◌, ◌&&◌, ◌||◌, Bool, false, not, if◌then◌else◌, List, [], ◌∷◌, Option}
 use Rattle.std.specs.Prelude.{None, Some, codes, filter, length, nat_lt, option_and_then}
-use Rattle.std.specs.List.{AllByRecursion, flat_map, slice_split}
+use Rattle.std.specs.List.{AllByRecursion, slice_split}
 use Rattle.std.specs.Str.{all_ascii_digits, bytes_eq}
 use Rattle.std.specs.Str.Parse.{digits_value, starts_with_minus}
 use Rattle.qm_schema.specs.declared.occur.Occur.{Occur}
@@ -22,12 +22,13 @@ o >>= f = option_and_then f o
 abbrev pub non_empty : List (List ℕ) → List (List ℕ)
 non_empty words = filter (λ w. not (length w == 0)) words
 
-abbrev pub cut_at_tabs : List ℕ → List (List ℕ)
-cut_at_tabs piece = slice_split (λ b. b == 9) piece
+-- a space or a tab
+abbrev pub is_blank : ℕ → Bool
+is_blank b = (b == 32) || (b == 9)
 
 -- The words of a line: it is cut at spaces and tabs, and empty words are left out.
 abbrev pub line_words : List ℕ → List (List ℕ)
-line_words line = non_empty (flat_map cut_at_tabs (slice_split (λ b. b == 32) line))
+line_words line = non_empty (slice_split is_blank line)
 
 -- what is a word: it isn't empty, and no space is in it
 pub record IsWord (word : List ℕ) : Type 0 where
@@ -134,15 +135,15 @@ queries_of (q ∷ qs) = query q (queries_of qs)
 -- the word by which a query begins
 unfoldable pub form_named : List ℕ → Option QueryForm
 form_named w =
-    if bytes_eq w (codes "all") then Some All
-    else if bytes_eq w (codes "none") then Some Empty
-    else if bytes_eq w (codes "term") then Some Term
+    if bytes_eq w (codes "term") then Some Term
+    else if bytes_eq w (codes "bool") then Some Boolean
     else if bytes_eq w (codes "phrase") then Some Phrase
     else if bytes_eq w (codes "prefix") then Some PhrasePrefix
-    else if bytes_eq w (codes "bool") then Some Boolean
     else if bytes_eq w (codes "boost") then Some Boost
-    else if bytes_eq w (codes "const") then Some Const
     else if bytes_eq w (codes "max") then Some DisjunctionMax
+    else if bytes_eq w (codes "const") then Some Const
+    else if bytes_eq w (codes "all") then Some All
+    else if bytes_eq w (codes "none") then Some Empty
     else None
 
 -- the sign before a clause
@@ -315,14 +316,14 @@ behind_line_form Top words = top_at words
 unfoldable pub line_form_named : List ℕ → Option LineForm
 line_form_named w =
     if bytes_eq w (codes "doc") then Some Doc
+    else if bytes_eq w (codes "docs") then Some Docs
+    else if bytes_eq w (codes "count") then Some Count
+    else if bytes_eq w (codes "scores") then Some Scores
+    else if bytes_eq w (codes "top") then Some Top
+    else if bytes_eq w (codes "prune") then Some Prune
     else if bytes_eq w (codes "weight") then Some Weight
     else if bytes_eq w (codes "segment") then Some Segment
     else if bytes_eq w (codes "delete") then Some Delete
-    else if bytes_eq w (codes "docs") then Some Docs
-    else if bytes_eq w (codes "scores") then Some Scores
-    else if bytes_eq w (codes "count") then Some Count
-    else if bytes_eq w (codes "prune") then Some Prune
-    else if bytes_eq w (codes "top") then Some Top
     else None
 
 unfoldable pub words_request : List (List ℕ) → Option Request

@@ -1,11 +1,11 @@
 -- How requests are spelled: their words, and the line of these. The language reads each back from there.
-use Rattle.std.specs.Prelude.{◌≡◌, ◌==◌, ◌||◌, ◌<◌, ◌≤◌, ◌^◌, ℕ, suc, ℤ, pos, negsuc, max, false, List, [], ◌∷◌, ◌++◌, codes, length}
+use Rattle.std.specs.Prelude.{◌≡◌, ◌<◌, ◌≤◌, ◌^◌, ℕ, suc, ℤ, pos, negsuc, max, false, List, [], ◌∷◌, ◌++◌, codes, length}
 use Rattle.std.specs.Fmt.{decimal, signed_decimal}
 use Rattle.std.specs.List.{AllByRecursion, join_with_byte}
 use Rattle.qm_schema.specs.declared.occur.Occur.{Occur}
 use Rattle.qm_schema.specs.declared.occur.Occur.TheVariants.{Should, Must, MustNot}
 use Rattle.qm_script.specs.Script.{Clauses, Queries, Query, Request, add_document, all, boolean, boost, clause, constant, count_matches, delete_document}
-use Rattle.qm_script.specs.Script.{disjunction_max, end_segment, list_above, list_best, list_documents, list_scores, no_clause, no_query, none, nothing, phrase}
+use Rattle.qm_script.specs.Script.{disjunction_max, end_segment, is_blank, list_above, list_best, list_documents, list_scores, no_clause, no_query, none, nothing, phrase}
 use Rattle.qm_script.specs.Script.{phrase_prefix, query, set_weight, term}
 use Rattle.qm_script.specs.ProgramNumbers.{most_depth}
 
@@ -88,7 +88,7 @@ IsSpelledThreshold (negsuc n) = n < 2 ^ 63
 -- a word of a line: it isn't empty, and no space or tab is in it
 pub record IsLineWord (word : List ℕ) : Type 0 where
   pub some : 0 < length word
-  pub no_blank : AllByRecursion (λ b. ((b == 32) || (b == 9)) ≡ false) word
+  pub no_blank : AllByRecursion (λ b. is_blank b ≡ false) word
 
 abbrev pub AreLineWords : List (List ℕ) → Type 0
 AreLineWords words = AllByRecursion IsLineWord words

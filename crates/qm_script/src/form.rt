@@ -1,4 +1,6 @@
 //! The words by which a line and a query begin.
+//!
+//! A word is compared with one after another, those first that are asked for most.
 
 ghost use Rattle.std.specs.Prelude.{◌≡◌};
 ghost use Rattle.qm_script.specs.Script.{form_named, line_form_named, occur_named};
@@ -39,15 +41,15 @@ pub(crate) fn query_form(word: &str) -> Option<QueryForm>
     ensures { result ≡ form_named word.now }
 {
     match word {
-        "all" => Some(QueryForm::All),
-        "none" => Some(QueryForm::Empty),
         "term" => Some(QueryForm::Term),
+        "bool" => Some(QueryForm::Boolean),
         "phrase" => Some(QueryForm::Phrase),
         "prefix" => Some(QueryForm::PhrasePrefix),
-        "bool" => Some(QueryForm::Boolean),
         "boost" => Some(QueryForm::Boost),
-        "const" => Some(QueryForm::Const),
         "max" => Some(QueryForm::DisjunctionMax),
+        "const" => Some(QueryForm::Const),
+        "all" => Some(QueryForm::All),
+        "none" => Some(QueryForm::Empty),
         _ => None,
     }
 }
@@ -72,14 +74,14 @@ pub(crate) fn line_form(word: &str) -> Option<LineForm>
 {
     match word {
         "doc" => Some(LineForm::Doc),
+        "docs" => Some(LineForm::Docs),
+        "count" => Some(LineForm::Count),
+        "scores" => Some(LineForm::Scores),
+        "top" => Some(LineForm::Top),
+        "prune" => Some(LineForm::Prune),
         "weight" => Some(LineForm::Weight),
         "segment" => Some(LineForm::Segment),
         "delete" => Some(LineForm::Delete),
-        "docs" => Some(LineForm::Docs),
-        "scores" => Some(LineForm::Scores),
-        "count" => Some(LineForm::Count),
-        "prune" => Some(LineForm::Prune),
-        "top" => Some(LineForm::Top),
         _ => None,
     }
 }

@@ -1,8 +1,10 @@
 //! The words of a line, read one after another.
 
-ghost use Rattle.std.specs.Prelude.{IfSome, IsOkUnless, ◌≤ℤ◌, ◌≡◌, ℕ, Some, ◌^◌, ◌<◌, ◌==◌, IfOk, SomeIff, length, option_map, map, pos, string_bytes};
+ghost use Rattle.std.specs.Prelude.{IfSome, IsOkUnless, OnOk, ◌≤ℤ◌, ◌≡◌, ℕ, Some, ◌^◌, ◌<◌, ◌≤◌, ◌-◌, ◌++◌, ◌∷◌, [], ◌==◌, IfOk, SomeIff, drop, length};
+ghost use Rattle.std.specs.Prelude.{option_map, map, pos, string_bytes, take};
+ghost use Rattle.std.specs.Str.{IsCharBoundary};
 ghost use Rattle.std.specs.Str.Parse.{IsNumeral, digits_value};
-ghost use Rattle.qm_script.specs.Script.{line_words, number_below, threshold_of};
+ghost use Rattle.qm_script.specs.Script.{is_blank, line_words, non_empty, number_below, threshold_of};
 
 use crate::form::occur_of;
 use crate::non_negative_score::NonNegativeScore;
@@ -15,17 +17,44 @@ use std::alloc::{AllocError, Global};
 pub(crate) fn cut_words<'a>(alloc: Global, line: &'a str) -> Result<Vec<&'a str>, AllocError>
     ensures { IfOk result (λ words. map (λ w. w.now) words.items ≡ line_words line.now) }
 {
+    let bytes = line.as_bytes();
     let mut words = Vec::with_capacity(alloc, 64)?;
-    // the words of the pieces before this one are there
-    for piece in line.split(' ') {
-        // the words of the piece before this one are there too
-        for word in piece.split('\t') {
-            if !word.is_empty() {
-                words.push(word)?;
-            }
+    let mut start = 0;
+    // the words that end before start are there, and from there on was no blank yet
+    for at in 0..bytes.len() {
+        if is_blank(bytes[at]) {
+            push_word(&mut words, line, start, at)?;
+            start = at + 1;
         }
     }
+    push_word(&mut words, line, start, bytes.len())?;
     Ok(words)
+}
+
+// Puts the text between two places of a line behind its words, where it isn't empty.
+#[inline]
+fn push_word<'a>(
+    words: &mut Vec<&'a str>,
+    line: &'a str,
+    start: usize,
+    end: usize,
+) -> Result<(), AllocError>
+    requires start { IsCharBoundary line.now start }
+    requires end { IsCharBoundary line.now end }
+    requires order { start ≤ end }
+    ensures { OnOk result (map (λ w. w.now) words.new.items ≡ map (λ w. w.now) words.old.items ++ non_empty (take (end - start) (drop start line.now) ∷ [])) }
+{
+    if start < end {
+        words.push(&line[start..end])?;
+    }
+    Ok(())
+}
+
+// A space or a tab.
+fn is_blank(byte: u8) -> bool
+    ensures { result ≡ is_blank byte }
+{
+    byte == b' ' || byte == b'\t'
 }
 
 /// Reads the words of a line, from the first on.

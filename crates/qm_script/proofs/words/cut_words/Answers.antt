@@ -1,27 +1,64 @@
-use Rattle.std.proofs.Common.{ap, ◌∙◌, lit<, map}
-use Rattle.std.proofs.lemmas.Iterator.Consumers.{YieldsList-end}
-use Rattle.std.proofs.lemmas.Iterator.Splits.{YieldsList-from_str_split}
-use Rattle.std.specs.List.{flat_map}
-use Rattle.std.specs.Str.Iter.{split_has_more, split_pattern, split_text}
-use Rattle.qm_script.specs.Script.{cut_at_tabs, non_empty}
-use Rattle.qm_script.proofs.WordLemmas.{pieces-more}
+-- The words so far, and those from the place on, are the words of the line.
+use Rattle.std.proofs.Common.{◌≡◌, ◌∷◌, [], ◌<◌, ◌+◌, ◌-◌, ◌++◌, false, true, arith, ap, sym, subst, ◌∙◌, drop, take, get_or, length, map, inl, inr}
+use Rattle.std.proofs.lemmas.Bool.{cases_lt}
+use Rattle.std.proofs.lemmas.Str.{IsCharBoundary-after_ascii, IsCharBoundary-start}
+use Rattle.std.specs.Str.{IsCharBoundary}
+use Rattle.qm_script.specs.Script.{is_blank, line_words, non_empty}
+use Rattle.qm_script.proofs.BlankLemmas.{blank-ascii, last-word, one-more, word-ends}
 use Rattle.qm_script.proofs.words.cut_words.Goals as goal
+use Rattle.qm_script.proofs.words.cut_words.Goals.{then-is_blank+in_ok-push_word, else-is_blank}
 
-pub loop-piece-preserved : goal.loop-piece-preserved
-loop-piece-preserved c =
-    let same = c.into_iter-word-iterator.ensures.into_iter_gives in
-    let from = c.split-word-items.ensures in
-    let cut = YieldsList-from_str_split 9 c.in-Some.piece.now (lit< tt) (ap split_text same ∙ from.text)
-    (ap split_has_more same ∙ from.has_more) (ap split_pattern same ∙ from.pattern) in
-    let all = YieldsList-end cut c.loop-word.yielded _ c.loop-word.yielded_by _ _ c.in-None-word.is c.next-in-loop-word.ensures.steps in
-    pieces-more (λ p. p.now) c.loop-piece.yielded c.in-Some.piece (map (λ w. w.now) c.loop-piece.words.items)
-    (map (λ w. w.now) c.loop-word.words.items) (map (λ w. w.now) c.loop-word.yielded) c.loop-piece.invariant c.loop-word.invariant all.0
+pub loop-at-init : goal.loop-at-init
+loop-at-init c = record {
+  order = omega arith;
+  boundary = IsCharBoundary-start c.args.line.now c.utf8.line;
+  none = λ k least below. absurd (omega arith);
+  words = ap (λ items. map (λ w. w.now) items ++ line_words c.args.line.now) c.in_ok-words.ensures.items;
+}
+
+pub loop-at-preserved : goal.loop-at-preserved
+loop-at-preserved c =
+    let line = c.args.line.now in
+    let at = c.loop-at.at in
+    let start = c.loop-at.start in
+    let same : c.as_bytes-bytes.result.now ≡ line = c.as_bytes-bytes.ensures.value in
+    let within : at < length line = omega (arith, c.loop-at-test.true, ap length same) in
+    let told : c.is_blank.result ≡ is_blank (get_or line at 0) = c.is_blank.ensures ∙ ap (λ bs. is_blank (get_or bs at 0)) same in
+    elim c.if-is_blank.branch [
+      | then-is_blank+in_ok-push_word w ↦
+          let blank : is_blank (get_or line at 0) ≡ true = sym told ∙ w.if-is_blank.true in
+          let ascii = blank-ascii (get_or line at 0) blank in
+          record {
+            order = omega (arith, w.start-is);
+            boundary = subst (λ n. IsCharBoundary line n) (sym w.start-is) (IsCharBoundary-after_ascii line at c.utf8.line within ascii);
+            none = λ k least below. absurd (omega (arith, w.start-is));
+            words = (λ i. map (λ w. w.now) (w.words-is i).items ++ line_words (drop (w.start-is i) line))
+                ∙ ap (λ l. l ++ line_words (drop (at + 1) line)) w.in_ok-push_word.ensures
+                ∙ one-more (map (λ w. w.now) c.loop-at.words.items) (non_empty (take (at - start) (drop start line) ∷ []))
+                (line_words (drop (at + 1) line)) (line_words (drop start line)) (line_words line)
+                (word-ends line start at c.loop-at.invariant.order within c.loop-at.invariant.none blank) c.loop-at.invariant.words;
+          }
+      | else-is_blank w ↦
+          let other : is_blank (get_or line at 0) ≡ false = sym told ∙ w.if-is_blank.false in
+          record {
+            order = omega (arith, w.start-is, c.loop-at.invariant.order);
+            boundary = subst (λ n. IsCharBoundary line n) (sym w.start-is) c.loop-at.invariant.boundary;
+            none = λ k least below. elim (cases_lt k at) [
+              | inl earlier ↦ c.loop-at.invariant.none k (omega (arith, w.start-is)) earlier
+              | inr here ↦ let is : at ≡ k = omega arith in subst (λ n. is_blank (get_or line n 0) ≡ false) is other
+            ];
+            words = (λ i. map (λ w. w.now) (w.words-is i).items ++ line_words (drop (w.start-is i) line)) ∙ c.loop-at.invariant.words;
+          }
+    ]
 
 pub returns : goal.returns
 returns c =
-    let same = c.into_iter-piece-iterator.ensures.into_iter_gives in
-    let from = c.split-piece-items.ensures in
-    let cut = YieldsList-from_str_split 32 c.args.line.now (lit< tt) (ap split_text same ∙ from.text)
-    (ap split_has_more same ∙ from.has_more) (ap split_pattern same ∙ from.pattern) in
-    let all = YieldsList-end cut c.loop-piece.yielded _ c.loop-piece.yielded_by _ _ c.in-None.is c.next.ensures.steps in
-    c.loop-piece.invariant ∙ ap (λ pieces. non_empty (flat_map cut_at_tabs pieces)) all.0
+    let line = c.args.line.now in
+    let start = c.loop-at.start in
+    let size = ap length c.as_bytes-bytes.ensures.value in
+    let last = last-word line start (omega (arith, c.loop-at.invariant.order, c.loop-at.auto.at-end, size))
+    (λ k least below. c.loop-at.invariant.none k least (omega (arith, c.loop-at-test.false, size))) in
+    c.in_ok-push_word-2.ensures
+    ∙ ap (λ n. map (λ w. w.now) c.loop-at.words.items ++ non_empty (take (n - start) (drop start line) ∷ [])) size
+    ∙ ap (λ l. map (λ w. w.now) c.loop-at.words.items ++ l) (sym last)
+    ∙ c.loop-at.invariant.words

@@ -1,10 +1,14 @@
-use Rattle.std.proofs.Common.{◌≡◌, ◌++◌, map}
-use Rattle.qm_script.specs.Script.{cut_at_tabs, non_empty}
-use Rattle.std.specs.List.{flat_map}
+-- The words before the place, and those from there on, are the words of the line; behind it there was no blank yet.
+use Rattle.std.proofs.Common.{◌≡◌, ◌≤◌, ◌++◌, drop, map}
+use Rattle.std.specs.Str.{IsCharBoundary}
+use Rattle.qm_script.specs.Script.{line_words}
+use Rattle.qm_script.proofs.BlankLemmas.{HasNoBlank}
 use Rattle.qm_script.proofs.words.cut_words.Given as goal
 
-abbrev pub invariant-loop-piece : goal.invariant-loop-piece
-invariant-loop-piece l = map (λ w. w.now) l.words.items ≡ non_empty (flat_map cut_at_tabs (map (λ p. p.now) l.yielded))
-
-abbrev pub invariant-loop-word : goal.invariant-loop-word
-invariant-loop-word l = map (λ w. w.now) l.words.items ≡ map (λ w. w.now) l.initial.words.items ++ non_empty (map (λ w. w.now) l.yielded)
+abbrev pub invariant-loop-at : goal.invariant-loop-at
+invariant-loop-at l = record {
+  order : l.start ≤ l.at;
+  boundary : IsCharBoundary l.line l.start;
+  none : HasNoBlank l.line l.start l.at;
+  words : map (λ w. w.now) l.words.items ++ line_words (drop l.start l.line) ≡ line_words l.line;
+}

@@ -1,7 +1,9 @@
 use Rattle.std.proofs.Common.{◌++◌, ap, refl, ◌∙◌, drop, map, string_bytes, get_or, arith, Bor, List, ℕ, [], lit<, ◌+◌}
 use Rattle.qm_script.specs.Cursor.{words_left}
 use Rattle.qm_postings.specs.Document.{words_of}
-use Rattle.qm_script.proofs.WordLemmas.{spaced, spaced-done, spaced-more, spaced-words}
+use Rattle.birchagain.specs.Adding.{spaced}
+use Rattle.birchagain.proofs.Spaces.{spaced-more}
+use Rattle.qm_script.proofs.WordLemmas.{spaced-done, spaced-words}
 use Rattle.qm_script.proofs.words.Words.rest.Goals as goal
 
 pub loop-at-preserved : goal.loop-at-preserved

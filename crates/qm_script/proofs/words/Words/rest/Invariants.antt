@@ -1,6 +1,6 @@
 use Rattle.std.proofs.Common.{◌≡◌, ◌++◌, drop, map, string_bytes}
 use Rattle.qm_script.specs.Cursor.{words_left}
-use Rattle.qm_script.proofs.WordLemmas.{spaced}
+use Rattle.birchagain.specs.Adding.{spaced}
 use Rattle.qm_script.proofs.words.Words.rest.Given as goal
 
 abbrev pub invariant-loop-at : goal.invariant-loop-at
