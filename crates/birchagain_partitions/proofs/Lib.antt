@@ -1,2 +1,1 @@
-mod RankedSteps
 mod MergeSteps

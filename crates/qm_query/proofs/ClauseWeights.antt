@@ -81,11 +81,6 @@ pub are_clauses_served-step : (fields : List FieldFacts) (cs : List (Occur × Bo
     is_served fields (query_of c.1.value) ≡ true → list_all (is_clause_served fields) (take (i + 1) cs) ≡ true
 are_clauses_served-step fields cs i c is within so_far here = all_step (is_clause_served fields) cs i c is within so_far here
 
-pub are_disjuncts_served-step : (fields : List FieldFacts) (qs : List (Box AnyQuery Global)) (i : ℕ) (q : Box AnyQuery Global)
-    → q ≡ get_or qs i q → i < length qs → list_all (is_disjunct_served fields) (take i qs) ≡ true →
-    is_served fields (query_of q.value) ≡ true → list_all (is_disjunct_served fields) (take (i + 1) qs) ≡ true
-are_disjuncts_served-step fields qs i q is within so_far here = all_step (is_disjunct_served fields) qs i q is within so_far here
-
 pub are_clauses_served-whole : (fields : List FieldFacts) (cs : List (Occur × Box AnyQuery Global)) (i : ℕ) → length cs ≤ i →
     list_all (is_clause_served fields) (take i cs) ≡ true → are_clauses_served fields (subqueries_of cs) ≡ true
 are_clauses_served-whole fields cs i whole served = are_clauses_served-list fields cs
@@ -157,12 +152,6 @@ module _ {P : Type 0} (S : Ghosts P) (under : EnableScoring P) where
       → after ≡ xs ++ x ∷ [] → c ≡ get_or cs i c → i < length cs → map clause_of xs ≡ map query_clause (take i cs) →
       clause_of x ≡ query_clause c → map clause_of after ≡ map query_clause (take (i + 1) cs)
   clause_trees-step clause_of xs after x cs i c pushed is within so_far same = step clause_of query_clause xs after x cs i c pushed is within so_far same
-
-  pub disjunct_trees-step : {X : Type 0} (clause_of : X → Occur × Tree) (xs after : List X) (x : X)
-      (qs : List (Box AnyQuery Global)) (i : ℕ) (q : Box AnyQuery Global)
-      → after ≡ xs ++ x ∷ [] → q ≡ get_or qs i q → i < length qs → map clause_of xs ≡ map disjunct_clause (take i qs) →
-      clause_of x ≡ disjunct_clause q → map clause_of after ≡ map disjunct_clause (take (i + 1) qs)
-  disjunct_trees-step clause_of xs after x qs i q pushed is within so_far same = step clause_of disjunct_clause xs after x qs i q pushed is within so_far same
 
   pub clause_trees-whole : {X : Type 0} (occur : X → Occur) (tree : X → Tree) (xs : List X) (cs : List (Occur × Box AnyQuery Global)) (i : ℕ) →
       length cs ≤ i → map (λ x. (occur x, tree x)) xs ≡ map query_clause (take i cs) → clauses_by occur tree xs ≡ clause_trees S under (subqueries_of cs)

@@ -55,11 +55,3 @@ last_expansions-some segments most (x ∷ []) w e = let same : x ≡ w = cc in a
 last_expansions-some segments most (x ∷ y ∷ words) w e =
     let place : suc (length (y ∷ words) - 1) ≡ length (x ∷ y ∷ words) - 1 = omega arith in
     last_expansions-some segments most (y ∷ words) w (ap (slice_get (x ∷ y ∷ words)) place ∙ e)
-
-pub last_expansions-none : (segments : List Segment) (most : ℕ) (words : List (String Global)) →
-    slice_get words (length words - 1) ≡ None → last_expansions segments most (texts words) ≡ []
-last_expansions-none segments most [] e = refl
-last_expansions-none segments most (x ∷ words) e =
-    let last : length (x ∷ words) - 1 < length (x ∷ words) = omega arith in
-    let here = slice_get-get_or (x ∷ words) (length (x ∷ words) - 1) x last in
-    cc

@@ -12,9 +12,6 @@ use Rattle.qm_script.specs.Script.{number_below, threshold_of}
 own : IsNumeralModel (λ ds. all_ascii_digits ds ≡ true) (digits_value 10)
 own = numerals_by_value _ (search rules)
 
-digits-test : (word : List ℕ) → AllDigits 10 word → all_ascii_digits word ≡ true
-digits-test word h = own.from word h
-
 none_or : (b : Bool) (x : ℕ) → (b ≡ true → ⊥) → None ≡ (if b then Some x else None)
 none_or true x h = absurd (h refl)
 none_or false x h = refl

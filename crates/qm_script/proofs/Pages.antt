@@ -32,13 +32,6 @@ take-full (suc n) (x ∷ xs) ys least most = ap (λ l. x ∷ l) (take-full n xs 
 -- ---- the documents of a segment
 
 module _ (s : Segment) (first : ℕ) where
-  -- the first of them is taken where it is alive
-  pub alive-next : (es : List Entry) → head_document es < TERMINATED → is_alive s (head_document es) ≡ true →
-      alive_numbered s first es ≡ (first + head_document es) ∷ alive_numbered s first (drop 1 es)
-  alive-next [] some alive = absurd (omega arith)
-  alive-next (e ∷ es) some alive =
-      ap (λ b. map (λ d. first + d) (cond b (e.document ∷ filter (is_alive s) (documents es)) (filter (is_alive s) (documents es)))) alive
-
   pub deleted-next : (es : List Entry) → head_document es < TERMINATED → is_alive s (head_document es) ≡ false →
       alive_numbered s first es ≡ alive_numbered s first (drop 1 es)
   deleted-next [] some alive = absurd (omega arith)

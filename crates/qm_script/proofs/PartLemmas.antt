@@ -16,19 +16,6 @@ documents_of segments = flat_map (λ s. s.documents) segments
 pub count-append : (xs ys : List Segment) → document_count (xs ++ ys) ≡ document_count xs + document_count ys
 count-append xs ys = ap length (flat_map-append (λ s. s.documents) xs ys) ∙ length-append (documents_of xs) (documents_of ys)
 
-pub count-push : (readers : List Reader) (last : Reader) →
-    document_count (segments_of (readers ++ last ∷ [])) ≡ document_count (segments_of readers) + length last.segment.documents
-count-push readers last =
-    ap document_count (map-append (λ r. r.segment) readers (last ∷ [])) ∙ count-append (segments_of readers) (last.segment ∷ [])
-    ∙ ap (λ ds. document_count (segments_of readers) + length ds) (append-nil last.segment.documents)
-
--- up to one reader, and up to the next
-pub count-next_taken : (readers : List Reader) (i : ℕ) (item : Reader) → i < length readers → item ≡ get_or readers i item →
-    document_count (segments_of (take (i + 1) readers)) ≡ document_count (segments_of (take i readers)) + length item.segment.documents
-count-next_taken readers i item within is =
-    ap (λ rs. document_count (segments_of rs)) (take_more readers i item within ∙ ap (λ r. take i readers ++ r ∷ []) (sym is))
-    ∙ count-push (take i readers) item
-
 -- up to one reader, and from it on
 pub count-split : (readers : List Reader) (i : ℕ) →
     document_count (segments_of readers) ≡ document_count (segments_of (take i readers)) + document_count (segments_of (drop i readers))

@@ -75,10 +75,6 @@ held-at p (x ∷ ds) (suc d) e none passes =
       | inr other ↦ ap (λ b. b || list_any p ds) other ∙ rest
     ]
 
-both_are : (b h : Bool) → (h ≡ true → b ≡ true) → (h && b) ≡ h
-both_are b true all = all refl
-both_are b false all = refl
-
 three : (h b k : Bool) → (h ≡ true → k ≡ true) → (h && (b && k)) ≡ (b && h)
 three true true k all = all refl
 three true false k all = refl

@@ -22,9 +22,6 @@ with_front-push : {X : Type 0} (front : List X) (x : X) (r : Option (List X × L
 with_front-push front x None = refl
 with_front-push front x (Some xs) = ap (λ l. Some (l, xs.1)) (sym (append_assoc front (x ∷ []) xs.0))
 
-pub many-begun : {X : Type 0} (one : WordsReader X) (count : ℕ) (words : List (List ℕ)) → with_front [] (many_at one (count - 0) words) ≡ many_at one count words
-many-begun one count words = let same : count - 0 ≡ count = omega arith in with_front-none (many_at one (count - 0) words) ∙ ap (λ n. many_at one n words) same
-
 unfolded : {X : Type 0} (one : WordsReader X) (count : ℕ) (words : List (List ℕ)) →
     many_at one (suc count) words ≡ (one words >>= λ x. many_at one count x.1 >>= λ xs. Some (x.0 ∷ xs.0, xs.1))
 unfolding many_at

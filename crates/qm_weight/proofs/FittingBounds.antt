@@ -40,9 +40,6 @@ pub bound-boost : (k : ℕ) (inside : Tree) (b : ℕ) (r : Option ℕ) → b * k
 bound-boost k inside b None product unfit = λ fits. unfit fits.1
 bound-boost k inside b (Some n) product is = ((record { bound_fits = fits-bound inside (b * k) is.0; product_fits = product }, is.0), is.1)
 
-pub fits-constant : (s : ℕ) (inside : Tree) (b : ℕ) → b ≤ greatest_score → b * s ≤ greatest_score → Fits inside b → Fits (constant s inside) b
-fits-constant s inside b small score fits = (record { bound_fits = omega (arith, score); product_fits = small }, fits)
-
 -- ---- Booleans
 
 -- the clauses so far fit at a boost, and those of them that may match have this bound together, which is a score
@@ -116,12 +113,6 @@ module _ {X : Type 0} (occur : X → Occur) (tree : X → Tree) where
         bounds-take (i + 1) xs b,
         fits.0.bound_fits,
       ))
-
--- all clauses fit, and their bounds together
-pub fits-boolean : (scoring : Bool) (minimum : ℕ) (combiner : Combiner) (clauses : Clauses) (b sum : ℕ) →
-    b ≤ greatest_score → AreBound clauses b sum → Fits (boolean scoring minimum combiner clauses) b
-fits-boolean scoring minimum combiner clauses b sum small far =
-    (record { bound_fits = omega (arith, far.is, far.small); product_fits = small }, far.fit)
 
 -- ---- leaves
 
