@@ -1,5 +1,5 @@
 -- The arm of a leaf's call that no leaf comes to.
-use Rattle.std.proofs.Common.{◌≡◌, sym, ◌∙◌}
+use Rattle.std.proofs.Common.{◌≡◌, ap, sym, ◌∙◌}
 use Rattle.std.specs.declared.boxed.Box.{Box}
 use Rattle.qm_docset.specs.declared.bitset_docset.BitSetDocSet.{BitSetDocSet}
 use Rattle.qm_postings.specs.declared.segment_postings.SegmentPostings.{SegmentPostings}
@@ -36,3 +36,7 @@ module _ {S : Type 0} where
     among (layer.Union node) is = leaf.union node (is ∙ v.rolls-Union node)
     among (layer.Disjunction node) is = leaf.disjunction node (is ∙ v.rolls-Disjunction node)
     among (layer.Intersection node) is = leaf.intersection node (is ∙ v.rolls-Intersection node)
+
+-- a box whose scorer was lent out, with that scorer
+pub boxed : {L A : Type 0} {lent : Box L A} {scorer : L} (leaf : Box L A) → scorer ≡ lent.value → lent ≡ leaf → record leaf { value = scorer } ≡ leaf
+boxed leaf is same = λ i. record leaf { value = (is ∙ ap (λ (b : Box _ _). b.value) same) i }

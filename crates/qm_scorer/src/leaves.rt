@@ -48,10 +48,10 @@ pub(crate) fn seek_leaf<'a, S: Scorer>(scorer: &mut AnyScorer<'a, S>, target: Do
         AnyScorer::Empty(leaf) => leaf.seek(target),
         AnyScorer::All(leaf) => leaf.seek(target),
         AnyScorer::Own(leaf) => leaf.seek(target),
-        AnyScorer::Term(leaf) => leaf.seek(target),
-        AnyScorer::BitSet(leaf) => leaf.seek(target),
-        AnyScorer::Phrase(leaf) => leaf.seek(target),
-        AnyScorer::PhrasePrefix(leaf) => leaf.seek(target),
+        AnyScorer::Term(leaf) => (**leaf).seek(target),
+        AnyScorer::BitSet(leaf) => (**leaf).seek(target),
+        AnyScorer::Phrase(leaf) => (**leaf).seek(target),
+        AnyScorer::PhrasePrefix(leaf) => (**leaf).seek(target),
         _ => unreachable!(),
     }
 }
@@ -72,10 +72,10 @@ pub(crate) fn danger_leaf<'a, S: Scorer>(
         AnyScorer::Empty(leaf) => leaf.seek_danger(target),
         AnyScorer::All(leaf) => leaf.seek_danger(target),
         AnyScorer::Own(leaf) => leaf.seek_danger(target),
-        AnyScorer::Term(leaf) => leaf.seek_danger(target),
-        AnyScorer::BitSet(leaf) => leaf.seek_danger(target),
-        AnyScorer::Phrase(leaf) => leaf.seek_danger(target),
-        AnyScorer::PhrasePrefix(leaf) => leaf.seek_danger(target),
+        AnyScorer::Term(leaf) => (**leaf).seek_danger(target),
+        AnyScorer::BitSet(leaf) => (**leaf).seek_danger(target),
+        AnyScorer::Phrase(leaf) => (**leaf).seek_danger(target),
+        AnyScorer::PhrasePrefix(leaf) => (**leaf).seek_danger(target),
         _ => unreachable!(),
     }
 }
@@ -94,10 +94,10 @@ pub(crate) fn score_leaf<'a, S: Scorer>(scorer: &mut AnyScorer<'a, S>) -> u64
         AnyScorer::Empty(leaf) => leaf.score() as u64,
         AnyScorer::All(leaf) => leaf.score() as u64,
         AnyScorer::Own(leaf) => leaf.score() as u64,
-        AnyScorer::Term(leaf) => leaf.score() as u64,
-        AnyScorer::BitSet(leaf) => leaf.score() as u64,
-        AnyScorer::Phrase(leaf) => leaf.score() as u64,
-        AnyScorer::PhrasePrefix(leaf) => leaf.score() as u64,
+        AnyScorer::Term(leaf) => (**leaf).score() as u64,
+        AnyScorer::BitSet(leaf) => (**leaf).score() as u64,
+        AnyScorer::Phrase(leaf) => (**leaf).score() as u64,
+        AnyScorer::PhrasePrefix(leaf) => (**leaf).score() as u64,
         _ => unreachable!(),
     }
 }
@@ -123,10 +123,10 @@ pub(crate) fn take_leaf<'a, S: Scorer>(
         AnyScorer::Empty(leaf) => window.take_in(leaf, bound),
         AnyScorer::All(leaf) => window.take_in(leaf, bound),
         AnyScorer::Own(leaf) => window.take_in(leaf, bound),
-        AnyScorer::Term(leaf) => window.take_in(leaf, bound),
-        AnyScorer::BitSet(leaf) => window.take_in(leaf, bound),
-        AnyScorer::Phrase(leaf) => window.take_in(leaf, bound),
-        AnyScorer::PhrasePrefix(leaf) => window.take_in(leaf, bound),
+        AnyScorer::Term(leaf) => window.take_in(&mut **leaf, bound),
+        AnyScorer::BitSet(leaf) => window.take_in(&mut **leaf, bound),
+        AnyScorer::Phrase(leaf) => window.take_in(&mut **leaf, bound),
+        AnyScorer::PhrasePrefix(leaf) => window.take_in(&mut **leaf, bound),
         _ => unreachable!(),
     }
 }
@@ -144,10 +144,10 @@ pub(crate) fn advance_leaf<'a, S: Scorer>(scorer: &mut AnyScorer<'a, S>) -> DocI
         AnyScorer::Empty(leaf) => leaf.advance(),
         AnyScorer::All(leaf) => leaf.advance(),
         AnyScorer::Own(leaf) => leaf.advance(),
-        AnyScorer::Term(leaf) => leaf.advance(),
-        AnyScorer::BitSet(leaf) => leaf.advance(),
-        AnyScorer::Phrase(leaf) => leaf.advance(),
-        AnyScorer::PhrasePrefix(leaf) => leaf.advance(),
+        AnyScorer::Term(leaf) => (**leaf).advance(),
+        AnyScorer::BitSet(leaf) => (**leaf).advance(),
+        AnyScorer::Phrase(leaf) => (**leaf).advance(),
+        AnyScorer::PhrasePrefix(leaf) => (**leaf).advance(),
         _ => unreachable!(),
     }
 }
@@ -168,10 +168,10 @@ pub(crate) fn fill_leaf<'a, S: Scorer>(
         AnyScorer::Empty(leaf) => leaf.fill_buffer(buffer),
         AnyScorer::All(leaf) => leaf.fill_buffer(buffer),
         AnyScorer::Own(leaf) => leaf.fill_buffer(buffer),
-        AnyScorer::Term(leaf) => leaf.fill_buffer(buffer),
-        AnyScorer::BitSet(leaf) => leaf.fill_buffer(buffer),
-        AnyScorer::Phrase(leaf) => leaf.fill_buffer(buffer),
-        AnyScorer::PhrasePrefix(leaf) => leaf.fill_buffer(buffer),
+        AnyScorer::Term(leaf) => (**leaf).fill_buffer(buffer),
+        AnyScorer::BitSet(leaf) => (**leaf).fill_buffer(buffer),
+        AnyScorer::Phrase(leaf) => (**leaf).fill_buffer(buffer),
+        AnyScorer::PhrasePrefix(leaf) => (**leaf).fill_buffer(buffer),
         _ => unreachable!(),
     }
 }
@@ -188,10 +188,10 @@ pub(crate) fn count_leaf<'a, S: Scorer>(scorer: &mut AnyScorer<'a, S>, alive: &A
         AnyScorer::Empty(leaf) => leaf.count(alive),
         AnyScorer::All(leaf) => leaf.count(alive),
         AnyScorer::Own(leaf) => leaf.count(alive),
-        AnyScorer::Term(leaf) => leaf.count(alive),
-        AnyScorer::BitSet(leaf) => leaf.count(alive),
-        AnyScorer::Phrase(leaf) => leaf.count(alive),
-        AnyScorer::PhrasePrefix(leaf) => leaf.count(alive),
+        AnyScorer::Term(leaf) => (**leaf).count(alive),
+        AnyScorer::BitSet(leaf) => (**leaf).count(alive),
+        AnyScorer::Phrase(leaf) => (**leaf).count(alive),
+        AnyScorer::PhrasePrefix(leaf) => (**leaf).count(alive),
         _ => unreachable!(),
     }
 }
@@ -208,10 +208,10 @@ pub(crate) fn total_leaf<'a, S: Scorer>(scorer: &mut AnyScorer<'a, S>) -> u32
         AnyScorer::Empty(leaf) => leaf.count_including_deleted(),
         AnyScorer::All(leaf) => leaf.count_including_deleted(),
         AnyScorer::Own(leaf) => leaf.count_including_deleted(),
-        AnyScorer::Term(leaf) => leaf.count_including_deleted(),
-        AnyScorer::BitSet(leaf) => leaf.count_including_deleted(),
-        AnyScorer::Phrase(leaf) => leaf.count_including_deleted(),
-        AnyScorer::PhrasePrefix(leaf) => leaf.count_including_deleted(),
+        AnyScorer::Term(leaf) => (**leaf).count_including_deleted(),
+        AnyScorer::BitSet(leaf) => (**leaf).count_including_deleted(),
+        AnyScorer::Phrase(leaf) => (**leaf).count_including_deleted(),
+        AnyScorer::PhrasePrefix(leaf) => (**leaf).count_including_deleted(),
         _ => unreachable!(),
     }
 }

@@ -9,7 +9,7 @@ use Rattle.qm_term.specs.TermScorer.{scored_left}
 use Rattle.qm_scorer.specs.BareFacts.{bare-nil}
 use Rattle.qm_scorer.specs.Tree.{postings_cursors, set_cursors}
 use Rattle.qm_scorer.specs.declared.any_scorer.AnyScorer.TheVariants.{All, BitSet, Empty, Own, Phrase, PhrasePrefix, Term}
-use Rattle.qm_scorer.proofs.LeafArms.{no-other}
+use Rattle.qm_scorer.proofs.LeafArms.{boxed, no-other}
 use Rattle.qm_scorer.proofs.StepArms.{stepped-leaf}
 use Rattle.qm_scorer.proofs.leaves.advance_leaf.Goals as goal
 
@@ -38,15 +38,15 @@ pub returns-in-Term : goal.returns-in-Term
 returns-in-Term g c =
     let leaf = c.in-Term.leaf in
     let stepped = c.advance-in-Term in
-    stepped-leaf g.S.DocSet Term (λ s. scored_left s.value) (λ _. refl) leaf stepped.new.self c.in-Term.leaf-is c.in-Term.is stepped.ensures.head
-    stepped.ensures.entries (ap (λ (l : Limits). l.top) stepped.ensures.limits) stepped.ensures.valid stepped.ensures.placed (search rules)
+    stepped-leaf g.S.DocSet Term (λ s. scored_left s.value) (λ _. refl) leaf (record leaf { value = stepped.new.self }) (boxed leaf c.deref_mut.ensures.value c.in-Term.leaf-is) c.in-Term.is stepped.ensures.head
+    stepped.ensures.entries (ap (λ (l : Limits). l.top) stepped.ensures.limits) stepped.ensures.valid tt (search rules)
 
 pub returns-in-BitSet : goal.returns-in-BitSet
 returns-in-BitSet g c =
     let leaf = c.in-BitSet.leaf in
     let stepped = c.advance-in-BitSet in
     stepped-leaf g.S.DocSet BitSet (λ s. constant_left set_cursors s.value)
-    (λ _. refl) leaf stepped.new.self c.in-BitSet.leaf-is c.in-BitSet.is stepped.ensures.head stepped.ensures.entries
+    (λ _. refl) leaf (record leaf { value = stepped.new.self }) (boxed leaf c.deref_mut-in-BitSet.ensures.value c.in-BitSet.leaf-is) c.in-BitSet.is stepped.ensures.head stepped.ensures.entries
     (ap (λ (l : Limits). l.top) stepped.ensures.limits) stepped.ensures.valid stepped.ensures.placed (search rules)
 
 pub returns-in-Phrase : goal.returns-in-Phrase
@@ -54,7 +54,7 @@ returns-in-Phrase g c =
     let leaf = c.in-Phrase.leaf in
     let stepped = c.advance-in-Phrase in
     stepped-leaf g.S.DocSet Phrase (λ s. phrase_left postings_cursors s.value)
-    (λ _. refl) leaf stepped.new.self c.in-Phrase.leaf-is c.in-Phrase.is stepped.ensures.head stepped.ensures.entries
+    (λ _. refl) leaf (record leaf { value = stepped.new.self }) (boxed leaf c.deref_mut-in-Phrase.ensures.value c.in-Phrase.leaf-is) c.in-Phrase.is stepped.ensures.head stepped.ensures.entries
     (ap (λ (l : Limits). l.top) stepped.ensures.limits) stepped.ensures.valid stepped.ensures.placed (search rules)
 
 pub returns-in-PhrasePrefix : goal.returns-in-PhrasePrefix
@@ -62,7 +62,7 @@ returns-in-PhrasePrefix g c =
     let leaf = c.in-PhrasePrefix.leaf in
     let stepped = c.advance-in-PhrasePrefix in
     stepped-leaf g.S.DocSet PhrasePrefix (λ s. phrase_prefix_left postings_cursors s.value)
-    (λ _. refl) leaf stepped.new.self c.in-PhrasePrefix.leaf-is c.in-PhrasePrefix.is stepped.ensures.head stepped.ensures.entries
+    (λ _. refl) leaf (record leaf { value = stepped.new.self }) (boxed leaf c.deref_mut-in-PhrasePrefix.ensures.value c.in-PhrasePrefix.leaf-is) c.in-PhrasePrefix.is stepped.ensures.head stepped.ensures.entries
     (ap (λ (l : Limits). l.top) stepped.ensures.limits) stepped.ensures.valid stepped.ensures.placed (search rules)
 
 pub unreachable-requires : goal.unreachable-requires

@@ -11,7 +11,7 @@ use Rattle.qm_scorer.specs.BareFacts.{bare-nil, length-alive_bare}
 use Rattle.qm_scorer.specs.Tree.{postings_cursors, set_cursors}
 use Rattle.qm_scorer.specs.declared.any_scorer.AnyScorer.TheVariants.{All, BitSet, Empty, Own, Phrase, PhrasePrefix, Term}
 use Rattle.qm_scorer.proofs.HandedOn.{leaf-asked, leaf-ended}
-use Rattle.qm_scorer.proofs.LeafArms.{no-other}
+use Rattle.qm_scorer.proofs.LeafArms.{boxed, no-other}
 use Rattle.qm_scorer.proofs.leaves.count_leaf.Goals as goal
 
 pub count-requires : goal.count-requires
@@ -24,16 +24,16 @@ pub count-requires-in-Own : goal.count-requires-in-Own
 count-requires-in-Own g c = leaf-asked g.S.DocSet Own c.in-Own.leaf-is c.in-Own.is c.requires.valid c.requires.placed
 
 pub count-requires-in-Term : goal.count-requires-in-Term
-count-requires-in-Term g c = leaf-asked g.S.DocSet Term c.in-Term.leaf-is c.in-Term.is c.requires.valid c.requires.placed
+count-requires-in-Term g c = leaf-asked g.S.DocSet Term (boxed c.in-Term.leaf c.deref_mut.ensures.value c.in-Term.leaf-is) c.in-Term.is c.requires.valid c.requires.placed
 
 pub count-requires-in-BitSet : goal.count-requires-in-BitSet
-count-requires-in-BitSet g c = leaf-asked g.S.DocSet BitSet c.in-BitSet.leaf-is c.in-BitSet.is c.requires.valid c.requires.placed
+count-requires-in-BitSet g c = leaf-asked g.S.DocSet BitSet (boxed c.in-BitSet.leaf c.deref_mut-in-BitSet.ensures.value c.in-BitSet.leaf-is) c.in-BitSet.is c.requires.valid c.requires.placed
 
 pub count-requires-in-Phrase : goal.count-requires-in-Phrase
-count-requires-in-Phrase g c = leaf-asked g.S.DocSet Phrase c.in-Phrase.leaf-is c.in-Phrase.is c.requires.valid c.requires.placed
+count-requires-in-Phrase g c = leaf-asked g.S.DocSet Phrase (boxed c.in-Phrase.leaf c.deref_mut-in-Phrase.ensures.value c.in-Phrase.leaf-is) c.in-Phrase.is c.requires.valid c.requires.placed
 
 pub count-requires-in-PhrasePrefix : goal.count-requires-in-PhrasePrefix
-count-requires-in-PhrasePrefix g c = leaf-asked g.S.DocSet PhrasePrefix c.in-PhrasePrefix.leaf-is c.in-PhrasePrefix.is c.requires.valid c.requires.placed
+count-requires-in-PhrasePrefix g c = leaf-asked g.S.DocSet PhrasePrefix (boxed c.in-PhrasePrefix.leaf c.deref_mut-in-PhrasePrefix.ensures.value c.in-PhrasePrefix.leaf-is) c.in-PhrasePrefix.is c.requires.valid c.requires.placed
 
 pub returns-in-Empty : goal.returns-in-Empty
 returns-in-Empty g c =
@@ -65,9 +65,9 @@ returns-in-Term g c =
     let D = g.S.DocSet in
     let leaf = c.in-Term.leaf in
     let counted = c.count-in-Term in
-    leaf-ended D Term (λ s. scored_left s.value) (λ _. refl) (λ es. length (alive_entries c.args.alive.now es)) leaf counted.new.self
-    c.in-Term.leaf-is c.in-Term.is (counted.ensures.count ∙ sym (length-alive_bare _ _)) counted.ensures.entries
-    (ap (λ (l : Limits). l.top) counted.ensures.limits) counted.ensures.valid counted.ensures.placed (search rules)
+    leaf-ended D Term (λ s. scored_left s.value) (λ _. refl) (λ es. length (alive_entries c.args.alive.now es)) leaf (record leaf { value = counted.new.self })
+    (boxed leaf c.deref_mut.ensures.value c.in-Term.leaf-is) c.in-Term.is (counted.ensures.count ∙ sym (length-alive_bare _ _)) counted.ensures.entries
+    (ap (λ (l : Limits). l.top) counted.ensures.limits) counted.ensures.valid tt (search rules)
 
 pub returns-in-BitSet : goal.returns-in-BitSet
 returns-in-BitSet g c =
@@ -75,7 +75,7 @@ returns-in-BitSet g c =
     let leaf = c.in-BitSet.leaf in
     let counted = c.count-in-BitSet in
     leaf-ended D BitSet (λ s. constant_left set_cursors s.value) (λ _. refl) (λ es. length (alive_entries c.args.alive.now es)) leaf
-    counted.new.self c.in-BitSet.leaf-is c.in-BitSet.is (counted.ensures.count ∙ sym (length-alive_bare _ _)) counted.ensures.entries
+    (record leaf { value = counted.new.self }) (boxed leaf c.deref_mut-in-BitSet.ensures.value c.in-BitSet.leaf-is) c.in-BitSet.is (counted.ensures.count ∙ sym (length-alive_bare _ _)) counted.ensures.entries
     (ap (λ (l : Limits). l.top) counted.ensures.limits) counted.ensures.valid counted.ensures.placed (search rules)
 
 pub returns-in-Phrase : goal.returns-in-Phrase
@@ -84,7 +84,7 @@ returns-in-Phrase g c =
     let leaf = c.in-Phrase.leaf in
     let counted = c.count-in-Phrase in
     leaf-ended D Phrase (λ s. phrase_left postings_cursors s.value) (λ _. refl) (λ es. length (alive_entries c.args.alive.now es)) leaf
-    counted.new.self c.in-Phrase.leaf-is c.in-Phrase.is (counted.ensures.count ∙ sym (length-alive_bare _ _)) counted.ensures.entries
+    (record leaf { value = counted.new.self }) (boxed leaf c.deref_mut-in-Phrase.ensures.value c.in-Phrase.leaf-is) c.in-Phrase.is (counted.ensures.count ∙ sym (length-alive_bare _ _)) counted.ensures.entries
     (ap (λ (l : Limits). l.top) counted.ensures.limits) counted.ensures.valid counted.ensures.placed (search rules)
 
 pub returns-in-PhrasePrefix : goal.returns-in-PhrasePrefix
@@ -93,7 +93,7 @@ returns-in-PhrasePrefix g c =
     let leaf = c.in-PhrasePrefix.leaf in
     let counted = c.count-in-PhrasePrefix in
     leaf-ended D PhrasePrefix (λ s. phrase_prefix_left postings_cursors s.value) (λ _. refl) (λ es. length (alive_entries c.args.alive.now es)) leaf
-    counted.new.self c.in-PhrasePrefix.leaf-is c.in-PhrasePrefix.is (counted.ensures.count ∙ sym (length-alive_bare _ _)) counted.ensures.entries
+    (record leaf { value = counted.new.self }) (boxed leaf c.deref_mut-in-PhrasePrefix.ensures.value c.in-PhrasePrefix.leaf-is) c.in-PhrasePrefix.is (counted.ensures.count ∙ sym (length-alive_bare _ _)) counted.ensures.entries
     (ap (λ (l : Limits). l.top) counted.ensures.limits) counted.ensures.valid counted.ensures.placed (search rules)
 
 pub unreachable-requires : goal.unreachable-requires

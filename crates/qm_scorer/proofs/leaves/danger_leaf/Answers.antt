@@ -11,7 +11,8 @@ use Rattle.qm_scorer.specs.Tree.{postings_cursors, set_cursors}
 use Rattle.qm_scorer.specs.declared.any_scorer.AnyScorer.TheVariants.{All as Every, BitSet, Empty, Own, Phrase, PhrasePrefix, Term}
 use Rattle.qm_scorer.proofs.Depth.{same-All, same-BitSet, same-Empty, same-Own, same-Phrase, same-PhrasePrefix, same-Term}
 use Rattle.qm_scorer.proofs.HandedOn.{leaf-sent}
-use Rattle.qm_scorer.proofs.LeafArms.{no-other}
+use Rattle.qm_scorer.proofs.LeafArms.{boxed, no-other}
+use Rattle.qm_scorer.proofs.Moving.{on_found}
 use Rattle.qm_scorer.proofs.MoveArms.{answered-leaf}
 use Rattle.qm_scorer.proofs.leaves.danger_leaf.Goals as goal
 
@@ -36,27 +37,27 @@ returns-in-Own g c =
 pub returns-in-Term : goal.returns-in-Term
 returns-in-Term g c =
     answered-leaf g.S.DocSet Term (λ s. scored_left s.value) (λ _. refl) (same-Term g.row.S.Denot) c.args.target c.seek_danger-in-Term.result c.in-Term.leaf
-    c.seek_danger-in-Term.new.self c.in-Term.leaf-is c.in-Term.is c.seek_danger-in-Term.ensures.answer c.seek_danger-in-Term.ensures.entries (ap
-    (λ (l : Limits). l.top) c.seek_danger-in-Term.ensures.limits) c.seek_danger-in-Term.ensures.valid c.seek_danger-in-Term.ensures.placed (search rules)
+    (record c.in-Term.leaf { value = c.seek_danger-in-Term.new.self }) (boxed c.in-Term.leaf c.deref_mut.ensures.value c.in-Term.leaf-is) c.in-Term.is c.seek_danger-in-Term.ensures.answer c.seek_danger-in-Term.ensures.entries (ap
+    (λ (l : Limits). l.top) c.seek_danger-in-Term.ensures.limits) c.seek_danger-in-Term.ensures.valid (on_found c.seek_danger-in-Term.result (λ _. tt)) (search rules)
 
 pub returns-in-BitSet : goal.returns-in-BitSet
 returns-in-BitSet g c =
     answered-leaf g.S.DocSet BitSet (λ s. constant_left set_cursors s.value) (λ _. refl) (same-BitSet g.row.S.Denot) c.args.target
-    c.seek_danger-in-BitSet.result c.in-BitSet.leaf c.seek_danger-in-BitSet.new.self c.in-BitSet.leaf-is c.in-BitSet.is
+    c.seek_danger-in-BitSet.result c.in-BitSet.leaf (record c.in-BitSet.leaf { value = c.seek_danger-in-BitSet.new.self }) (boxed c.in-BitSet.leaf c.deref_mut-in-BitSet.ensures.value c.in-BitSet.leaf-is) c.in-BitSet.is
     c.seek_danger-in-BitSet.ensures.answer c.seek_danger-in-BitSet.ensures.entries (ap (λ (l : Limits). l.top) c.seek_danger-in-BitSet.ensures.limits)
     c.seek_danger-in-BitSet.ensures.valid c.seek_danger-in-BitSet.ensures.placed (search rules)
 
 pub returns-in-Phrase : goal.returns-in-Phrase
 returns-in-Phrase g c =
     answered-leaf g.S.DocSet Phrase (λ s. phrase_left postings_cursors s.value) (λ _. refl) (same-Phrase g.row.S.Denot) c.args.target
-    c.seek_danger-in-Phrase.result c.in-Phrase.leaf c.seek_danger-in-Phrase.new.self c.in-Phrase.leaf-is c.in-Phrase.is
+    c.seek_danger-in-Phrase.result c.in-Phrase.leaf (record c.in-Phrase.leaf { value = c.seek_danger-in-Phrase.new.self }) (boxed c.in-Phrase.leaf c.deref_mut-in-Phrase.ensures.value c.in-Phrase.leaf-is) c.in-Phrase.is
     c.seek_danger-in-Phrase.ensures.answer c.seek_danger-in-Phrase.ensures.entries (ap (λ (l : Limits). l.top) c.seek_danger-in-Phrase.ensures.limits)
     c.seek_danger-in-Phrase.ensures.valid c.seek_danger-in-Phrase.ensures.placed (search rules)
 
 pub returns-in-PhrasePrefix : goal.returns-in-PhrasePrefix
 returns-in-PhrasePrefix g c =
     answered-leaf g.S.DocSet PhrasePrefix (λ s. phrase_prefix_left postings_cursors s.value) (λ _. refl) (same-PhrasePrefix g.row.S.Denot)
-    c.args.target c.seek_danger-in-PhrasePrefix.result c.in-PhrasePrefix.leaf c.seek_danger-in-PhrasePrefix.new.self c.in-PhrasePrefix.leaf-is
+    c.args.target c.seek_danger-in-PhrasePrefix.result c.in-PhrasePrefix.leaf (record c.in-PhrasePrefix.leaf { value = c.seek_danger-in-PhrasePrefix.new.self }) (boxed c.in-PhrasePrefix.leaf c.deref_mut-in-PhrasePrefix.ensures.value c.in-PhrasePrefix.leaf-is)
     c.in-PhrasePrefix.is c.seek_danger-in-PhrasePrefix.ensures.answer c.seek_danger-in-PhrasePrefix.ensures.entries (ap (λ (l : Limits). l.top)
     c.seek_danger-in-PhrasePrefix.ensures.limits) c.seek_danger-in-PhrasePrefix.ensures.valid c.seek_danger-in-PhrasePrefix.ensures.placed (search rules)
 
@@ -74,19 +75,19 @@ seek_danger-requires-in-Own g c =
 
 pub seek_danger-requires-in-Term : goal.seek_danger-requires-in-Term
 seek_danger-requires-in-Term g c =
-    leaf-sent g.S.DocSet Term c.in-Term.leaf-is c.in-Term.is c.requires.valid c.requires.target
+    leaf-sent g.S.DocSet Term (boxed c.in-Term.leaf c.deref_mut.ensures.value c.in-Term.leaf-is) c.in-Term.is c.requires.valid c.requires.target
 
 pub seek_danger-requires-in-BitSet : goal.seek_danger-requires-in-BitSet
 seek_danger-requires-in-BitSet g c =
-    leaf-sent g.S.DocSet BitSet c.in-BitSet.leaf-is c.in-BitSet.is c.requires.valid c.requires.target
+    leaf-sent g.S.DocSet BitSet (boxed c.in-BitSet.leaf c.deref_mut-in-BitSet.ensures.value c.in-BitSet.leaf-is) c.in-BitSet.is c.requires.valid c.requires.target
 
 pub seek_danger-requires-in-Phrase : goal.seek_danger-requires-in-Phrase
 seek_danger-requires-in-Phrase g c =
-    leaf-sent g.S.DocSet Phrase c.in-Phrase.leaf-is c.in-Phrase.is c.requires.valid c.requires.target
+    leaf-sent g.S.DocSet Phrase (boxed c.in-Phrase.leaf c.deref_mut-in-Phrase.ensures.value c.in-Phrase.leaf-is) c.in-Phrase.is c.requires.valid c.requires.target
 
 pub seek_danger-requires-in-PhrasePrefix : goal.seek_danger-requires-in-PhrasePrefix
 seek_danger-requires-in-PhrasePrefix g c =
-    leaf-sent g.S.DocSet PhrasePrefix c.in-PhrasePrefix.leaf-is c.in-PhrasePrefix.is c.requires.valid c.requires.target
+    leaf-sent g.S.DocSet PhrasePrefix (boxed c.in-PhrasePrefix.leaf c.deref_mut-in-PhrasePrefix.ensures.value c.in-PhrasePrefix.leaf-is) c.in-PhrasePrefix.is c.requires.valid c.requires.target
 
 pub unreachable-requires : goal.unreachable-requires
 unreachable-requires g c =

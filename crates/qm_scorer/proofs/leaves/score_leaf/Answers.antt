@@ -12,7 +12,7 @@ use Rattle.qm_scorer.specs.Tree.{postings_cursors, set_cursors}
 use Rattle.qm_scorer.specs.declared.any_scorer.AnyScorer.TheVariants.{All as Every, BitSet, Empty, Own, Phrase, PhrasePrefix, Term}
 use Rattle.qm_scorer.proofs.Depth.{same-All, same-BitSet, same-Empty, same-Own, same-Phrase, same-PhrasePrefix, same-Term}
 use Rattle.qm_scorer.proofs.HandedOn.{leaf-scored}
-use Rattle.qm_scorer.proofs.LeafArms.{no-other}
+use Rattle.qm_scorer.proofs.LeafArms.{boxed, no-other}
 use Rattle.qm_scorer.proofs.ScoreArms.{score_fits, scored-leaf}
 use Rattle.qm_scorer.proofs.leaves.score_leaf.Goals as goal
 
@@ -46,17 +46,17 @@ returns-in-Term g c =
     let leaf = c.in-Term.leaf in
     let scored = c.score-in-Term in
     let score = score_cast scored.result _ scored.ensures.score scored.type_inv in
-    scored-leaf g.S.DocSet Term (λ s. scored_left s.value) (λ _. refl) (λ _. refl) (same-Term g.row.S.Denot) leaf scored.new.self
-    c.in-Term.leaf-is c.in-Term.is c.requires.here score (score_fits _ _ scored.ensures.score scored.type_inv) scored.ensures.entries
-    (ap (λ (l : Limits). l.top) scored.ensures.limits) scored.ensures.valid scored.ensures.placed (search rules)
+    scored-leaf g.S.DocSet Term (λ s. scored_left s.value) (λ _. refl) (λ _. refl) (same-Term g.row.S.Denot) leaf (record leaf { value = scored.new.self })
+    (boxed leaf c.deref_mut.ensures.value c.in-Term.leaf-is) c.in-Term.is c.requires.here score (score_fits _ _ scored.ensures.score scored.type_inv) scored.ensures.entries
+    (ap (λ (l : Limits). l.top) scored.ensures.limits) scored.ensures.valid tt (search rules)
 
 pub returns-in-BitSet : goal.returns-in-BitSet
 returns-in-BitSet g c =
     let leaf = c.in-BitSet.leaf in
     let scored = c.score-in-BitSet in
     let score = score_cast scored.result _ scored.ensures.score scored.type_inv in
-    scored-leaf g.S.DocSet BitSet (λ s. constant_left set_cursors s.value) (λ _. refl) (λ _. refl) (same-BitSet g.row.S.Denot) leaf scored.new.self
-    c.in-BitSet.leaf-is c.in-BitSet.is c.requires.here score (score_fits _ _ scored.ensures.score scored.type_inv) scored.ensures.entries
+    scored-leaf g.S.DocSet BitSet (λ s. constant_left set_cursors s.value) (λ _. refl) (λ _. refl) (same-BitSet g.row.S.Denot) leaf (record leaf { value = scored.new.self })
+    (boxed leaf c.deref_mut-in-BitSet.ensures.value c.in-BitSet.leaf-is) c.in-BitSet.is c.requires.here score (score_fits _ _ scored.ensures.score scored.type_inv) scored.ensures.entries
     (ap (λ (l : Limits). l.top) scored.ensures.limits) scored.ensures.valid scored.ensures.placed (search rules)
 
 pub returns-in-Phrase : goal.returns-in-Phrase
@@ -64,8 +64,8 @@ returns-in-Phrase g c =
     let leaf = c.in-Phrase.leaf in
     let scored = c.score-in-Phrase in
     let score = score_cast scored.result _ scored.ensures.score scored.type_inv in
-    scored-leaf g.S.DocSet Phrase (λ s. phrase_left postings_cursors s.value) (λ _. refl) (λ _. refl) (same-Phrase g.row.S.Denot) leaf scored.new.self
-    c.in-Phrase.leaf-is c.in-Phrase.is c.requires.here score (score_fits _ _ scored.ensures.score scored.type_inv) scored.ensures.entries
+    scored-leaf g.S.DocSet Phrase (λ s. phrase_left postings_cursors s.value) (λ _. refl) (λ _. refl) (same-Phrase g.row.S.Denot) leaf (record leaf { value = scored.new.self })
+    (boxed leaf c.deref_mut-in-Phrase.ensures.value c.in-Phrase.leaf-is) c.in-Phrase.is c.requires.here score (score_fits _ _ scored.ensures.score scored.type_inv) scored.ensures.entries
     (ap (λ (l : Limits). l.top) scored.ensures.limits) scored.ensures.valid scored.ensures.placed (search rules)
 
 pub returns-in-PhrasePrefix : goal.returns-in-PhrasePrefix
@@ -74,7 +74,7 @@ returns-in-PhrasePrefix g c =
     let scored = c.score-in-PhrasePrefix in
     let score = score_cast scored.result _ scored.ensures.score scored.type_inv in
     scored-leaf g.S.DocSet PhrasePrefix (λ s. phrase_prefix_left postings_cursors s.value) (λ _. refl) (λ _. refl) (same-PhrasePrefix g.row.S.Denot)
-    leaf scored.new.self c.in-PhrasePrefix.leaf-is c.in-PhrasePrefix.is c.requires.here score (score_fits _ _ scored.ensures.score scored.type_inv)
+    leaf (record leaf { value = scored.new.self }) (boxed leaf c.deref_mut-in-PhrasePrefix.ensures.value c.in-PhrasePrefix.leaf-is) c.in-PhrasePrefix.is c.requires.here score (score_fits _ _ scored.ensures.score scored.type_inv)
     scored.ensures.entries (ap (λ (l : Limits). l.top) scored.ensures.limits) scored.ensures.valid scored.ensures.placed (search rules)
 
 pub score-requires-in-All : goal.score-requires-in-All
@@ -87,22 +87,24 @@ score-requires-in-Own g c =
 
 pub score-requires-in-Term : goal.score-requires-in-Term
 score-requires-in-Term g c =
-    leaf-scored g.S.DocSet Term (λ s. scored_left s.value) (λ _. refl) c.in-Term.leaf-is c.in-Term.is c.requires.valid c.requires.placed c.requires.here
+    let asked = leaf-scored g.S.DocSet Term (λ s. scored_left s.value) (λ _. refl)
+    (boxed c.in-Term.leaf c.deref_mut.ensures.value c.in-Term.leaf-is) c.in-Term.is c.requires.valid c.requires.placed c.requires.here in
+    record { valid = asked.valid; here = asked.here }
 
 pub score-requires-in-BitSet : goal.score-requires-in-BitSet
 score-requires-in-BitSet g c =
     leaf-scored g.S.DocSet BitSet (λ s. constant_left set_cursors s.value) (λ _. refl)
-    c.in-BitSet.leaf-is c.in-BitSet.is c.requires.valid c.requires.placed c.requires.here
+    (boxed c.in-BitSet.leaf c.deref_mut-in-BitSet.ensures.value c.in-BitSet.leaf-is) c.in-BitSet.is c.requires.valid c.requires.placed c.requires.here
 
 pub score-requires-in-Phrase : goal.score-requires-in-Phrase
 score-requires-in-Phrase g c =
     leaf-scored g.S.DocSet Phrase (λ s. phrase_left postings_cursors s.value) (λ _. refl)
-    c.in-Phrase.leaf-is c.in-Phrase.is c.requires.valid c.requires.placed c.requires.here
+    (boxed c.in-Phrase.leaf c.deref_mut-in-Phrase.ensures.value c.in-Phrase.leaf-is) c.in-Phrase.is c.requires.valid c.requires.placed c.requires.here
 
 pub score-requires-in-PhrasePrefix : goal.score-requires-in-PhrasePrefix
 score-requires-in-PhrasePrefix g c =
     leaf-scored g.S.DocSet PhrasePrefix (λ s. phrase_prefix_left postings_cursors s.value) (λ _. refl)
-    c.in-PhrasePrefix.leaf-is c.in-PhrasePrefix.is c.requires.valid c.requires.placed c.requires.here
+    (boxed c.in-PhrasePrefix.leaf c.deref_mut-in-PhrasePrefix.ensures.value c.in-PhrasePrefix.leaf-is) c.in-PhrasePrefix.is c.requires.valid c.requires.placed c.requires.here
 
 pub unreachable-requires : goal.unreachable-requires
 unreachable-requires g c =

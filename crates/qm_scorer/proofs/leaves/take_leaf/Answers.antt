@@ -10,7 +10,7 @@ use Rattle.qm_scorer.specs.BareFacts.{bare-nil}
 use Rattle.qm_scorer.specs.Tree.{postings_cursors, set_cursors}
 use Rattle.qm_scorer.specs.declared.any_scorer.AnyScorer.TheVariants.{All as Every, BitSet, Empty, Own, Phrase, PhrasePrefix, Term}
 use Rattle.qm_scorer.proofs.Depth.{same-All, same-BitSet, same-Empty, same-Own, same-Phrase, same-PhrasePrefix, same-Term}
-use Rattle.qm_scorer.proofs.LeafArms.{no-other}
+use Rattle.qm_scorer.proofs.LeafArms.{boxed, no-other}
 use Rattle.qm_scorer.proofs.MoveArms.{swept-leaf}
 use Rattle.qm_scorer.proofs.leaves.take_leaf.Goals as goal
 
@@ -42,7 +42,7 @@ returns-in-Term g c =
     let e = c.take_in-in-Term.ensures in
     swept-leaf g.S.DocSet Term (λ s. scored_left s.value) (λ _. refl)
     (same-Term g.row.S.Denot) c.args.window.now c.take_in-in-Term.new.self c.args.bound c.take_in-in-Term.result
-    c.in-Term.leaf c.take_in-in-Term.new.scorer c.in-Term.leaf-is c.in-Term.is e.head e.left.entries
+    c.in-Term.leaf (record c.in-Term.leaf { value = c.take_in-in-Term.new.scorer }) (boxed c.in-Term.leaf c.deref_mut.ensures.value c.in-Term.leaf-is) c.in-Term.is e.head e.left.entries
     (ap (λ (l : Limits). l.top) e.left.limits) e.left.valid e.left.placed
     (record { documents = e.documents; beyond = e.beyond; states = e.states; start = e.start; until = e.until; combiner = e.combiner }) (search rules)
 
@@ -51,7 +51,7 @@ returns-in-BitSet g c =
     let e = c.take_in-in-BitSet.ensures in
     swept-leaf g.S.DocSet BitSet (λ s. constant_left set_cursors s.value) (λ _. refl)
     (same-BitSet g.row.S.Denot) c.args.window.now c.take_in-in-BitSet.new.self c.args.bound c.take_in-in-BitSet.result
-    c.in-BitSet.leaf c.take_in-in-BitSet.new.scorer c.in-BitSet.leaf-is c.in-BitSet.is e.head e.left.entries
+    c.in-BitSet.leaf (record c.in-BitSet.leaf { value = c.take_in-in-BitSet.new.scorer }) (boxed c.in-BitSet.leaf c.deref_mut-in-BitSet.ensures.value c.in-BitSet.leaf-is) c.in-BitSet.is e.head e.left.entries
     (ap (λ (l : Limits). l.top) e.left.limits) e.left.valid e.left.placed
     (record { documents = e.documents; beyond = e.beyond; states = e.states; start = e.start; until = e.until; combiner = e.combiner }) (search rules)
 
@@ -60,7 +60,7 @@ returns-in-Phrase g c =
     let e = c.take_in-in-Phrase.ensures in
     swept-leaf g.S.DocSet Phrase (λ s. phrase_left postings_cursors s.value) (λ _. refl)
     (same-Phrase g.row.S.Denot) c.args.window.now c.take_in-in-Phrase.new.self c.args.bound c.take_in-in-Phrase.result
-    c.in-Phrase.leaf c.take_in-in-Phrase.new.scorer c.in-Phrase.leaf-is c.in-Phrase.is e.head e.left.entries
+    c.in-Phrase.leaf (record c.in-Phrase.leaf { value = c.take_in-in-Phrase.new.scorer }) (boxed c.in-Phrase.leaf c.deref_mut-in-Phrase.ensures.value c.in-Phrase.leaf-is) c.in-Phrase.is e.head e.left.entries
     (ap (λ (l : Limits). l.top) e.left.limits) e.left.valid e.left.placed
     (record { documents = e.documents; beyond = e.beyond; states = e.states; start = e.start; until = e.until; combiner = e.combiner }) (search rules)
 
@@ -69,7 +69,7 @@ returns-in-PhrasePrefix g c =
     let e = c.take_in-in-PhrasePrefix.ensures in
     swept-leaf g.S.DocSet PhrasePrefix (λ s. phrase_prefix_left postings_cursors s.value) (λ _. refl)
     (same-PhrasePrefix g.row.S.Denot) c.args.window.now c.take_in-in-PhrasePrefix.new.self c.args.bound c.take_in-in-PhrasePrefix.result
-    c.in-PhrasePrefix.leaf c.take_in-in-PhrasePrefix.new.scorer c.in-PhrasePrefix.leaf-is c.in-PhrasePrefix.is e.head e.left.entries
+    c.in-PhrasePrefix.leaf (record c.in-PhrasePrefix.leaf { value = c.take_in-in-PhrasePrefix.new.scorer }) (boxed c.in-PhrasePrefix.leaf c.deref_mut-in-PhrasePrefix.ensures.value c.in-PhrasePrefix.leaf-is) c.in-PhrasePrefix.is e.head e.left.entries
     (ap (λ (l : Limits). l.top) e.left.limits) e.left.valid e.left.placed
     (record { documents = e.documents; beyond = e.beyond; states = e.states; start = e.start; until = e.until; combiner = e.combiner }) (search rules)
 

@@ -10,7 +10,7 @@ use Rattle.qm_scorer.specs.BareFacts.{bare-nil, length-bare}
 use Rattle.qm_scorer.specs.Tree.{postings_cursors, set_cursors}
 use Rattle.qm_scorer.specs.declared.any_scorer.AnyScorer.TheVariants.{All, BitSet, Empty, Own, Phrase, PhrasePrefix, Term}
 use Rattle.qm_scorer.proofs.HandedOn.{leaf-asked, leaf-ended}
-use Rattle.qm_scorer.proofs.LeafArms.{no-other}
+use Rattle.qm_scorer.proofs.LeafArms.{boxed, no-other}
 use Rattle.qm_scorer.proofs.leaves.total_leaf.Goals as goal
 
 pub count_including_deleted-requires : goal.count_including_deleted-requires
@@ -23,17 +23,17 @@ pub count_including_deleted-requires-in-Own : goal.count_including_deleted-requi
 count_including_deleted-requires-in-Own g c = leaf-asked g.S.DocSet Own c.in-Own.leaf-is c.in-Own.is c.requires.valid c.requires.placed
 
 pub count_including_deleted-requires-in-Term : goal.count_including_deleted-requires-in-Term
-count_including_deleted-requires-in-Term g c = leaf-asked g.S.DocSet Term c.in-Term.leaf-is c.in-Term.is c.requires.valid c.requires.placed
+count_including_deleted-requires-in-Term g c = leaf-asked g.S.DocSet Term (boxed c.in-Term.leaf c.deref_mut.ensures.value c.in-Term.leaf-is) c.in-Term.is c.requires.valid c.requires.placed
 
 pub count_including_deleted-requires-in-BitSet : goal.count_including_deleted-requires-in-BitSet
-count_including_deleted-requires-in-BitSet g c = leaf-asked g.S.DocSet BitSet c.in-BitSet.leaf-is c.in-BitSet.is c.requires.valid c.requires.placed
+count_including_deleted-requires-in-BitSet g c = leaf-asked g.S.DocSet BitSet (boxed c.in-BitSet.leaf c.deref_mut-in-BitSet.ensures.value c.in-BitSet.leaf-is) c.in-BitSet.is c.requires.valid c.requires.placed
 
 pub count_including_deleted-requires-in-Phrase : goal.count_including_deleted-requires-in-Phrase
-count_including_deleted-requires-in-Phrase g c = leaf-asked g.S.DocSet Phrase c.in-Phrase.leaf-is c.in-Phrase.is c.requires.valid c.requires.placed
+count_including_deleted-requires-in-Phrase g c = leaf-asked g.S.DocSet Phrase (boxed c.in-Phrase.leaf c.deref_mut-in-Phrase.ensures.value c.in-Phrase.leaf-is) c.in-Phrase.is c.requires.valid c.requires.placed
 
 pub count_including_deleted-requires-in-PhrasePrefix : goal.count_including_deleted-requires-in-PhrasePrefix
 count_including_deleted-requires-in-PhrasePrefix g c =
-    leaf-asked g.S.DocSet PhrasePrefix c.in-PhrasePrefix.leaf-is c.in-PhrasePrefix.is c.requires.valid c.requires.placed
+    leaf-asked g.S.DocSet PhrasePrefix (boxed c.in-PhrasePrefix.leaf c.deref_mut-in-PhrasePrefix.ensures.value c.in-PhrasePrefix.leaf-is) c.in-PhrasePrefix.is c.requires.valid c.requires.placed
 
 pub returns-in-Empty : goal.returns-in-Empty
 returns-in-Empty g c =
@@ -64,15 +64,15 @@ returns-in-Term g c =
     let D = g.S.DocSet in
     let leaf = c.in-Term.leaf in
     let counted = c.count_including_deleted-in-Term in
-    leaf-ended D Term (λ s. scored_left s.value) (λ _. refl) length leaf counted.new.self c.in-Term.leaf-is c.in-Term.is (counted.ensures.count ∙ sym
-    (length-bare _)) counted.ensures.entries (ap (λ (l : Limits). l.top) counted.ensures.limits) counted.ensures.valid counted.ensures.placed (search rules)
+    leaf-ended D Term (λ s. scored_left s.value) (λ _. refl) length leaf (record leaf { value = counted.new.self }) (boxed leaf c.deref_mut.ensures.value c.in-Term.leaf-is) c.in-Term.is (counted.ensures.count ∙ sym
+    (length-bare _)) counted.ensures.entries (ap (λ (l : Limits). l.top) counted.ensures.limits) counted.ensures.valid tt (search rules)
 
 pub returns-in-BitSet : goal.returns-in-BitSet
 returns-in-BitSet g c =
     let D = g.S.DocSet in
     let leaf = c.in-BitSet.leaf in
     let counted = c.count_including_deleted-in-BitSet in
-    leaf-ended D BitSet (λ s. constant_left set_cursors s.value) (λ _. refl) length leaf counted.new.self c.in-BitSet.leaf-is c.in-BitSet.is
+    leaf-ended D BitSet (λ s. constant_left set_cursors s.value) (λ _. refl) length leaf (record leaf { value = counted.new.self }) (boxed leaf c.deref_mut-in-BitSet.ensures.value c.in-BitSet.leaf-is) c.in-BitSet.is
     (counted.ensures.count ∙ sym (length-bare _)) counted.ensures.entries
     (ap (λ (l : Limits). l.top) counted.ensures.limits) counted.ensures.valid counted.ensures.placed (search rules)
 
@@ -81,7 +81,7 @@ returns-in-Phrase g c =
     let D = g.S.DocSet in
     let leaf = c.in-Phrase.leaf in
     let counted = c.count_including_deleted-in-Phrase in
-    leaf-ended D Phrase (λ s. phrase_left postings_cursors s.value) (λ _. refl) length leaf counted.new.self c.in-Phrase.leaf-is c.in-Phrase.is
+    leaf-ended D Phrase (λ s. phrase_left postings_cursors s.value) (λ _. refl) length leaf (record leaf { value = counted.new.self }) (boxed leaf c.deref_mut-in-Phrase.ensures.value c.in-Phrase.leaf-is) c.in-Phrase.is
     (counted.ensures.count ∙ sym (length-bare _)) counted.ensures.entries
     (ap (λ (l : Limits). l.top) counted.ensures.limits) counted.ensures.valid counted.ensures.placed (search rules)
 
@@ -90,8 +90,8 @@ returns-in-PhrasePrefix g c =
     let D = g.S.DocSet in
     let leaf = c.in-PhrasePrefix.leaf in
     let counted = c.count_including_deleted-in-PhrasePrefix in
-    leaf-ended D PhrasePrefix (λ s. phrase_prefix_left postings_cursors s.value) (λ _. refl) length leaf counted.new.self
-    c.in-PhrasePrefix.leaf-is c.in-PhrasePrefix.is (counted.ensures.count ∙ sym (length-bare _)) counted.ensures.entries
+    leaf-ended D PhrasePrefix (λ s. phrase_prefix_left postings_cursors s.value) (λ _. refl) length leaf (record leaf { value = counted.new.self })
+    (boxed leaf c.deref_mut-in-PhrasePrefix.ensures.value c.in-PhrasePrefix.leaf-is) c.in-PhrasePrefix.is (counted.ensures.count ∙ sym (length-bare _)) counted.ensures.entries
     (ap (λ (l : Limits). l.top) counted.ensures.limits) counted.ensures.valid counted.ensures.placed (search rules)
 
 pub unreachable-requires : goal.unreachable-requires
