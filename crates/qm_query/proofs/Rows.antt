@@ -1,9 +1,5 @@
 -- A query whose clauses, or disjuncts, stand in a row asks for what they ask for as a list.
 use Rattle.std.proofs.Common.{◌≡◌, refl, ap}
-use Rattle.qm_weight.specs.Tree.{clause}
-use Rattle.qm_weight.specs.Weights.{clauses_from, clauses_of, tree_of}
-use Rattle.qm_weight.specs.declared.any_weight.AnyWeight.{Row_of-BooleanWeight-weights-3, end_of-BooleanWeight-weights-3, more_of-BooleanWeight-weights-3}
-use Rattle.qm_weight.specs.declared.any_weight.AnyWeight.{items-the_row-BooleanWeight-weights-3}
 use Rattle.qm_query.specs.Query.{disjunct, disjuncts_of, query_of, row_disjuncts, row_subqueries, subqueries_of, subquery}
 use Rattle.qm_query.specs.declared.any_query.AnyQuery.{Row_of-BooleanQuery-subqueries-3, end_of-BooleanQuery-subqueries-3, more_of-BooleanQuery-subqueries-3}
 use Rattle.qm_query.specs.declared.any_query.AnyQuery.{items-the_row-BooleanQuery-subqueries-3, Row_of-DisjunctionMaxQuery-disjuncts-1}

@@ -324,6 +324,10 @@ pub if_ok_anyway : {A E P : Type 0} (r : Result A E) → P → IfOk r (λ a. P)
 if_ok_anyway (Ok a) holds = holds
 if_ok_anyway (Err e) holds = tt
 
+pub if_ok_then : {A E P Q : Type 0} (r : Result A E) → (P → Q) → IfOk r (λ a. P) → IfOk r (λ a. Q)
+if_ok_then (Ok a) more holds = more holds
+if_ok_then (Err e) more holds = tt
+
 -- ---- the searcher as the provider
 
 abbrev pub searcher_ghosts : Ghosts Searched

@@ -25,7 +25,7 @@ use crate::empty_query::EmptyQuery;
 use crate::enable_scoring::EnableScoring;
 use crate::phrase_prefix_query::PhrasePrefixQuery;
 use crate::phrase_query::PhraseQuery;
-use crate::searches::{count_by_weight, segment_at};
+use crate::searches::{count_fitting, segment_at};
 use crate::term_query::TermQuery;
 use qm_postings::{Bm25StatisticsProvider, DocAddress, Searcher};
 use qm_schema::{QueryError, Term};
@@ -73,7 +73,9 @@ pub trait Query {
         ensures served { IfOk result (λ _. IsTrue (is_served searcher.now.schema (query self.now))) }
         ensures refused { IfErr result (IsCountRefusal ⟦<Searcher as Bm25StatisticsProvider>⟧ searcher.now (query self.now)) }
     {
-        count_by_weight(self, alloc, searcher)
+        let enable_scoring = EnableScoring::<Searcher>::disabled_from_searcher(searcher);
+        let weight = self.weight(alloc, enable_scoring)?;
+        count_fitting(&weight, alloc, searcher)
     }
 
     /// Why a document of a segment of the searcher scores what it does, by the weights that the
@@ -237,10 +239,12 @@ impl Query for AnyQuery {
     }
 
     fn count(&self, alloc: Global, searcher: &Searcher) -> Result<usize, QueryError> {
-        match self {
-            AnyQuery::Term(query) => query.count(alloc, searcher),
-            _ => count_by_weight(self, alloc, searcher),
+        if let AnyQuery::Term(query) = self {
+            return query.count(alloc, searcher);
         }
+        let enable_scoring = EnableScoring::<Searcher>::disabled_from_searcher(searcher);
+        let weight = self.build_weight(alloc, enable_scoring)?;
+        count_fitting(&weight, alloc, searcher)
     }
 
     fn query_terms<F: FnMut(&Term, bool)>(&self, visitor: &mut F) {

@@ -1,38 +1,32 @@
-//! What queries find in the segments of a searcher.
+//! What a weight, or a term, finds in the segments of a searcher.
 
-ghost use Rattle.std.specs.Prelude.{◌≡◌, IfErr, IfOk, IsTrue, None, Some, slice_get};
+ghost use Rattle.std.specs.Prelude.{◌≡◌, IfErr, IfOk, None, Some, slice_get};
 ghost use Rattle.qm_schema.specs.declared.error.QueryError.TheVariants.{NoSuchSegment};
 ghost use Rattle.qm_schema.specs.declared.schema.option.IndexRecordOption.TheVariants.{Basic};
 ghost use Rattle.qm_weight.specs.Scorers.{IsRefusalOf};
 ghost use Rattle.qm_weight.specs.Tree.{term as leaf_of};
 ghost use Rattle.qm_weight.specs.Weights.{tree_of};
-ghost use Rattle.qm_query.specs.Fields.{is_served};
-ghost use Rattle.qm_query.specs.QueryScorers.{QueryFits};
-ghost use Rattle.qm_query.specs.Searches.{IsCountOf, IsCountRefusal, count_in, without_scores};
+ghost use Rattle.qm_query.specs.QueryScorers.{FitsAtOne};
+ghost use Rattle.qm_query.specs.Searches.{count_in};
 
-use crate::enable_scoring::EnableScoring;
 use crate::fitting::check_fits;
-use crate::query::Query;
-use qm_postings::{Bm25StatisticsProvider, DocAddress, Searcher, SegmentReader};
+use qm_postings::{DocAddress, Searcher, SegmentReader};
 use qm_schema::{QueryError, Term};
 use qm_weight::{AnyWeight, Weight, count_term};
 use std::alloc::Global;
 
-// How many documents of all segments a query matches that weren't deleted, by its weight; see [`Query::count`].
-pub(crate) fn count_by_weight<Q: Query>(
-    query: &Q,
+// How many documents of all segments a weight matches that weren't deleted, where it fits at a boost of 1.
+pub(crate) fn count_fitting(
+    weight: &AnyWeight,
     alloc: Global,
     searcher: &Searcher,
 ) -> Result<usize, QueryError>
-    ensures count { IfOk result (IsCountOf ⟦<Searcher as Bm25StatisticsProvider>⟧ searcher.now (Q.query query.now)) }
-    ensures fits { IfOk result (λ _. QueryFits ⟦<Searcher as Bm25StatisticsProvider>⟧ (without_scores searcher.now) (Q.query query.now)) }
-    ensures served { IfOk result (λ _. IsTrue (is_served searcher.now.schema (Q.query query.now))) }
-    ensures refused { IfErr result (IsCountRefusal ⟦<Searcher as Bm25StatisticsProvider>⟧ searcher.now (Q.query query.now)) }
+    ensures count { IfOk result (λ n. n ≡ count_in (tree_of weight.now) searcher.now.segments) }
+    ensures fits { IfOk result (λ _. FitsAtOne (tree_of weight.now)) }
+    ensures refused { IfErr result (IsRefusalOf (tree_of weight.now) 1) }
 {
-    let enable_scoring = EnableScoring::<Searcher>::disabled_from_searcher(searcher);
-    let weight = query.weight(alloc, enable_scoring)?;
-    check_fits(&weight)?;
-    count_alive(&weight, alloc, searcher)
+    check_fits(weight)?;
+    count_alive(weight, alloc, searcher)
 }
 
 // How many documents of all segments hold a term and weren't deleted. Takes no memory.
