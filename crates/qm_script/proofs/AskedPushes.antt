@@ -1,7 +1,6 @@
 -- The terms that the clauses of a query ask for, clause by clause; and those of its last word.
-use Rattle.std.proofs.Common.{◌≡◌, ℕ, ◌+◌, ◌-◌, ◌<◌, ◌≤◌, List, [], ◌∷◌, ◌++◌, length, drop, get_or, map, String, string_bytes, Some, None, slice_get, suc, refl, ap, sym, ◌∙◌, arith, append_assoc, append-nil}
+use Rattle.std.proofs.Common.{◌≡◌, ℕ, ◌+◌, ◌-◌, ◌<◌, ◌≤◌, List, [], ◌∷◌, ◌++◌, length, drop, get_or, map, String, string_bytes, Some, slice_get, suc, ap, sym, ◌∙◌, arith, append_assoc, append-nil}
 use Rattle.std.specs.Global.{Global}
-use Rattle.std.proofs.lemmas.Option.{slice_get-get_or}
 use Rattle.qm_postings.specs.Segment.{Segment}
 use Rattle.qm_schema.specs.Term.{TermKey}
 use Rattle.qm_schema.specs.declared.occur.Occur.{Occur}

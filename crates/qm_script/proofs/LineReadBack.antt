@@ -1,6 +1,6 @@
 -- What a line spells is read back from it.
-use Rattle.std.proofs.Common.{◌≡◌, ◌<◌, ◌≤◌, ◌^◌, Bool, true, false, cond, ℕ, zero, suc, ℤ, pos, negsuc, List, [], ◌∷◌, ◌++◌, Some, length, refl}
-use Rattle.std.proofs.Common.{ap, sym, subst, ◌∙◌, append-nil, arith, option_map}
+use Rattle.std.proofs.Common.{◌≡◌, ◌<◌, ◌^◌, false, ℕ, zero, suc, ℤ, pos, negsuc, List, [], ◌∷◌, ◌++◌, Some, length, refl}
+use Rattle.std.proofs.Common.{ap, sym, ◌∙◌, append-nil, arith, option_map}
 use Rattle.std.proofs.lemmas.Fmt.{decimal_is_IsNumeral}
 use Rattle.std.proofs.lemmas.List.Splits.{slice_split_at, slice_split_none}
 use Rattle.std.proofs.lemmas.Str.Parse.{digit_from_value}

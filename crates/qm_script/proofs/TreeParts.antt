@@ -1,6 +1,5 @@
 -- What a query's tree matches and scores over the parts of a segment is what it does over the segment.
-use Rattle.std.proofs.Common.{◌≡◌, ℕ, Bool, true, false, ◌&&◌, refl, ap, sym, ◌∙◌}
-use Rattle.std.proofs.lemmas.Bool.{false≢true}
+use Rattle.std.proofs.Common.{◌≡◌, ℕ, true, refl, ap, sym, ◌∙◌}
 use Rattle.qm_postings.specs.Segment.{Segment}
 use Rattle.qm_weight.specs.Looking.{AreAlike, IsAlike}
 use Rattle.qm_weight.specs.LookingFacts.{matches-alike, score-alike}

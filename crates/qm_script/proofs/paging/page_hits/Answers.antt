@@ -1,5 +1,4 @@
-use Rattle.std.proofs.Common.{◌≤◌, ◌*◌, ◌++◌, ap, arith, filter, length, nat_le, subst, sym, take, ◌∙◌}
-use Rattle.std.proofs.lemmas.List.{length-take}
+use Rattle.std.proofs.Common.{◌≤◌, ◌*◌, ◌++◌, ap, filter, length, nat_le, subst, sym, take, ◌∙◌}
 use Rattle.qm_docset.specs.declared.numbers.TheConstants.{TERMINATED}
 use Rattle.qm_index.specs.Indexed.{Indexed, indexed}
 use Rattle.qm_index.specs.Parts.{segments_of}

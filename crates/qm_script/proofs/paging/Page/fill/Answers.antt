@@ -1,10 +1,9 @@
-use Rattle.std.proofs.Common.{false, ◌≡◌, ◌≤◌, ◌+◌, ◌++◌, ◌∙◌, arith, ap, drop, filter, length, map, nat_le, sym, take}
+use Rattle.std.proofs.Common.{false, ◌≡◌, ◌+◌, ◌++◌, ◌∙◌, arith, ap, drop, filter, length, map, nat_le, sym, take}
 use Rattle.std.proofs.lemmas.List.{length-take}
-use Rattle.qm_script.specs.BestListed.{alive_numbers}
 use Rattle.qm_script.specs.Paging.{numbers_in}
 use Rattle.qm_weight.specs.Weights.{tree_of}
 use Rattle.qm_script.proofs.OverParts.{count-next, row-next}
-use Rattle.qm_script.proofs.Pages.{nothing-more, numbers_from, segment-taken}
+use Rattle.qm_script.proofs.Pages.{numbers_from, segment-taken}
 use Rattle.qm_script.proofs.paging.Page.fill.Goals as goal
 
 pub loop-segment-preserved : goal.loop-segment-preserved

@@ -1,4 +1,4 @@
-use Rattle.std.proofs.Common.{◌≡◌, ◌≤◌, ◌<◌, ◌+◌, ◌++◌, ◌∙◌, ap, arith, filter, length, nat_le, refl, sym, take}
+use Rattle.std.proofs.Common.{◌≤◌, ◌+◌, ◌++◌, ◌∙◌, ap, arith, filter, length, nat_le, refl, take}
 use Rattle.qm_script.specs.Paging.{numbers_in}
 use Rattle.qm_weight.specs.Weights.{tree_of}
 use Rattle.qm_script.proofs.Pages.{no-room, none-yet, nothing-more, numbers-sought}
