@@ -1,12 +1,10 @@
 """Runs of scripts by chance, in some manner of reading and writing, with what the model of the language answers."""
 
 from program_runs.chance_scripts import script
-from model.scripts import answers, lines_of, status
+from model.scripts import answers, lines_of, status, wanting_memory
 
 # refusals of a form: where nothing is to be built behind it, such a line asks for no memory
 OF_FORMS = {b"refused 1", b"refused 2", b"refused 8"}
-# lines that ask for something
-QUERIES = (b"docs", b"scores", b"count", b"prune", b"top")
 
 
 def by_chance(random):
@@ -64,13 +62,12 @@ def spelled(line):
 
 
 def refusals(call, made, told):
-    """What comes where requests for memory are refused: the run ends, or a line is refused that asks for something."""
+    """What comes where requests for memory are refused: the run ends, or a line is refused whose query wants some."""
     found = ["refused Memory"]
     # the text itself grows in memory there
     if call == "text_of" and told:
         found.append("refused Write")
-    lines = lines_of(made)
-    asking = [it for it in told if told[it] != b"not understood" and lines[it - 1].split()[0] in QUERIES]
+    asking = [it for it in wanting_memory(made, told) if told[it] != b"not understood"]
     if asking:
         found.append(f"refused 13 in lines {' '.join(map(str, asking))}")
     return ", ".join(found)

@@ -36,6 +36,10 @@ MOST_DEEP = 500
 GREATEST_COUNT = 4294967295
 GREATEST_NUMBER = 18446744073709551615
 NOT_UNDERSTOOD = "not understood"
+# the words of lines that ask for something
+QUERIES = (b"docs", b"scores", b"count", b"prune", b"top")
+# a word of at most so many bytes stands in the query itself
+SHORT = 14
 # a query is looked at level by level
 sys.setrecursionlimit(100 * MOST_DEEP)
 
@@ -56,6 +60,19 @@ def lines_of(script):
     *whole, last = script.split(b"\n")
     lines = [it.removesuffix(b"\r") for it in whole]
     return lines + [last] if last else lines
+
+
+def wanting_memory(script, answered):
+    """The numbers of the lines that ask for something and take memory for it, of those that are answered: all do, but
+    where it is asked how often a short word is there. Its documents are counted where they stand, and there is room for
+    the answer behind the first."""
+    lines = [[word for word in line.replace(b"\t", b" ").split(b" ") if word] for line in lines_of(script)]
+    asking = [it for it in answered if lines[it - 1][:1] and lines[it - 1][0] in QUERIES]
+    return [it for it in asking if it == min(answered) or not counts_a_short_word(lines[it - 1])]
+
+
+def counts_a_short_word(words):
+    return len(words) == 3 and words[:2] == [b"count", b"term"] and len(words[2]) <= SHORT
 
 
 def words_of(line):

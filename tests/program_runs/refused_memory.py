@@ -1,14 +1,11 @@
 """Runs in which a request for memory is refused, each in turn: a query is refused for it, or the run ends, and no line
 shows another answer in place of these two."""
 
-from model.scripts import answers, lines_of, text_of
+from model.scripts import answers, text_of, wanting_memory
 
 from .cut_scripts import SCRIPTS
 from .program import calls_of
 from .report import in_parallel
-
-# Lines that ask for something: want of memory refuses them, and ends the run in all others.
-QUERIES = (b"docs", b"scores", b"count", b"prune", b"top")
 
 # No run of a short script asks for memory so often, and none of a long one.
 MANY, MOST = 4000, 1 << 20
@@ -41,7 +38,8 @@ def check_part(program, report, part):
 
 def check_each(program, report, script):
     """Refuses each request in turn, until a run has no request left to be refused."""
-    wanted, queries = answers(script), queries_of(script)
+    wanted = answers(script)
+    queries = queries_of(script, wanted)
     refused, ended, least = set(), 0, 0
     for number in range(1, MANY):
         outcome = program.run_faulty(script, request=number)
@@ -66,7 +64,8 @@ def check_each(program, report, script):
 
 def check_all_after(program, report, script):
     """Where memory runs out for good, each line that is written is the line's answer or its refusal."""
-    wanted, queries = answers(script), queries_of(script)
+    wanted = answers(script)
+    queries = queries_of(script, wanted)
     for number in range(1, MANY):
         outcome = program.run_faulty(script, request=number, requests=1)
         if not calls_of(outcome, "request refused"):
@@ -82,10 +81,9 @@ def check_all_after(program, report, script):
         report.expect_same(name, outcome if are_right else told, outcome)
 
 
-def queries_of(script):
-    """The numbers of the lines that ask for something."""
-    words = [line.split() for line in lines_of(script)]
-    return {number for number, it in enumerate(words, 1) if it and it[0] in QUERIES}
+def queries_of(script, wanted):
+    """The numbers of the lines whose queries want memory: want of it refuses them, and ends the run in all others."""
+    return {*wanting_memory(script, [line for line, _ in wanted])}
 
 
 def understood(wanted, queries):
