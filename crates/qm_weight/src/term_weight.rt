@@ -1,6 +1,6 @@
 //! The weight of a term.
 
-ghost use Rattle.std.specs.Prelude.{◌≡◌, ◌<◌, ◌≤◌, ◌≤ℤ◌, IfErr, IfOk, None, if◌then◌else◌, length, nat_abs, pos};
+ghost use Rattle.std.specs.Prelude.{◌≡◌, ◌<◌, ◌≤◌, ◌≤ℤ◌, ℕ, IfErr, IfOk, None, if◌then◌else◌, length, nat_abs, pos};
 ghost use Rattle.qm_schema.specs.declared.schema.option.IndexRecordOption.TheVariants.{Basic};
 ghost use Rattle.qm_docset.specs.Entry.{greatest_score};
 ghost use Rattle.qm_term.specs.Bm25.{boosted_by};
@@ -26,7 +26,7 @@ use qm_docset::{DocId, DocSet, Score, TERMINATED};
 use qm_postings::SegmentReader;
 use qm_schema::{IndexRecordOption, QueryError, Term};
 use qm_scorer::AnyScorer;
-use qm_term::{Bm25Weight, Explanation, TermScorer, WandCount, block_wand_single_scorer};
+use qm_term::{Bm25Weight, Explanation, Norms, TermScorer, WandCount, block_wand_single_scorer};
 use std::alloc::Global;
 
 /// Matches the documents that hold a term. Each scores what the term's weight gives its frequency there
@@ -66,8 +66,9 @@ impl TermWeight {
         &self.term
     }
 
-    // The term's weight at a boost. With scoring off its boost is 0, which fits whatever it weighs.
-    fn weight_at(&self, boost: u64) -> Result<Bm25Weight, QueryError>
+    // The term's weight at a boost, over the norms where they stand. With scoring off its boost is 0, which fits
+    // whatever it weighs.
+    fn weight_at(&self, boost: u64) -> Result<Bm25Weight<&[u32; 256]>, QueryError>
         requires { boost ≤ greatest_score }
         ensures weighing { IfOk result (λ w. weighing w ≡ term_weighing self.now boost) }
         ensures refused { IfErr result (IsRefusalOf (term_tree self.now) boost) }
@@ -77,22 +78,34 @@ impl TermWeight {
         } else {
             0
         };
-        self.similarity_weight.boost_by(boost)
+        self.similarity_weight.lent().boost_by(boost)
     }
 
-    // The term's own scorer at a boost, and none where no document holds the term.
+    // The term's scorer at a boost, over the weight's norms, and none where no document holds the term.
     pub(crate) fn term_scorer<'a>(
-        &self,
+        &'a self,
         reader: &'a SegmentReader,
         boost: u64,
-    ) -> Result<Option<TermScorer<'a>>, QueryError>
+    ) -> Result<Option<TermScorer<'a, &'a [u32; 256]>>, QueryError>
         requires boost { boost ≤ greatest_score }
-        ensures scorer { IfOk result (IsLeafOf ⟦<TermScorer<'a> as DocSet>⟧ (term_tree self.now) boost reader.now.segment) }
+        ensures scorer { IfOk result (IsLeafOf ⟦<TermScorer<'a, &'a [u32; 256]> as DocSet>⟧ (term_tree self.now) boost reader.now.segment) }
         ensures refused { IfErr result (IsRefusalOf (term_tree self.now) boost) }
     {
         let weight = self.weight_at(boost)?;
+        Ok(self.scorer_by(reader, &weight))
+    }
+
+    // The term's scorer by its weight at a boost.
+    fn scorer_by<'a, N: Norms>(
+        &self,
+        reader: &'a SegmentReader,
+        weight: &Bm25Weight<N>,
+    ) -> Option<TermScorer<'a, N>>
+        ensures { (boost : ℕ) → weighing weight.now ≡ term_weighing self.now boost →
+            IsLeafOf ⟦<TermScorer<'a, N> as DocSet>⟧ (term_tree self.now) boost reader.now.segment result }
+    {
         let option = self.index_record_option;
-        Ok(TermScorer::for_term(reader, &self.term, option, &weight))
+        TermScorer::for_term(reader, &self.term, option, weight)
     }
 
     // Why a document of the segment scores what it does at a boost: what the term weighs there.
@@ -128,7 +141,9 @@ impl Weight for TermWeight {
         boost: Score,
     ) -> Result<AnyScorer<'a, S>, QueryError> {
         let boost = boost as u64;
-        let leaf = self.term_scorer(reader, boost)?;
+        // (it outlives the weight)
+        let weight = self.weight_at(boost)?.owned();
+        let leaf = self.scorer_by(reader, &weight);
         scorer_of_leaf(self, alloc, reader, leaf, boost)
     }
 
@@ -198,11 +213,11 @@ impl Weight for TermWeight {
 fn prune_term<'a, F: FnMut(DocId, Score) -> Score>(
     weight: &TermWeight,
     reader: &SegmentReader,
-    leaf: Option<TermScorer<'a>>,
+    leaf: Option<TermScorer<'a, &'a [u32; 256]>>,
     threshold: Score,
     callback: &mut F,
 ) -> WandCount
-    requires leaf { IsLeafOf ⟦<TermScorer<'a> as DocSet>⟧ (term_tree weight.now) 1 reader.now.segment leaf }
+    requires leaf { IsLeafOf ⟦<TermScorer<'a, &'a [u32; 256]> as DocSet>⟧ (term_tree weight.now) 1 reader.now.segment leaf }
     requires allowed { MayPruneTree F.step F.pre (term_tree weight.now) reader.now.segment threshold callback.old }
     ensures calls { PrunesTreeBy F.step (term_tree weight.now) 1 reader.now.segment threshold callback.old result callback.new }
 {
