@@ -8,7 +8,7 @@ use Rattle.qm_docset.specs.declared.tiny_set.TinySet.{TinySet}
 use Rattle.qm_docset.specs.TinySet.{tiny_has, tiny_members}
 use Rattle.qm_docset.specs.Members.{members_between}
 use Rattle.qm_docset.specs.Words.{words_have}
-use Rattle.qm_combine.specs.WindowStates.{state_of_place}
+use Rattle.qm_combine.specs.WindowStates.{place_state}
 use Rattle.qm_combine.specs.Window.{window_combiner, window_has, window_state}
 use Rattle.qm_combine.specs.declared.union.window.Window.{Window}
 use Rattle.qm_docset.proofs.MembersLemmas.{HasNone, IsFirst, and_true, members_between-none}
@@ -74,39 +74,39 @@ words_have-was words place was inside read =
 -- One place is added to the words, and its state to the states.
 module _ (words more : List TinySet) (place : ℕ) (added : (x : ℕ) → words_have more x ≡ (x == place || words_have words x)) where
   module _ {C : Type 0} (states : List C) (cleared state : C) (room : place < length states) where
-    pub state_of_place-put : state_of_place more (set states place state) cleared place ≡ state
-    state_of_place-put =
+    pub place_state-put : place_state more (set states place state) cleared place ≡ state
+    place_state-put =
         let here : words_have more place ≡ true = added place ∙ rw (eq-eqb place place refl) in
         rw (here, get_or-set_same states place state cleared room)
 
-    pub state_of_place-other : (x : ℕ) → x ≢ place → state_of_place more (set states place state) cleared x ≡ state_of_place words states cleared x
-    state_of_place-other x other =
+    pub place_state-other : (x : ℕ) → x ≢ place → place_state more (set states place state) cleared x ≡ place_state words states cleared x
+    place_state-other x other =
         let same : words_have more x ≡ words_have words x = added x ∙ rw (ne_eqb x place other) in
         rw (same, get_or-set_other states place x state cleared other)
 
 -- the state that a place had: cleared where it is new
 module _ {C : Type 0} (words : List TinySet) (place : ℕ) (states : List C) (cleared : C) (is_new : Bool) (tested : is_new ≡ not (words_have words place)) where
-  pub state_of_place-new : is_new ≡ true → state_of_place words states cleared place ≡ cleared
-  state_of_place-new new =
+  pub place_state-new : is_new ≡ true → place_state words states cleared place ≡ cleared
+  place_state-new new =
       let none : words_have words place ≡ false = not-true (words_have words place) (sym tested ∙ new) in
       rw none
 
-  pub state_of_place-old : is_new ≡ false → (state : C) → state ≡ get_or states place state → place < length states
-      → state_of_place words states cleared place ≡ state
-  state_of_place-old old state is room =
+  pub place_state-old : is_new ≡ false → (state : C) → state ≡ get_or states place state → place < length states
+      → place_state words states cleared place ≡ state
+  place_state-old old state is room =
       let there : words_have words place ≡ true = not-false (words_have words place) (sym tested ∙ old) in
       let known = get_or_read states place state room is cleared in
       rw there (sym known)
 
 -- states that read alike are alike
-pub state_of_place-same : {C : Type 0} (words : List TinySet) (states others : List C) (cleared : C)
+pub place_state-same : {C : Type 0} (words : List TinySet) (states others : List C) (cleared : C)
     → ((x : ℕ) → get_or states x cleared ≡ get_or others x cleared)
-    → (x : ℕ) → state_of_place words states cleared x ≡ state_of_place words others cleared x
-state_of_place-same words states others cleared same x = ap (λ s. cond (words_have words x) s cleared) (same x)
+    → (x : ℕ) → place_state words states cleared x ≡ place_state words others cleared x
+place_state-same words states others cleared same x = ap (λ s. cond (words_have words x) s cleared) (same x)
 
 -- by documents
 module _ {C : Type 0} (start : ℕ) (words : List TinySet) (states : List C) (combiner : C) where
-  pub state_at-from : (d : ℕ) → start ≤ d → state_at start words states combiner d ≡ state_of_place words states combiner (d - start)
+  pub state_at-from : (d : ℕ) → start ≤ d → state_at start words states combiner d ≡ place_state words states combiner (d - start)
   state_at-from d past = rw (has_at-from start words d past) refl
 
   pub state_at-before : (d : ℕ) → d < start → state_at start words states combiner d ≡ combiner

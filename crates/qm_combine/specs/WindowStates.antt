@@ -4,8 +4,8 @@ use Rattle.qm_docset.specs.declared.tiny_set.TinySet.{TinySet}
 use Rattle.qm_docset.specs.Words.{words_have}
 
 -- the state of a place among states that stand beside words of 64; cleared where the words lack the place
-abbrev pub state_of_place : {C : Type 0} → List TinySet → List C → C → ℕ → C
-state_of_place words states cleared x = cond (words_have words x) (slice_index_or states x cleared) cleared
+abbrev pub place_state : {C : Type 0} → List TinySet → List C → C → ℕ → C
+place_state words states cleared x = cond (words_have words x) (slice_index_or states x cleared) cleared
 
 -- the last of some documents, or what stands for it where there are none
 abbrev pub last_or : ℕ → List ℕ → ℕ

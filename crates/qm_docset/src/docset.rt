@@ -25,6 +25,20 @@ pub enum SeekDangerResult {
     SeekLowerBound(DocId),
 }
 
+/// What a [`seek_danger`](DocSet::seek_danger) answers that has sought the target, and so stands on `doc`: that it
+/// is found where it is that document, and else that document as the bound. Asks that `doc` is at or past the
+/// target, and [`TERMINATED`] at most.
+pub fn seek_answer(target: DocId, doc: DocId) -> SeekDangerResult
+    requires { (target ≤ doc) × (doc ≤ TERMINATED) }
+    ensures { (es : List Entry) → head_document es ≡ doc → IsSeekAnswer target es result }
+{
+    if doc == target && target < TERMINATED {
+        SeekDangerResult::Found
+    } else {
+        SeekDangerResult::SeekLowerBound(doc)
+    }
+}
+
 /// A cursor over documents, in ascending order, all below [`TERMINATED`].
 ///
 /// A cursor stands on the first of the documents that remain. It is *placed* when it is made and
@@ -87,11 +101,7 @@ pub trait DocSet: Drop {
         ensures placed { OnFound result (placed self.new) }
     {
         let doc = self.seek(target);
-        if doc == target && target < TERMINATED {
-            SeekDangerResult::Found
-        } else {
-            SeekDangerResult::SeekLowerBound(doc)
-        }
+        seek_answer(target, doc)
     }
 
     /// Takes the next [`COLLECT_BLOCK_BUFFER_LEN`] documents, or all where fewer remain, into the

@@ -20,7 +20,7 @@ mod vec_docset;
 pub use alive_bitset::AliveBitSet;
 pub use bitset::BitSet;
 pub use bitset_docset::BitSetDocSet;
-pub use docset::{DocSet, SeekDangerResult};
+pub use docset::{DocSet, SeekDangerResult, seek_answer};
 pub use document_list::are_documents;
 pub use exclusion::ExclusionSet;
 pub use galloping::gallop;

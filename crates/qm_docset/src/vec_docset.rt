@@ -13,7 +13,7 @@ ghost use Rattle.qm_docset.specs.Lists.{Lists};
 ghost use Rattle.qm_docset.specs.VecDocSet.{remaining_documents, IsVecCursor, HasLeft, full_length};
 
 use crate::alive_bitset::AliveBitSet;
-use crate::docset::{DocSet, SeekDangerResult};
+use crate::docset::{DocSet, SeekDangerResult, seek_answer};
 use crate::galloping::gallop;
 use crate::has_len::HasLen;
 use crate::numbers::{COLLECT_BLOCK_BUFFER_LEN, DocId, TERMINATED};
@@ -94,11 +94,7 @@ impl DocSet for VecDocSet {
         ensures left { HasLeft self.old self.new (from target (remaining_documents self.old)) }
     {
         let doc = self.seek(target);
-        if doc == target && target < TERMINATED {
-            SeekDangerResult::Found
-        } else {
-            SeekDangerResult::SeekLowerBound(doc)
-        }
+        seek_answer(target, doc)
     }
 
     fn fill_buffer(&mut self, buffer: &mut [DocId; COLLECT_BLOCK_BUFFER_LEN]) -> usize

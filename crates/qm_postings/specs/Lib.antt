@@ -30,3 +30,4 @@ pub mod TermHead
 pub mod ShortTerms
 pub mod WordPlaces
 pub mod TermDocuments
+pub mod EndBelow

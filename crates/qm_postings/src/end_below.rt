@@ -1,8 +1,9 @@
 //! How far a buffer of documents below a bound goes.
 
-ghost use Rattle.std.specs.Prelude.{◌≡◌, ◌+◌, ◌≤◌, List, drop, length, min};
+ghost use Rattle.std.specs.Prelude.{◌≡◌, ◌+◌, ◌≤◌, List, length};
 ghost use Rattle.qm_docset.specs.Documents.{AreDocuments};
-ghost use Rattle.qm_docset.specs.Entry.{AreEntries, Entry, Limits, below, documents};
+ghost use Rattle.qm_docset.specs.Entry.{AreEntries, Entry, Limits, documents};
+ghost use Rattle.qm_postings.specs.EndBelow.{place_below};
 
 use qm_docset::{COLLECT_BLOCK_BUFFER_LEN, DocId, gallop};
 
@@ -14,8 +15,8 @@ pub(crate) fn end_below(docs: &[DocId], start: usize, bound: DocId) -> usize
     ensures from_start { start ≤ result }
     ensures within { result ≤ length docs.now }
     ensures room { result ≤ start + COLLECT_BLOCK_BUFFER_LEN }
-    ensures count { (es : List Entry) (limits : Limits) → documents es ≡ docs.now → AreEntries 0 limits es →
-        result ≡ start + min COLLECT_BLOCK_BUFFER_LEN (length (below bound (drop start es))) }
+    ensures place { (es : List Entry) (limits : Limits) →
+        documents es ≡ docs.now → AreEntries 0 limits es → result ≡ place_below start bound es }
 {
     let most = COLLECT_BLOCK_BUFFER_LEN.min(docs.len() - start);
     let end = start + most;

@@ -20,7 +20,9 @@ use crate::end_below::end_below;
 use crate::freq_reading_option::FreqReadingOption;
 use crate::postings::Postings;
 use crate::term_arrays::{BlockInfo, TermArrays};
-use qm_docset::{COLLECT_BLOCK_BUFFER_LEN, DocId, DocSet, SeekDangerResult, TERMINATED, gallop};
+use qm_docset::{
+    COLLECT_BLOCK_BUFFER_LEN, DocId, DocSet, SeekDangerResult, TERMINATED, gallop, seek_answer,
+};
 
 /// A cursor over the documents that hold a term, each with how often it does, and at which
 /// positions, where these are kept and were asked for. It borrows the arrays of its segment; copying
@@ -377,11 +379,7 @@ impl<'a> DocSet for SegmentPostings<'a> {
         ensures looked { LooksHere self.new }
     {
         let doc = self.seek(target);
-        if doc == target && target < TERMINATED {
-            SeekDangerResult::Found
-        } else {
-            SeekDangerResult::SeekLowerBound(doc)
-        }
+        seek_answer(target, doc)
     }
 
     fn fill_buffer(&mut self, buffer: &mut [DocId; COLLECT_BLOCK_BUFFER_LEN]) -> usize

@@ -5,9 +5,10 @@ use Rattle.qm_docset.specs.Cursor.{IsSeekAnswer, OnFound}
 use Rattle.qm_docset.specs.Entry.{Entry, documents, from, greatest_score, head_document, head_score}
 use Rattle.qm_docset.specs.declared.docset.DocSet.{Ghosts}
 use Rattle.qm_docset.specs.declared.docset.SeekDangerResult.{SeekDangerResult}
+use Rattle.qm_combine.specs.Added.{IsTakenIn}
 use Rattle.qm_combine.specs.declared.union.window.Window.{Window}
+use Rattle.qm_scorer.specs.AnyCombiner.{any_step}
 use Rattle.qm_scorer.specs.Tree.{IsTree, IsTreePlaced, tree_entries, tree_head, tree_top}
-use Rattle.qm_scorer.specs.United.{IsTakenIn}
 use Rattle.qm_scorer.specs.declared.any_combiner.AnyCombiner.{AnyCombiner}
 use Rattle.qm_scorer.specs.declared.any_scorer.AnyScorer.{AnyScorer, size-AnyScorer}
 
@@ -47,7 +48,7 @@ module _ {S : Type 0} (D : Ghosts S) where
     pub valid : IsTree D after
     pub placed : IsTreePlaced D after
     pub depth : size-AnyScorer S after ≤ size-AnyScorer S tree
-    pub taken : IsTakenIn window_before window_after bound (tree_entries D tree)
+    pub taken : IsTakenIn any_step window_before window_after bound (tree_entries D tree)
 
   -- it was asked for its score, and stands and lists as before
   pub record Scored (tree after : AnyScorer S) (given : ℕ) : Type 0 where

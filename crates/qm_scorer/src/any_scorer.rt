@@ -14,7 +14,7 @@ use crate::boost_node::{BoostNode, score_boost};
 use crate::const_node::{ConstNode, score_const};
 use crate::estimates::{Estimate, estimate_tree};
 use crate::exclude_node::{ExcludeNode, danger_exclude, score_exclude, seek_exclude};
-use crate::group_node::{GroupNode, danger_group, score_group, seek_group};
+use crate::group_node::{GroupNode, score_group, seek_group};
 use crate::intersection_node::{
     IntersectionNode, advance_intersection, danger_intersection, score_intersection,
     seek_intersection,
@@ -22,11 +22,11 @@ use crate::intersection_node::{
 use crate::leaves::{danger_leaf, score_leaf, seek_leaf};
 use crate::optional_node::{OptionalNode, score_optional};
 use crate::passing::{advance_tree, count_tree, fill_tree, total_tree};
-use crate::union_node::{UnionNode, danger_union, score_union, seek_union};
+use crate::union_node::{UnionNode, score_union, seek_union};
 use qm_combine::{AllScorer, ConstScorer, EmptyScorer, Scorer};
 use qm_docset::{
     AliveBitSet, BitSetDocSet, COLLECT_BLOCK_BUFFER_LEN, DocId, DocSet, Score, SeekDangerResult,
-    TERMINATED,
+    TERMINATED, seek_answer,
 };
 use qm_phrase::{PhrasePrefixScorer, PhraseScorer};
 use qm_postings::SegmentPostings;
@@ -192,11 +192,22 @@ fn danger_other<'a, S: Scorer>(scorer: &mut AnyScorer<'a, S>, target: DocId) -> 
         AnyScorer::Const(node) => danger_tree(&mut node.inner, target),
         AnyScorer::RequiredOptional(node) => danger_tree(&mut node.required, target),
         AnyScorer::Exclude(node) => danger_exclude(node, target),
-        AnyScorer::Union(node) => danger_union(node, target),
-        AnyScorer::Disjunction(node) => danger_group(node, target),
+        AnyScorer::Union(_) | AnyScorer::Disjunction(_) => danger_by_seek(scorer, target),
         AnyScorer::Intersection(node) => danger_intersection(node, target),
         _ => danger_leaf(scorer, target),
     }
+}
+
+// The same by a seek, of a tree that can tell by nothing less: it is placed in either case.
+#[cycle(moves)]
+#[tactic(auto, using(crate::specs::MoveFacts::moves))]
+fn danger_by_seek<'a, S: Scorer>(scorer: &mut AnyScorer<'a, S>, target: DocId) -> SeekDangerResult
+    requires valid { IsTree S.DocSet scorer.old }
+    requires target { target ≤ TERMINATED }
+    ensures { Answered S.DocSet target scorer.old scorer.new result }
+{
+    let doc = seek_other(scorer, target);
+    seek_answer(target, doc)
 }
 
 // The score of the document that a tree stands on.

@@ -3,7 +3,6 @@
 //! Members' documents stand in a row with the least of each 32, and not in a heap, so no proof goes by permutations.
 
 ghost use Rattle.std.specs.Prelude.{◌≡◌, ◌<◌, ◌≤◌, ◌↔◌, length, map, true};
-ghost use Rattle.qm_docset.specs.Cursor.{IsSeekAnswer};
 ghost use Rattle.qm_docset.specs.Entry.{from, greatest_score, head_document, head_score};
 ghost use Rattle.qm_docset.specs.Gather.{scores_at};
 ghost use Rattle.qm_combine.specs.Union.{least_head};
@@ -16,7 +15,7 @@ use crate::any_combiner::AnyCombiner;
 use crate::any_scorer::{AnyScorer, score_tree, seek_tree};
 use crate::least_docs::LeastDocs;
 use qm_combine::{AllScorer, ConstScorer, ScoreCombiner, Scorer};
-use qm_docset::{DocId, Score, SeekDangerResult, TERMINATED};
+use qm_docset::{DocId, Score, TERMINATED};
 
 /// Which documents a group lists, what it makes of their scores, and the bound on that.
 #[derive(Clone, Copy, Debug)]
@@ -117,30 +116,6 @@ pub(crate) fn seek_group<'a, S: Scorer>(node: &mut GroupNode<'a, S>, target: Doc
         node.current = next_match(node, target);
     }
     node.current
-}
-
-// Drops what lies below the target, and says whether the target is the first that is left. The node
-// is placed in either case.
-#[cycle(moves)]
-#[tactic(auto, using(crate::specs::MoveFacts::moves))]
-pub(crate) fn danger_group<'a, S: Scorer>(
-    node: &mut GroupNode<'a, S>,
-    target: DocId,
-) -> SeekDangerResult
-    requires valid { IsGroupNode S.DocSet node.old }
-    requires target { target ≤ TERMINATED }
-    ensures answer { IsSeekAnswer target (group_entries S.DocSet node.new) result }
-    ensures entries { group_entries S.DocSet node.new ≡ from target (group_entries S.DocSet node.old) }
-    ensures valid { IsGroupNode S.DocSet node.new }
-    ensures shape { node.new.shape ≡ node.old.shape }
-    ensures depth { size-GroupNode _ node.new ≤ size-GroupNode _ node.old }
-{
-    let doc = seek_group(node, target);
-    if doc == target && target < TERMINATED {
-        SeekDangerResult::Found
-    } else {
-        SeekDangerResult::SeekLowerBound(doc)
-    }
 }
 
 // Hands a score to a combiner.

@@ -4,16 +4,16 @@
 //! are one cycle of calls.
 
 ghost use Rattle.std.specs.Prelude.{◌≡◌, ◌<◌, ◌≤◌, ℕ, map, true};
-ghost use Rattle.qm_docset.specs.Cursor.{IsSeekAnswer};
 ghost use Rattle.qm_docset.specs.Entry.{from, greatest_score, head_document, head_score};
 ghost use Rattle.qm_docset.specs.Gather.{gather};
+ghost use Rattle.qm_combine.specs.Added.{IsAdded};
 ghost use Rattle.qm_combine.specs.Combiner.{HasRoomFor, IsCleared};
 ghost use Rattle.qm_combine.specs.Union.{least_head, total_top};
 ghost use Rattle.qm_combine.specs.Window.{IsUntil, window_combiner, window_end, window_has, window_start, window_state};
 ghost use Rattle.qm_scorer.specs.AnyCombiner.{any_cleared, any_combined, any_step};
 ghost use Rattle.qm_scorer.specs.Moves.{Swept};
 ghost use Rattle.qm_scorer.specs.Tree.{HasUnionParts, IsTree, IsTreePlaced, tree_entries, tree_top};
-ghost use Rattle.qm_scorer.specs.United.{AreMembersStanding, IsAdded, IsUnionNode, union_limits, union_list, union_lists, union_shown};
+ghost use Rattle.qm_scorer.specs.United.{AreMembersStanding, IsUnionNode, union_limits, union_list, union_lists, union_shown};
 ghost use Rattle.qm_scorer.specs.UnitedFacts.{union-going};
 ghost use Rattle.qm_scorer.specs.declared.any_scorer.AnyScorer.{size-AnyScorer};
 ghost use Rattle.qm_scorer.specs.declared.union_node.UnionNode.{size-UnionNode};
@@ -22,7 +22,7 @@ use crate::any_combiner::AnyCombiner;
 use crate::any_scorer::{AnyScorer, doc_tree, reach_tree, score_tree, seek_tree};
 use crate::leaves::{is_leaf, take_leaf};
 use qm_combine::{SEEK_SPAN, Scorer, Window, WindowedUnion};
-use qm_docset::{DocId, Score, SeekDangerResult, TERMINATED};
+use qm_docset::{DocId, Score, TERMINATED};
 
 /// The documents that any of its members has, each with what a combiner makes of the members' scores
 /// there.
@@ -138,7 +138,7 @@ fn take_document<'a, S: Scorer>(
     ensures valid { IsTree S.DocSet member.new }
     ensures placed { IsTreePlaced S.DocSet member.new }
     ensures depth { size-AnyScorer _ member.new ≤ size-AnyScorer _ member.old }
-    ensures added { IsAdded window.old window.new doc (head_score (tree_entries S.DocSet member.old)) }
+    ensures added { IsAdded any_step window.old window.new doc (head_score (tree_entries S.DocSet member.old)) }
 {
     if window.keeps_no_states() {
         window.mark(doc);
@@ -256,30 +256,6 @@ pub(crate) fn seek_union<'a, S: Scorer>(node: &mut UnionNode<'a, S>, target: Doc
     }
     node.ahead = reach_each(node, target);
     go_on(node, SEEK_SPAN)
-}
-
-// Drops what lies below the target, and says whether the target is the first that is left. The node
-// is placed in either case.
-#[cycle(moves)]
-#[tactic(auto, using(crate::specs::MoveFacts::moves))]
-pub(crate) fn danger_union<'a, S: Scorer>(
-    node: &mut UnionNode<'a, S>,
-    target: DocId,
-) -> SeekDangerResult
-    requires valid { IsUnionNode S.DocSet node.old }
-    requires target { target ≤ TERMINATED }
-    ensures answer { IsSeekAnswer target (union_list S.DocSet node.new) result }
-    ensures entries { union_list S.DocSet node.new ≡ from target (union_list S.DocSet node.old) }
-    ensures valid { IsUnionNode S.DocSet node.new }
-    ensures top { node.new.top ≡ node.old.top }
-    ensures depth { size-UnionNode _ node.new ≤ size-UnionNode _ node.old }
-{
-    let doc = seek_union(node, target);
-    if doc == target && target < TERMINATED {
-        SeekDangerResult::Found
-    } else {
-        SeekDangerResult::SeekLowerBound(doc)
-    }
 }
 
 // The score of the node's document.

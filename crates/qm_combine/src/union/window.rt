@@ -14,7 +14,7 @@ ghost use Rattle.qm_docset.specs.TinySet.{tiny_has, tiny_members};
 ghost use Rattle.qm_docset.specs.Words.{words_have};
 ghost use Rattle.qm_docset.specs.declared.numbers.TheConstants.{TERMINATED};
 ghost use Rattle.std.specs.List.{list_any};
-ghost use Rattle.qm_combine.specs.WindowStates.{last_or, state_of_place};
+ghost use Rattle.qm_combine.specs.WindowStates.{last_or, place_state};
 
 use crate::all_scorer::AllScorer;
 use crate::const_scorer::ConstScorer;
@@ -58,8 +58,8 @@ pub struct Window<C> {
 
 impl<C: ScoreCombiner> Window<C> {
     ghost use Rattle.std.specs.Prelude.{◌≤ℤ◌, nat_abs, false, true, pos, slice_get, IfOk, IsOkUnless};
-    ghost use Rattle.std.specs.List.{fold};
     ghost use Rattle.qm_docset.specs.Entry.{from};
+    ghost use Rattle.qm_combine.specs.Added.{IsAdded, IsTakenIn};
     ghost use Rattle.qm_combine.specs.Combiner.{HasRoomFor};
     ghost use Rattle.qm_combine.specs.Windowed.{scores_of};
     ghost use Rattle.qm_combine.specs.Window.{IsUntil, KeepsNoStates, window_combiner, window_end, window_from, window_has};
@@ -150,12 +150,7 @@ impl<C: ScoreCombiner> Window<C> {
         requires span { (window_start self.old ≤ doc) × (doc < window_end self.old) }
         requires score { pos 0 ≤ℤ score }
         requires room { C.has_room (window_state self.old doc) (nat_abs score) }
-        ensures start { window_start self.new ≡ window_start self.old }
-        ensures documents { (d : ℕ) → window_has self.new d ≡ (d == doc || window_has self.old d) }
-        ensures state { window_state self.new doc ≡ C.step (window_state self.old doc) (nat_abs score) }
-        ensures others { (d : ℕ) → d ≢ doc → window_state self.new d ≡ window_state self.old d }
-        ensures until { IsUntil self.old → IsUntil self.new }
-        ensures combiner { window_combiner self.new ≡ window_combiner self.old }
+        ensures { IsAdded C.step self.old self.new doc (nat_abs score) }
     {
         if self.keeps_no_states() {
             self.mark(doc);
@@ -185,12 +180,7 @@ impl<C: ScoreCombiner> Window<C> {
     pub fn mark(&mut self, doc: DocId)
         requires span { (window_start self.old ≤ doc) × (doc < window_end self.old) }
         requires stateless { KeepsNoStates C.step self.old }
-        ensures start { window_start self.new ≡ window_start self.old }
-        ensures documents { (d : ℕ) → window_has self.new d ≡ (d == doc || window_has self.old d) }
-        ensures state { (score : ℕ) → window_state self.new doc ≡ C.step (window_state self.old doc) score }
-        ensures others { (d : ℕ) → d ≢ doc → window_state self.new d ≡ window_state self.old d }
-        ensures until { IsUntil self.old → IsUntil self.new }
-        ensures combiner { window_combiner self.new ≡ window_combiner self.old }
+        ensures added { (score : ℕ) → IsAdded C.step self.old self.new doc score }
         ensures stateless { KeepsNoStates C.step self.new }
     {
         self.last = self.last.max(doc);
@@ -210,14 +200,7 @@ impl<C: ScoreCombiner> Window<C> {
         requires room { (d : ℕ) → HasRoomFor C.step C.cleared (S.limits scorer.old).top (window_state self.old d) }
         ensures head { result ≡ head_document (S.entries scorer.new) }
         ensures left { Lists S.DocSet scorer.new (from bound (S.entries scorer.old)) (S.limits scorer.old) }
-        ensures documents { (d : ℕ) → d < bound →
-            window_has self.new d ≡ (window_has self.old d || nat_le 1 (length (scores_of d (S.entries scorer.old)))) }
-        ensures beyond { (d : ℕ) → bound ≤ d → window_has self.new d ≡ window_has self.old d }
-        ensures states { (d : ℕ) → d < bound →
-            window_state self.new d ≡ fold C.step (window_state self.old d) (scores_of d (S.entries scorer.old)) }
-        ensures start { window_start self.new ≡ window_start self.old }
-        ensures until { IsUntil self.old → IsUntil self.new }
-        ensures combiner { window_combiner self.new ≡ window_combiner self.old }
+        ensures taken { IsTakenIn C.step self.old self.new bound (S.entries scorer.old) }
     {
         if self.keeps_no_states() {
             return self.mark_in(scorer, bound);
@@ -521,12 +504,12 @@ fn put<S: Scorer, C: ScoreCombiner>(
     requires states { 4096 ≤ vec_capacity states.old }
     requires scorer { IsPlaced S.DocSet scorer.old }
     requires here { head_document (S.entries scorer.old) < TERMINATED }
-    requires room { C.has_room (state_of_place buckets.old states.old.items cleared place) (S.limits scorer.old).top }
+    requires room { C.has_room (place_state buckets.old states.old.items cleared place) (S.limits scorer.old).top }
     ensures documents { (x : ℕ) → words_have buckets.new x ≡ (x == place || words_have buckets.old x) }
-    ensures state { state_of_place buckets.new states.new.items cleared place
-        ≡ C.step (state_of_place buckets.old states.old.items cleared place) (head_score (S.entries scorer.old)) }
+    ensures state { place_state buckets.new states.new.items cleared place
+        ≡ C.step (place_state buckets.old states.old.items cleared place) (head_score (S.entries scorer.old)) }
     ensures others { (x : ℕ) → x ≢ place →
-        state_of_place buckets.new states.new.items cleared x ≡ state_of_place buckets.old states.old.items cleared x }
+        place_state buckets.new states.new.items cleared x ≡ place_state buckets.old states.old.items cleared x }
     ensures room { 4096 ≤ vec_capacity states.new }
     ensures left { Lists S.DocSet scorer.new (S.entries scorer.old) (S.limits scorer.old) }
 {

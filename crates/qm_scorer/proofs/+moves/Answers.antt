@@ -8,11 +8,11 @@ use Rattle.std.proofs.lemmas.List.{get_or-set_same, length-map, length-set, take
 use Rattle.std.proofs.lemmas.List.Elements.{All-push, All-set, All-get_or}
 use Rattle.qm_docset.specs.Cursor.{IsSeekAnswer}
 use Rattle.qm_docset.specs.Entry.{Limits, from, head_document, head_score, Entry, greatest_score}
+use Rattle.qm_docset.specs.CursorFacts.{head_document-reached}
 use Rattle.qm_docset.specs.EntryFacts.{from-from, from-next, from-reached, head_document-bounds, AreEntries-from_low}
 use Rattle.qm_docset.specs.Exclusion.{has_document}
 use Rattle.qm_docset.specs.Gather.{common_entries, scores_at, gather}
 use Rattle.qm_docset.specs.RowFacts.{from-row}
-use Rattle.qm_docset.specs.declared.docset.SeekDangerResult.TheVariants.{SeekLowerBound}
 use Rattle.qm_docset.specs.declared.numbers.TheConstants.{TERMINATED}
 use Rattle.qm_docset.proofs.ExclusionLemmas.{has_document-before, has_document-head}
 use Rattle.qm_docset.proofs.Gathering.{head_document-from}
@@ -28,7 +28,7 @@ use Rattle.qm_combine.proofs.Leading.{IsSeekAnswer-shared, common_entries-caught
 use Rattle.qm_combine.proofs.Leading.{head_document-together, leader_bound-common_entries, head_score-together}
 use Rattle.qm_combine.proofs.Uniting.{least_head-push, least_head-most, scores_at-more}
 use Rattle.qm_term.specs.TermScorer.{scored_left}
-use Rattle.qm_scorer.specs.Group.{IsGroupNode, group_entries, group_lists}
+use Rattle.qm_scorer.specs.Group.{IsGroupNode, group_lists}
 use Rattle.qm_scorer.specs.Tree.{AreMemberHeads, HasRoom, IsTree, IsTreePlaced, tree_entries, tree_limits}
 use Rattle.qm_scorer.specs.Tree.{HasUnionParts, kept_score, tree_head}
 use Rattle.qm_scorer.specs.Tree.{tree_top, union_listing}
@@ -58,26 +58,22 @@ use Rattle.qm_combine.specs.Window.{window_combiner, window_end, window_has}
 use Rattle.qm_combine.proofs.Standing.{answers_first, answers_none, goes_next, goes_on, goes_past}
 use Rattle.qm_combine.proofs.TakenIn.{from-all_passed, next-past, step_min}
 use Rattle.qm_combine.proofs.Windows.{windowed-ended}
+use Rattle.qm_combine.specs.Added.{IsAdded}
 use Rattle.qm_scorer.specs.AnyCombiner.{any_cleared, any_combined, AnyHasRoom, any_step}
 use Rattle.qm_scorer.specs.Bare.{scores_to}
-use Rattle.qm_scorer.specs.United.{IsUnionNode, union_limits, union_list, union_lists}
-use Rattle.qm_scorer.specs.declared.union_node.UnionNode.{UnionNode, size-UnionNode, size_is-UnionNode}
+use Rattle.qm_scorer.specs.United.{IsUnionNode, union_limits, union_lists}
 use Rattle.qm_scorer.proofs.Refilling.{IsRefilling, refilled-behind, refilled-entries, refilled-here, refilling-first, refilling-more, refilling-none}
 use Rattle.qm_scorer.proofs.Refilling.{refilling-room}
 use Rattle.qm_scorer.proofs.Taking.{room-for, taken-next, taken_to-all, taken_to-more, taken_to-none}
 use Rattle.qm_scorer.proofs.Uniting.{cut_twice, parts-same, union_listing-made}
-use Rattle.qm_scorer.proofs.+moves.Goals.{group_node::danger_group-else-doc-target-via-else-doc-target}
-use Rattle.qm_scorer.proofs.+moves.Goals.{group_node::danger_group-else-doc-target-via-then-doc-target+else-target-lt-TERMINATED}
 use Rattle.qm_scorer.proofs.+moves.Goals.{group_node::seek_group-else-node-target, group_node::seek_group-then-node-target}
-use Rattle.qm_scorer.proofs.+moves.Goals.{union_node::danger_union-else-doc-target-via-else-doc-target}
-use Rattle.qm_scorer.proofs.+moves.Goals.{union_node::danger_union-else-doc-target-via-then-doc-target+else-target-lt-TERMINATED}
 use Rattle.std.specs.List.{sum}
 use Rattle.std.proofs.lemmas.List.Sums.{fold-append, sum_by-cons, sum_by_more}
 use Rattle.qm_scorer.specs.MoveFacts.{head_score-bounded}
 use Rattle.qm_combine.specs.Rescored.{with_optional}
 use Rattle.qm_combine.proofs.OptionalScores.{scores_at-passed, scores_at-reached, with_optional-reached}
 use Rattle.qm_scorer.specs.AnyCombinerFacts.{any-taken}
-use Rattle.qm_scorer.specs.declared.group_node.GroupNode.{GroupNode, size-GroupNode}
+use Rattle.qm_scorer.specs.declared.group_node.GroupNode.{GroupNode}
 use Rattle.qm_scorer.proofs.GroupScores.{group-kept, group-score, room-next}
 use Rattle.qm_scorer.proofs.ScoreArms.{asked-Boost, asked-Const, asked-Exclude, asked-RequiredOptional, score_fits, scored-Boost, scored-Const}
 use Rattle.qm_scorer.proofs.ScoreArms.{scored-Disjunction, scored-Exclude, scored-Intersection, scored-RequiredOptional, scored-Union, scored-as, scored-leaf}
@@ -465,39 +461,6 @@ group_node::seek_group-returns g t c =
           rw w.node-is (record { head = c.requires.valid.own.first; entries = there; valid = c.requires.valid; shape = refl; depth = omega arith })
     ]
 
-pub group_node::danger_group-returns-then-target-lt-TERMINATED : goal.group_node::danger_group-returns-then-target-lt-TERMINATED
-group_node::danger_group-returns-then-target-lt-TERMINATED g t c =
-    let sought = c.seek_group-doc.ensures in
-    record {
-      answer = record { below_end = c.if-target-lt-TERMINATED.true; here = sym sought.head ∙ c.if-doc-target.true };
-      entries = sought.entries;
-      valid = sought.valid;
-      shape = sought.shape;
-      depth = sought.depth;
-    }
-
-pub group_node::danger_group-returns-else-doc-target : goal.group_node::danger_group-returns-else-doc-target
-group_node::danger_group-returns-else-doc-target g t c =
-    let sought = c.seek_group-doc.ensures in
-    let head = sought.head in
-    let bounds = head_document-bounds 0 _ _ (omega arith) sought.valid.own.bounded.entries in
-    let past : c.args.target ≤ c.seek_group-doc.result =
-    omega (arith, head, ap head_document sought.entries, head_document-from c.args.target (group_entries g.S.DocSet c.args.node.now) c.requires.target) in
-    let answer : IsSeekAnswer c.args.target (group_entries g.S.DocSet c.seek_group-doc.new.node) (SeekLowerBound c.seek_group-doc.result) =
-    elim c.else-doc-target.branch [
-      | group_node::danger_group-else-doc-target-via-then-doc-target+else-target-lt-TERMINATED w ↦ record {
-        before_all = omega (arith, head);
-        past = λ below. absurd (omega (arith, w.if-target-lt-TERMINATED.false));
-        at_end = λ ended. omega (arith, head, past, bounds.1);
-      }
-      | group_node::danger_group-else-doc-target-via-else-doc-target w ↦ record {
-        before_all = omega (arith, head);
-        past = λ below. omega (arith, past, w.if-doc-target.false);
-        at_end = λ ended. omega (arith, head, past, bounds.1);
-      }
-    ] in
-    record { answer = answer; entries = sought.entries; valid = sought.valid; shape = sought.shape; depth = sought.depth }
-
 -- ---- a tree that is taken through a window
 
 pub union_node::take_tree-returns-in-Term : goal.union_node::take_tree-returns-in-Term
@@ -506,7 +469,7 @@ union_node::take_tree-returns-in-Term g t c =
     swept-leaf g.S.DocSet Term (λ s. scored_left s.value) (λ _. refl)
     (same-Term g.row.S.Denot) c.args.window.now c.take_in.new.self c.args.bound c.take_in.result c.in-Term.leaf c.take_in.new.scorer
     c.in-Term.leaf-is c.in-Term.is e.head e.left.entries (ap (λ (l : Limits). l.top) e.left.limits) e.left.valid e.left.placed
-    (record { documents = e.documents; beyond = e.beyond; states = e.states; start = e.start; until = e.until; combiner = e.combiner }) (search rules)
+    e.taken (search rules)
 
 pub union_node::take_by_steps-loop-doc-init : goal.union_node::take_by_steps-loop-doc-init
 union_node::take_by_steps-loop-doc-init g t c =
@@ -590,8 +553,7 @@ union_node::take_by_steps-loop-doc-preserved g t c =
 
 pub union_node::take_document-returns-then-keeps_no_states-clause-added : goal.union_node::take_document-returns-then-keeps_no_states-clause-added
 union_node::take_document-returns-then-keeps_no_states-clause-added g t c =
-    let e = c.mark.ensures in
-    record { documents = e.documents; state = e.state _; others = e.others; start = e.start; until = e.until; combiner = e.combiner }
+    c.mark.ensures.added _
 
 pub union_node::take_document-add-requires-clause-room : goal.union_node::take_document-add-requires-clause-room
 union_node::take_document-add-requires-clause-room g t c =
@@ -604,16 +566,8 @@ union_node::take_document-add-requires-clause-room g t c =
 
 pub union_node::take_document-returns-else-keeps_no_states-clause-added : goal.union_node::take_document-returns-else-keeps_no_states-clause-added
 union_node::take_document-returns-else-keeps_no_states-clause-added g t c =
-    let e = c.add.ensures in
     let score = ap nat_abs (to_z_pos w64 c.score_tree-score.result (omega (arith, c.score_tree-score.ensures.fits))) ∙ c.score_tree-score.ensures.score in
-    record {
-      documents = e.documents;
-      state = e.state ∙ ap (any_step _) score;
-      others = e.others;
-      start = e.start;
-      until = e.until;
-      combiner = e.combiner;
-    }
+    subst (IsAdded any_step c.args.window.now _ c.args.doc) score c.add.ensures
 
 pub union_node::take_by_steps-returns-else-doc-lt-TERMINATED : goal.union_node::take_by_steps-returns-else-doc-lt-TERMINATED
 union_node::take_by_steps-returns-else-doc-lt-TERMINATED g t c =
@@ -957,39 +911,6 @@ union_node::seek_union-returns-clause-entries g t c =
     ∙ goes_past 1 (omega arith) (window_has n.window) (kept_score n.window) n.doc n.ahead (any_combined (window_combiner n.window))
     (united_limits (union_limits D n)) _ _ members h.standing c.args.target _ _ after (omega (arith, c.if-target-node.false))
     (answers_none n.window c.args.target c.in_default.ensures) reached kept
-
-pub union_node::danger_union-returns-then-target-lt-TERMINATED : goal.union_node::danger_union-returns-then-target-lt-TERMINATED
-union_node::danger_union-returns-then-target-lt-TERMINATED g t c =
-    let sought = c.seek_union-doc.ensures in
-    record {
-      answer = record { below_end = c.if-target-lt-TERMINATED.true; here = sym sought.head ∙ c.if-doc-target.true };
-      entries = sought.entries;
-      valid = sought.valid;
-      top = sought.top;
-      depth = sought.depth;
-    }
-
-pub union_node::danger_union-returns-else-doc-target : goal.union_node::danger_union-returns-else-doc-target
-union_node::danger_union-returns-else-doc-target g t c =
-    let sought = c.seek_union-doc.ensures in
-    let head = sought.head in
-    let bounds = head_document-bounds 0 _ _ (omega arith) sought.valid.own.standing.ascending in
-    let past : c.args.target ≤ c.seek_union-doc.result = omega
-    (arith, head, ap head_document sought.entries, head_document-from c.args.target (union_list g.S.DocSet c.args.node.now) c.requires.target) in
-    let answer : IsSeekAnswer c.args.target (union_list g.S.DocSet c.seek_union-doc.new.node) (SeekLowerBound c.seek_union-doc.result) =
-    elim c.else-doc-target.branch [
-      | union_node::danger_union-else-doc-target-via-then-doc-target+else-target-lt-TERMINATED w ↦ record {
-        before_all = omega (arith, head);
-        past = λ below. absurd (omega (arith, w.if-target-lt-TERMINATED.false));
-        at_end = λ ended. omega (arith, head, past, bounds.1);
-      }
-      | union_node::danger_union-else-doc-target-via-else-doc-target w ↦ record {
-        before_all = omega (arith, head);
-        past = λ below. omega (arith, past, w.if-doc-target.false);
-        at_end = λ ended. omega (arith, head, past, bounds.1);
-      }
-    ] in
-    record { answer = answer; entries = sought.entries; valid = sought.valid; top = sought.top; depth = sought.depth }
 
 -- ---- intersections
 
@@ -1368,25 +1289,23 @@ any_scorer::danger_other-returns-in-Exclude g t c =
     (rw (c.in-Exclude.is, outs-Exclude node) refl) moved c.danger_exclude.ensures.answer
     (both_found _ _ c.danger_exclude.result c.danger_exclude.ensures.placed c.danger_exclude.ensures.kept)
 
-pub any_scorer::danger_other-danger_group-requires : goal.any_scorer::danger_other-danger_group-requires
-any_scorer::danger_other-danger_group-requires g t c κs within =
-    let node = c.in-Disjunction.node in
-    let value = rw (c.in-Disjunction.is, outs-Disjunction c.in-Disjunction.node) at c.deref_mut-in-Disjunction.ensures.value in
-    let opened =
-    subst (IsGroupNode g.S.DocSet) (sym value) (opened-Disjunction g.S.DocSet node (subst (IsTree g.S.DocSet) c.in-Disjunction.is c.requires.valid)) in
-    (search (rules, aq.the_lemmas), (search rules, (opened, c.requires.target)))
+pub any_scorer::danger_by_seek-seek_answer-requires : goal.any_scorer::danger_by_seek-seek_answer-requires
+any_scorer::danger_by_seek-seek_answer-requires g t c =
+    let sought = c.seek_other-doc.ensures in
+    let ascends = tree-ascends g.S.DocSet g.met.S.DocSet.ascending c.args.scorer.now c.requires.valid in
+    rw (sought.head, sought.entries) (head_document-reached c.args.target 0 _ _ c.requires.target ascends)
 
-pub any_scorer::danger_other-returns-in-Disjunction : goal.any_scorer::danger_other-returns-in-Disjunction
-any_scorer::danger_other-returns-in-Disjunction g t c =
-    let node = c.in-Disjunction.node in
-    let lent = rw (c.in-Disjunction.is, outs-Disjunction node) at c.deref_mut-in-Disjunction.ensures.value in
-    let new = record node { value = c.danger_group.new.node } in
-    let moved = moved-Disjunction g.S.DocSet c.args.target node c.danger_group.new.node lent c.danger_group.ensures.entries
-    c.danger_group.ensures.valid c.danger_group.ensures.shape c.danger_group.ensures.depth in
-    answered-as g.S.DocSet c.args.target c.danger_group.result (Disjunction node) (Disjunction new) c.in-Disjunction.is
-    (rw (c.in-Disjunction.is, outs-Disjunction node) refl) moved
-    (subst (λ es. IsSeekAnswer c.args.target es c.danger_group.result) (sym (entries-Disjunction g.S.DocSet new)) c.danger_group.ensures.answer)
-    (on_found c.danger_group.result (λ _. tt))
+pub any_scorer::danger_by_seek-returns : goal.any_scorer::danger_by_seek-returns
+any_scorer::danger_by_seek-returns g t c =
+    let sought = c.seek_other-doc.ensures in
+    record {
+      answer = c.seek_answer.ensures _ (sym sought.head);
+      entries = sought.entries;
+      top = sought.top;
+      valid = sought.valid;
+      placed = on_found c.seek_answer.result (λ _. sought.placed);
+      depth = sought.depth;
+    }
 
 pub any_scorer::danger_other-danger_intersection-requires : goal.any_scorer::danger_other-danger_intersection-requires
 any_scorer::danger_other-danger_intersection-requires g t c κs within =
@@ -1424,24 +1343,6 @@ any_scorer::seek_other-returns-in-Union g t c =
     c.seek_union.ensures.valid c.seek_union.ensures.top c.seek_union.ensures.depth in
     sought-as g.S.DocSet c.args.target c.seek_union.result (Union node) (Union new) c.in-Union.is (rw (c.in-Union.is, outs-Union node) refl) moved
     (c.seek_union.ensures.head ∙ sym (ap head_document (entries-Union g.S.DocSet new))) tt
-
-pub any_scorer::danger_other-danger_union-requires : goal.any_scorer::danger_other-danger_union-requires
-any_scorer::danger_other-danger_union-requires g t c κs within =
-    let node = c.in-Union.node in
-    let value = rw (c.in-Union.is, outs-Union c.in-Union.node) at c.deref_mut-in-Union.ensures.value in
-    let opened = subst (IsUnionNode g.S.DocSet) (sym value) (opened-Union g.S.DocSet node (subst (IsTree g.S.DocSet) c.in-Union.is c.requires.valid)) in
-    (search (rules, aq.the_lemmas), (search rules, (opened, c.requires.target)))
-
-pub any_scorer::danger_other-returns-in-Union : goal.any_scorer::danger_other-returns-in-Union
-any_scorer::danger_other-returns-in-Union g t c =
-    let node = c.in-Union.node in
-    let lent = rw (c.in-Union.is, outs-Union node) at c.deref_mut-in-Union.ensures.value in
-    let new = record node { value = c.danger_union.new.node } in
-    let moved = moved-Union g.S.DocSet c.args.target node c.danger_union.new.node lent c.danger_union.ensures.entries
-    c.danger_union.ensures.valid c.danger_union.ensures.top c.danger_union.ensures.depth in
-    answered-as g.S.DocSet c.args.target c.danger_union.result (Union node) (Union new) c.in-Union.is (rw (c.in-Union.is, outs-Union node) refl) moved
-    (subst (λ es. IsSeekAnswer c.args.target es c.danger_union.result) (sym (entries-Union g.S.DocSet new)) c.danger_union.ensures.answer)
-    (on_found c.danger_union.result (λ _. tt))
 
 -- ---- scores
 

@@ -8,8 +8,8 @@ use Rattle.qm_docset.proofs.PlacesLeft.{below_least, below_up_to, count_left}
 use Rattle.qm_postings.proofs.end_below.end_below.Goals as goal
 use Rattle.qm_postings.proofs.end_below.end_below.Goals.{then-most-eq0-via-then-most-eq0, then-most-eq0-via-else-most-eq0+then-docs-end}
 
-pub returns-then-most-eq0-clause-count : goal.returns-then-most-eq0-clause-count
-returns-then-most-eq0-clause-count c = λ es limits named entries.
+pub returns-then-most-eq0-clause-place : goal.returns-then-most-eq0-clause-place
+returns-then-most-eq0-clause-place c = λ es limits named entries.
     let start = c.args.start in
     let docs = c.args.docs.now in
     let few = length-below-most c.args.bound (drop start es) in
@@ -28,8 +28,8 @@ returns-then-most-eq0-clause-count c = λ es limits named entries.
           omega (arith, few, all, least, c.min-most.ensures)
     ]
 
-pub returns-clause-count : goal.returns-clause-count
-returns-clause-count c = λ es limits named entries.
+pub returns-clause-place : goal.returns-clause-place
+returns-clause-place c = λ es limits named entries.
     let start = c.args.start in
     let docs = c.args.docs.now in
     let found = c.gallop.ensures in

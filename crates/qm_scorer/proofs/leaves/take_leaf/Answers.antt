@@ -20,14 +20,14 @@ returns-in-Empty g c =
     swept-leaf g.S.DocSet Empty (λ _. []) (λ _. sym bare-nil)
     (same-Empty g.row.S.Denot) c.args.window.now c.take_in.new.self c.args.bound c.take_in.result c.in-Empty.leaf c.take_in.new.scorer
     c.in-Empty.leaf-is c.in-Empty.is e.head e.left.entries refl tt tt
-    (record { documents = e.documents; beyond = e.beyond; states = e.states; start = e.start; until = e.until; combiner = e.combiner }) (search rules)
+    e.taken (search rules)
 
 pub returns-in-All : goal.returns-in-All
 returns-in-All g c =
     let e = c.take_in-in-All.ensures in
     swept-leaf g.S.DocSet Every all_left (λ _. refl) (same-All g.row.S.Denot) c.args.window.now c.take_in-in-All.new.self c.args.bound
     c.take_in-in-All.result c.in-All.leaf c.take_in-in-All.new.scorer c.in-All.leaf-is c.in-All.is e.head e.left.entries refl e.left.valid e.left.placed
-    (record { documents = e.documents; beyond = e.beyond; states = e.states; start = e.start; until = e.until; combiner = e.combiner }) (search rules)
+    e.taken (search rules)
 
 pub returns-in-Own : goal.returns-in-Own
 returns-in-Own g c =
@@ -35,7 +35,7 @@ returns-in-Own g c =
     swept-leaf g.S.DocSet Own g.S.DocSet.entries (λ _. refl)
     (same-Own g.row.S.Denot) c.args.window.now c.take_in-in-Own.new.self c.args.bound c.take_in-in-Own.result c.in-Own.leaf c.take_in-in-Own.new.scorer
     c.in-Own.leaf-is c.in-Own.is e.head e.left.entries (ap (λ (l : Limits). l.top) e.left.limits) e.left.valid e.left.placed
-    (record { documents = e.documents; beyond = e.beyond; states = e.states; start = e.start; until = e.until; combiner = e.combiner }) (search rules)
+    e.taken (search rules)
 
 pub returns-in-Term : goal.returns-in-Term
 returns-in-Term g c =
@@ -44,7 +44,7 @@ returns-in-Term g c =
     (same-Term g.row.S.Denot) c.args.window.now c.take_in-in-Term.new.self c.args.bound c.take_in-in-Term.result
     c.in-Term.leaf (record c.in-Term.leaf { value = c.take_in-in-Term.new.scorer }) (boxed c.in-Term.leaf c.deref_mut.ensures.value c.in-Term.leaf-is) c.in-Term.is e.head e.left.entries
     (ap (λ (l : Limits). l.top) e.left.limits) e.left.valid e.left.placed
-    (record { documents = e.documents; beyond = e.beyond; states = e.states; start = e.start; until = e.until; combiner = e.combiner }) (search rules)
+    e.taken (search rules)
 
 pub returns-in-BitSet : goal.returns-in-BitSet
 returns-in-BitSet g c =
@@ -53,7 +53,7 @@ returns-in-BitSet g c =
     (same-BitSet g.row.S.Denot) c.args.window.now c.take_in-in-BitSet.new.self c.args.bound c.take_in-in-BitSet.result
     c.in-BitSet.leaf (record c.in-BitSet.leaf { value = c.take_in-in-BitSet.new.scorer }) (boxed c.in-BitSet.leaf c.deref_mut-in-BitSet.ensures.value c.in-BitSet.leaf-is) c.in-BitSet.is e.head e.left.entries
     (ap (λ (l : Limits). l.top) e.left.limits) e.left.valid e.left.placed
-    (record { documents = e.documents; beyond = e.beyond; states = e.states; start = e.start; until = e.until; combiner = e.combiner }) (search rules)
+    e.taken (search rules)
 
 pub returns-in-Phrase : goal.returns-in-Phrase
 returns-in-Phrase g c =
@@ -62,7 +62,7 @@ returns-in-Phrase g c =
     (same-Phrase g.row.S.Denot) c.args.window.now c.take_in-in-Phrase.new.self c.args.bound c.take_in-in-Phrase.result
     c.in-Phrase.leaf (record c.in-Phrase.leaf { value = c.take_in-in-Phrase.new.scorer }) (boxed c.in-Phrase.leaf c.deref_mut-in-Phrase.ensures.value c.in-Phrase.leaf-is) c.in-Phrase.is e.head e.left.entries
     (ap (λ (l : Limits). l.top) e.left.limits) e.left.valid e.left.placed
-    (record { documents = e.documents; beyond = e.beyond; states = e.states; start = e.start; until = e.until; combiner = e.combiner }) (search rules)
+    e.taken (search rules)
 
 pub returns-in-PhrasePrefix : goal.returns-in-PhrasePrefix
 returns-in-PhrasePrefix g c =
@@ -71,7 +71,7 @@ returns-in-PhrasePrefix g c =
     (same-PhrasePrefix g.row.S.Denot) c.args.window.now c.take_in-in-PhrasePrefix.new.self c.args.bound c.take_in-in-PhrasePrefix.result
     c.in-PhrasePrefix.leaf (record c.in-PhrasePrefix.leaf { value = c.take_in-in-PhrasePrefix.new.scorer }) (boxed c.in-PhrasePrefix.leaf c.deref_mut-in-PhrasePrefix.ensures.value c.in-PhrasePrefix.leaf-is) c.in-PhrasePrefix.is e.head e.left.entries
     (ap (λ (l : Limits). l.top) e.left.limits) e.left.valid e.left.placed
-    (record { documents = e.documents; beyond = e.beyond; states = e.states; start = e.start; until = e.until; combiner = e.combiner }) (search rules)
+    e.taken (search rules)
 
 pub unreachable-requires : goal.unreachable-requires
 unreachable-requires g c =

@@ -116,15 +116,15 @@ loop-member-preserved g c =
         c.take_in.ensures.head,
         c.min-least.ensures,
       );
-      start = c.take_in.ensures.start ∙ inv.start;
-      until = c.take_in.ensures.until inv.until;
-      combiner = c.take_in.ensures.combiner ∙ inv.combiner;
-      beyond = λ d past. c.take_in.ensures.beyond d past ∙ inv.beyond d past;
+      start = c.take_in.ensures.taken.start ∙ inv.start;
+      until = c.take_in.ensures.taken.until inv.until;
+      combiner = c.take_in.ensures.taken.combiner ∙ inv.combiner;
+      beyond = λ d past. c.take_in.ensures.taken.beyond d past ∙ inv.beyond d past;
       documents = λ d below.
-          c.take_in.ensures.documents d (omega (arith, inv.start)) ∙ ap (λ b. b || nat_le 1 (length (scores_of d (list x)))) (inv.documents d below)
+          c.take_in.ensures.taken.documents d (omega (arith, inv.start)) ∙ ap (λ b. b || nat_le 1 (length (scores_of d (list x)))) (inv.documents d below)
           ∙ sym (ap (λ (s : List ℕ). nat_le 1 (length s)) (more d) ∙ some-append (scores_at d (take i (map list olds))) (scores_of d (list x)));
       states = λ d below.
-          c.take_in.ensures.states d (omega (arith, inv.start)) ∙ ap (λ s. fold g.C.ScoreCombiner.step s (scores_of d (list x))) (inv.states d below)
+          c.take_in.ensures.taken.states d (omega (arith, inv.start)) ∙ ap (λ s. fold g.C.ScoreCombiner.step s (scores_of d (list x))) (inv.states d below)
           ∙ sym (ap (fold g.C.ScoreCombiner.step (window_combiner c.args.window.now)) (more d)
           ∙ fold-append g.C.ScoreCombiner.step (window_combiner c.args.window.now) (scores_at d (take i (map list olds))) (scores_of d (list x)));
     }

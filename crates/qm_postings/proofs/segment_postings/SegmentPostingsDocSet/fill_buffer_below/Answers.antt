@@ -15,7 +15,7 @@ returns-clause-count c =
     let a = s.arrays in
     let entries = AreEntries-stored s.reading a.max_term_freq a.documents.now (listed a.frequencies) a.positions.now c.requires.valid.arrays.documents
     c.requires.valid.arrays.room in
-    omega (arith, c.end_below-end.ensures.count (stored s.reading a) (postings_limits s) (named s) entries)
+    omega (arith, c.end_below-end.ensures.place (stored s.reading a) (postings_limits s) (named s) entries)
 
 pub returns-clause-documents : goal.returns-clause-documents
 returns-clause-documents c =

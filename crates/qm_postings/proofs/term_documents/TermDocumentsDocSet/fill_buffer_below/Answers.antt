@@ -12,7 +12,7 @@ returns-clause-count c =
     let docs = c.args.self.now.documents.now in
     omega (
       arith,
-      c.end_below-end.ensures.count (map plain docs) no_limits (documents-plain docs) (AreEntries-documents 0 docs c.requires.valid.documents),
+      c.end_below-end.ensures.place (map plain docs) no_limits (documents-plain docs) (AreEntries-documents 0 docs c.requires.valid.documents),
     )
 
 pub returns-clause-documents : goal.returns-clause-documents

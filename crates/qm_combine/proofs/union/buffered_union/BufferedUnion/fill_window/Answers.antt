@@ -161,8 +161,10 @@ module _ (g : Over) (c : After-next_until_last g) where
 
   -- nothing that enough of them had was passed over
   found_none : (result : Option ℕ) → Answer result → IsNone result
-      → gather least made (lists g.S.DocSet row) ≡ gather least made (lists g.S.DocSet c.args.self.now.members.items)
-  found_none None read none = ap (λ xs. gather least made (lists g.S.DocSet xs)) same
+      → gather least (g.C.ScoreCombiner.combined (window_combiner w)) (lists g.S.DocSet row)
+      ≡ gather least made (lists g.S.DocSet c.args.self.now.members.items)
+  found_none None read none = ap (λ k. gather least (g.C.ScoreCombiner.combined k) (lists g.S.DocSet row)) combiner
+      ∙ ap (λ xs. gather least made (lists g.S.DocSet xs)) same
       ∙ sym (windowed-ended least some (window_has w) (kept_score g.C.ScoreCombiner.combined g.C.ScoreCombiner.value w) made _ _ after end before
       (λ d here. omega (arith, behind d here, c.take_members-self.ensures.least)))
       ∙ listed end (omega arith) (λ d past below. answers_none w c.args.self.now.ahead read d past)

@@ -66,13 +66,9 @@ returns-clause-head g c =
 pub returns-clause-left : goal.returns-clause-left
 returns-clause-left g c =
     let at = (goal.at.returns-clause-left g c).After-loop-self in
-    let inv = c.loop-self.invariant in
-    let listed = lists g.S.DocSet c.loop-self.self.members.items in
     record {
-      entries = left g at
-          ∙ ap (λ n. gather (g.L.LeastMembers.least n) (g.C.ScoreCombiner.combined (window_combiner c.loop-self.self.window)) listed) inv.least
-          ∙ ap (λ k. gather (g.L.LeastMembers.least c.args.self.now.least) (g.C.ScoreCombiner.combined k) listed) inv.combiner ∙ inv.left;
-      limits = ap united_limits inv.bounds;
+      entries = left g at ∙ c.loop-self.invariant.left;
+      limits = ap united_limits c.loop-self.invariant.bounds;
       valid = standing g at;
       placed = tt;
     }

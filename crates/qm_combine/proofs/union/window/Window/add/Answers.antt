@@ -1,20 +1,19 @@
 -- A cursor over one document hands the combiner the score.
-use Rattle.std.proofs.Common.{◌≡◌, ◌<◌, ◌-◌, ◌==◌, ◌||◌, [], ◌∷◌, ◌++◌, take, drop, length, nat_abs, ne_eqb, w64, arith, refl, ap, ap₂, sym, subst, ◌∙◌, inl}
+use Rattle.std.proofs.Common.{◌≡◌, ◌<◌, ◌-◌, ◌==◌, ◌||◌, [], ◌∷◌, length, nat_abs, w64, arith, refl, ap, ap₂, sym, subst, ◌∙◌, inl}
 use Rattle.std.proofs.Common.{inr}
-use Rattle.std.proofs.lemmas.Bool.{cases_eq, cases_lt}
+use Rattle.std.proofs.lemmas.Bool.{cases_lt}
 use Rattle.std.proofs.lemmas.Int.{to_z-of_z}
 use Rattle.qm_docset.specs.Entry.{Limits, head_document, head_score}
 use Rattle.qm_docset.specs.declared.numbers.TheConstants.{TERMINATED}
 use Rattle.qm_combine.specs.AllDocuments.{all_from, all_left, one}
 use Rattle.qm_combine.specs.RescoredFacts.{head_document-rescored, head_score-rescored}
 use Rattle.qm_docset.specs.Words.{words_have}
-use Rattle.qm_combine.specs.WindowStates.{state_of_place}
+use Rattle.qm_combine.specs.WindowStates.{place_state}
 use Rattle.qm_combine.specs.Window.{window_has, window_state}
+use Rattle.qm_combine.proofs.Adding.{IsAdded-made}
 use Rattle.qm_combine.proofs.Leading.{whole}
 use Rattle.qm_combine.proofs.WindowWords.{has_at, has_at-put, state_at, state_at-before, state_at-from}
 use Rattle.qm_combine.proofs.union.window.Window.add.Goals as goal
-use Rattle.qm_combine.proofs.union.window.Window.add.Goals.{After-put}
-use Rattle.qm_combine.proofs.union.window.Window.add.Given.{Over}
 
 one_document : all_from 0 1 ≡ one 0 ∷ []
 unfolding all_from
@@ -24,8 +23,8 @@ one_document = refl
 pub mark-requires-clause-stateless : goal.mark-requires-clause-stateless
 mark-requires-clause-stateless g c = c.keeps_no_states.ensures c.if-keeps_no_states.true
 
-pub returns-then-keeps_no_states-clause-state : goal.returns-then-keeps_no_states-clause-state
-returns-then-keeps_no_states-clause-state g c = c.mark.ensures.state _
+pub returns-then-keeps_no_states : goal.returns-then-keeps_no_states
+returns-then-keeps_no_states g c = c.mark.ensures.added _
 
 pub put-requires-clause-here : goal.put-requires-clause-here
 put-requires-clause-here g c =
@@ -39,64 +38,39 @@ pub put-requires-clause-room : goal.put-requires-clause-room
 unfolding window_state window_has
 put-requires-clause-room g c =
     let w = c.args.self.now in
-    let here : window_state w c.args.doc ≡ state_of_place c.as_mut_slice.result.now w.states.items w.combiner (c.args.doc - w.start) =
+    let here : window_state w c.args.doc ≡ place_state c.as_mut_slice.result.now w.states.items w.combiner (c.args.doc - w.start) =
     state_at-from w.start w.buckets.items w.states.items w.combiner c.args.doc c.requires.span.0
-    ∙ ap (λ ws. state_of_place ws w.states.items w.combiner (c.args.doc - w.start)) (sym c.as_mut_slice.ensures.value) in
+    ∙ ap (λ ws. place_state ws w.states.items w.combiner (c.args.doc - w.start)) (sym c.as_mut_slice.ensures.value) in
     let top : nat_abs c.args.score ≡ nat_abs c.new-scorer.result.score =
     sym (ap (λ (l : Limits). l.top) c.new-scorer.ensures.cursor.limits ∙ ap nat_abs (to_z-of_z w64 c.args.score c.ranges.score)) in
-    subst (λ n. g.C.ScoreCombiner.has_room (state_of_place c.as_mut_slice.result.now w.states.items w.combiner (c.args.doc - w.start)) n) top
+    subst (λ n. g.C.ScoreCombiner.has_room (place_state c.as_mut_slice.result.now w.states.items w.combiner (c.args.doc - w.start)) n) top
     (subst (λ s. g.C.ScoreCombiner.has_room s (nat_abs c.args.score)) here c.requires.room)
 
--- what the row of words holds in the end
-words : (g : Over) (c : After-put g)
-    → take c.args.self.now.buckets.len (c.put.new.buckets ++ drop (length c.put.new.buckets) c.args.self.now.buckets.items) ≡ c.put.new.buckets
-words g c = whole c.args.self.now.buckets.len c.put.new.buckets c.args.self.now.buckets.items (c.put.auto.buckets
-    ∙ ap length c.as_mut_slice.ensures.value) c.args.self.now.buckets.ok.0
-
-pub returns-clause-documents : goal.returns-clause-documents
-unfolding window_has
-returns-clause-documents g c = λ d.
-    let w = c.args.self.now in
-    ap (λ ws. has_at w.start ws d) (words g (goal.at.returns-clause-documents g c).After-put)
-    ∙ has_at-put w.start c.args.doc w.buckets.items c.put.new.buckets c.requires.span.0 (λ x. c.put.ensures.documents x
-    ∙ ap (λ ws. x == c.args.doc - w.start || words_have ws x) c.as_mut_slice.ensures.value) d
-
-pub returns-clause-state : goal.returns-clause-state
+pub returns : goal.returns
 unfolding window_has window_state
-returns-clause-state g c =
+returns g c =
     let w = c.args.self.now in
-    let a = (goal.at.returns-clause-state g c).After-put in
+    let step = g.C.ScoreCombiner.step in
     let low = c.requires.span.0 in
+    let words = whole w.buckets.len c.put.new.buckets w.buckets.items (c.put.auto.buckets ∙ ap length c.as_mut_slice.ensures.value) w.buckets.ok.0 in
     let here : head_document (all_left c.new.result) < TERMINATED =
     omega (arith, ap head_document c.new.ensures.lists.entries, ap head_document one_document) in
     let score = ap head_score c.new-scorer.ensures.cursor.entries ∙ head_score-rescored _ _ here in
-    let then_ : state_of_place c.as_mut_slice.result.now w.states.items w.combiner (c.args.doc - w.start) ≡ window_state w c.args.doc =
-    ap (λ ws. state_of_place ws w.states.items w.combiner (c.args.doc - w.start)) c.as_mut_slice.ensures.value
+    let before : place_state c.as_mut_slice.result.now w.states.items w.combiner (c.args.doc - w.start) ≡ window_state w c.args.doc =
+    ap (λ ws. place_state ws w.states.items w.combiner (c.args.doc - w.start)) c.as_mut_slice.ensures.value
     ∙ sym (state_at-from w.start w.buckets.items w.states.items w.combiner c.args.doc low) in
-    ap (λ ws. state_at w.start ws c.put.new.states.items w.combiner c.args.doc) (words g a)
+    IsAdded-made step w _ c.args.doc _ (omega (arith, c.max-self.ensures)) (omega (arith, c.max-self.ensures))
+    (λ d. ap (λ ws. has_at w.start ws d) words
+    ∙ has_at-put w.start c.args.doc w.buckets.items c.put.new.buckets low (λ x. c.put.ensures.documents x
+    ∙ ap (λ ws. x == c.args.doc - w.start || words_have ws x) c.as_mut_slice.ensures.value) d)
+    (ap (λ ws. state_at w.start ws c.put.new.states.items w.combiner c.args.doc) words
     ∙ state_at-from w.start c.put.new.buckets c.put.new.states.items w.combiner c.args.doc low
-    ∙ c.put.ensures.state ∙ ap₂ g.C.ScoreCombiner.step then_ (score ∙ ap nat_abs (to_z-of_z w64 c.args.score c.ranges.score))
-
-pub returns-clause-others : goal.returns-clause-others
-unfolding window_has window_state
-returns-clause-others g c = λ d other.
-    let w = c.args.self.now in
-    let a = (goal.at.returns-clause-others g c).After-put in
-    let low = c.requires.span.0 in
-    ap (λ ws. state_at w.start ws c.put.new.states.items w.combiner d) (words g a) ∙ elim (cases_lt d w.start) [
+    ∙ c.put.ensures.state ∙ ap₂ step before (score ∙ ap nat_abs (to_z-of_z w64 c.args.score c.ranges.score)))
+    (λ d other. ap (λ ws. state_at w.start ws c.put.new.states.items w.combiner d) words ∙ elim (cases_lt d w.start) [
       | inl before ↦ state_at-before w.start c.put.new.buckets c.put.new.states.items w.combiner d before
           ∙ sym (state_at-before w.start w.buckets.items w.states.items w.combiner d before)
       | inr past ↦
           state_at-from w.start c.put.new.buckets c.put.new.states.items w.combiner d past ∙ c.put.ensures.others (d - w.start) (omega arith)
-          ∙ ap (λ ws. state_of_place ws w.states.items w.combiner (d - w.start)) c.as_mut_slice.ensures.value
+          ∙ ap (λ ws. place_state ws w.states.items w.combiner (d - w.start)) c.as_mut_slice.ensures.value
           ∙ sym (state_at-from w.start w.buckets.items w.states.items w.combiner d past)
-    ]
-
-pub returns-clause-until : goal.returns-clause-until
-returns-clause-until g c = λ until d here. elim (cases_eq d c.args.doc) [
-  | inl same ↦ omega (arith, c.max-self.ensures)
-  | inr other ↦
-      let had = rw (ne_eqb d c.args.doc other) at (sym (returns-clause-documents g c d) ∙ here) in
-      let old = until d had in
-      omega (arith, c.max-self.ensures)
-]
+    ]) refl refl

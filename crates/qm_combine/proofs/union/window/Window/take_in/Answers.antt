@@ -1,12 +1,13 @@
 -- A document of the scorer is put in, and the scorer steps on.
-use Rattle.std.proofs.Common.{◌≡◌, ◌≢◌, ℕ, ◌+◌, ◌-◌, ◌<◌, [], ◌∷◌, List, drop, fold, length, min, ap, ap₂, sym, subst, refl, arith, inl, inr, ◌∙◌}
+use Rattle.std.proofs.Common.{◌≡◌, ◌≢◌, ℕ, ◌+◌, ◌-◌, ◌<◌, ◌≤◌, [], ◌∷◌, List, drop, fold, length, min, ap, ap₂, sym, subst, refl, arith, inl, inr, ◌∙◌}
 use Rattle.std.proofs.lemmas.Bool.{cases_eq, cases_lt}
 use Rattle.qm_docset.specs.Entry.{Limits, from, head_document, head_score}
 use Rattle.qm_docset.specs.EntryFacts.{from-reached}
 use Rattle.qm_docset.specs.Words.{words_have}
-use Rattle.qm_combine.specs.WindowStates.{state_of_place}
+use Rattle.qm_combine.specs.WindowStates.{place_state}
 use Rattle.qm_combine.specs.Window.{window_combiner, window_has, window_state}
 use Rattle.qm_combine.specs.Windowed.{scores_of}
+use Rattle.qm_combine.proofs.Adding.{IsTakenIn-made}
 use Rattle.qm_combine.proofs.Leading.{whole}
 use Rattle.qm_combine.proofs.Marking.{marked-below, marked-beyond, marked-until, marking-first, marking-next}
 use Rattle.qm_combine.proofs.TakenIn.{from-all_passed, scores_of-ahead, step_min, taken, taken-all, taken-before, taken-first, taken-here, taken-other}
@@ -18,14 +19,23 @@ idle : {C : Type 0} (step : C → ℕ → C) (c : C) → ((x : ℕ) → step c x
 idle step c same [] = refl
 idle step c same (x ∷ xs) = ap (λ s. fold step s xs) (same x) ∙ idle step c same xs
 
-pub returns-then-keeps_no_states-clause-states : goal.returns-then-keeps_no_states-clause-states
-returns-then-keeps_no_states-clause-states g c = λ d inside.
+pub returns-then-keeps_no_states-clause-taken : goal.returns-then-keeps_no_states-clause-taken
+returns-then-keeps_no_states-clause-taken g c =
     let k = c.keeps_no_states.ensures c.if-keeps_no_states.true in
-    let xs = scores_of d (g.S.DocSet.entries c.args.scorer.now) in
-    let none = window_state-none c.args.self.now k.none d in
-    window_state-none c.mark_in.new.self (ap (λ (v : _). v.len) c.mark_in.ensures.states ∙ k.none) d
-    ∙ c.mark_in.ensures.combiner
-    ∙ sym (ap (λ s. fold g.C.ScoreCombiner.step s xs) none ∙ idle g.C.ScoreCombiner.step (window_combiner c.args.self.now) k.idle xs)
+    let marked = c.mark_in.ensures in
+    let step = g.C.ScoreCombiner.step in
+    record {
+      documents = marked.documents;
+      beyond = marked.beyond;
+      states = λ d inside.
+          let xs = scores_of d (g.S.DocSet.entries c.args.scorer.now) in
+          let none = window_state-none c.args.self.now k.none d in
+          window_state-none c.mark_in.new.self (ap (λ (v : _). v.len) marked.states ∙ k.none) d ∙ marked.combiner
+          ∙ sym (ap (λ s. fold step s xs) none ∙ idle step (window_combiner c.args.self.now) k.idle xs);
+      start = marked.start;
+      until = marked.until;
+      combiner = marked.combiner;
+    }
 
 pub loop-doc-init : goal.loop-doc-init
 loop-doc-init g c =
@@ -42,8 +52,8 @@ loop-doc-init g c =
       marks = marking-first _ es ascends w.start c.doc-doc.result w.buckets.items _ c.doc-doc.ensures (omega (arith, c.doc-doc.ensures, c.requires.first))
           c.as_mut_slice-buckets.ensures.value;
       room = w.room;
-      states = λ x below. ap (λ ws. state_of_place ws w.states.items w.combiner x) c.as_mut_slice-buckets.ensures.value
-          ∙ sym (ap (fold g.C.ScoreCombiner.step (state_of_place w.buckets.items w.states.items w.combiner x)) (none x));
+      states = λ x below. ap (λ ws. place_state ws w.states.items w.combiner x) c.as_mut_slice-buckets.ensures.value
+          ∙ sym (ap (fold g.C.ScoreCombiner.step (place_state w.buckets.items w.states.items w.combiner x)) (none x));
     }
 
 pub put-requires-clause-room : goal.put-requires-clause-room
@@ -53,14 +63,14 @@ put-requires-clause-room g c =
     let es = g.S.DocSet.entries c.args.scorer.now in
     let x = c.loop-doc.doc - w.start in
     let place : w.start + x ≡ c.loop-doc.doc = omega (arith, c.loop-doc.invariant.marks.low) in
-    let old = state_of_place w.buckets.items w.states.items w.combiner x in
+    let old = place_state w.buckets.items w.states.items w.combiner x in
     let none : taken c.loop-doc.doc (w.start + x) es ≡ [] = taken-before c.loop-doc.doc (w.start + x) es (omega arith) in
-    let now : state_of_place c.loop-doc.buckets c.loop-doc.states.items w.combiner x ≡ window_state w c.loop-doc.doc =
+    let now : place_state c.loop-doc.buckets c.loop-doc.states.items w.combiner x ≡ window_state w c.loop-doc.doc =
     c.loop-doc.invariant.states x (omega (arith, c.loop-doc-test.true, c.min-end.ensures)) ∙ ap (fold g.C.ScoreCombiner.step old) none
     ∙ sym (state_at-from w.start w.buckets.items w.states.items w.combiner c.loop-doc.doc c.loop-doc.invariant.marks.low) in
     let room = c.requires.room c.loop-doc.doc in
     let law = g.met.C.ScoreCombiner.room room.start room.scores (g.S.DocSet.limits c.args.scorer.now).top room.fits in
-    subst (λ n. g.C.ScoreCombiner.has_room (state_of_place c.loop-doc.buckets c.loop-doc.states.items w.combiner x) n)
+    subst (λ n. g.C.ScoreCombiner.has_room (place_state c.loop-doc.buckets c.loop-doc.states.items w.combiner x) n)
     (sym (ap (λ (l : Limits). l.top) c.loop-doc.invariant.limits))
     (subst (λ s. g.C.ScoreCombiner.has_room s (g.S.DocSet.limits c.args.scorer.now).top) (sym (now ∙ room.state)) law)
 
@@ -80,7 +90,7 @@ loop-doc-preserved g c =
     let rest : g.S.DocSet.entries c.advance-doc.new.self ≡ drop 1 (from doc es) = c.advance-doc.ensures.entries
     ∙ ap (drop 1) (c.put.ensures.left.entries ∙ left) in
     let goes = c.advance-doc.ensures.head ∙ ap head_document rest in
-    let old : (x : ℕ) → g.row.C.Denot = λ x. state_of_place w.buckets.items w.states.items w.combiner x in
+    let old : (x : ℕ) → g.row.C.Denot = λ x. place_state w.buckets.items w.states.items w.combiner x in
     record {
       here = c.advance-doc.ensures.head;
       left = rest ∙ step_min _ es ascends doc next here below goes end inside;
@@ -95,8 +105,8 @@ loop-doc-preserved g c =
             let at : w.start + x ≡ doc = omega (arith, inv.marks.low) in
             let was = inv.states x small ∙ ap (λ d. fold g.C.ScoreCombiner.step (old x) (taken doc d es)) at
             ∙ ap (fold g.C.ScoreCombiner.step (old x)) (taken-before doc doc es (omega arith)) in
-            let put_in : state_of_place c.put.new.buckets c.put.new.states.items w.combiner x ≡ g.C.ScoreCombiner.step
-            (state_of_place c.loop-doc.buckets c.loop-doc.states.items w.combiner x) (head_score (g.S.DocSet.entries c.loop-doc.scorer)) =
+            let put_in : place_state c.put.new.buckets c.put.new.states.items w.combiner x ≡ g.C.ScoreCombiner.step
+            (place_state c.loop-doc.buckets c.loop-doc.states.items w.combiner x) (head_score (g.S.DocSet.entries c.loop-doc.scorer)) =
             rw same c.put.ensures.state in
             put_in ∙ ap₂ g.C.ScoreCombiner.step was (ap head_score left)
             ∙ sym (ap (λ d. fold g.C.ScoreCombiner.step (old x) (taken next d es)) at
@@ -120,58 +130,38 @@ returns-clause-left g c =
       placed = c.loop-doc.invariant.placed;
     }
 
-pub returns-clause-documents : goal.returns-clause-documents
-unfolding window_has
-returns-clause-documents g c = λ d inside.
-    let w = c.args.self.now in
-    let es = g.S.DocSet.entries c.args.scorer.now in
-    let ascends = g.met.S.DocSet.ascending c.args.scorer.now c.requires.scorer.valid in
-    let words = whole w.buckets.len c.loop-doc.buckets w.buckets.items (c.loop-doc.auto.buckets
-    ∙ ap length c.as_mut_slice-buckets.ensures.value) w.buckets.ok.0 in
-    ap (λ ws. has_at w.start ws d) words
-    ∙ marked-below _ es ascends w.start c.loop-doc.doc c.loop-doc.last c.args.bound w.buckets.items c.loop-doc.buckets c.loop-doc.invariant.marks
-    (omega (arith, c.loop-doc-test.false, c.min-end.ensures)) c.requires.bound c.requires.first d inside
-
-pub returns-clause-states : goal.returns-clause-states
+pub returns-clause-taken : goal.returns-clause-taken
 unfolding window_has window_state
-returns-clause-states g c = λ d inside.
+returns-clause-taken g c =
     let w = c.args.self.now in
-    let es = g.S.DocSet.entries c.args.scorer.now in
-    let ascends = g.met.S.DocSet.ascending c.args.scorer.now c.requires.scorer.valid in
-    let words = whole w.buckets.len c.loop-doc.buckets w.buckets.items (c.loop-doc.auto.buckets
-    ∙ ap length c.as_mut_slice-buckets.ensures.value) w.buckets.ok.0 in
-    ap (λ ws. state_at w.start ws c.loop-doc.states.items w.combiner d) words ∙ elim (cases_lt d w.start) [
-      | inl before ↦
-          let none = scores_of-ahead _ es ascends d (omega (arith, c.requires.first)) in
-          state_at-before w.start c.loop-doc.buckets c.loop-doc.states.items w.combiner d before
-          ∙ sym (ap (fold g.C.ScoreCombiner.step (window_state w d)) none ∙ state_at-before w.start w.buckets.items w.states.items w.combiner d before)
-      | inr past ↦
-          let x = d - w.start in
-          let at : w.start + x ≡ d = omega arith in
-          state_at-from w.start c.loop-doc.buckets c.loop-doc.states.items w.combiner d past ∙ c.loop-doc.invariant.states x (omega arith)
-          ∙ ap (λ n. fold g.C.ScoreCombiner.step (state_of_place w.buckets.items w.states.items w.combiner x) (taken c.loop-doc.doc n es)) at
-          ∙ ap₂ (fold g.C.ScoreCombiner.step) (sym (state_at-from w.start w.buckets.items w.states.items w.combiner d past))
-          (taken-all _ es ascends c.loop-doc.doc c.args.bound d (omega (arith, c.loop-doc-test.false, c.min-end.ensures)) inside)
-    ]
-
-pub returns-clause-beyond : goal.returns-clause-beyond
-unfolding window_has
-returns-clause-beyond g c = λ d beyond.
-    let w = c.args.self.now in
+    let step = g.C.ScoreCombiner.step in
     let es = g.S.DocSet.entries c.args.scorer.now in
     let ascends = g.met.S.DocSet.ascending c.args.scorer.now c.requires.scorer.valid in
     let long : length c.loop-doc.buckets ≡ length w.buckets.items = c.loop-doc.auto.buckets ∙ ap length c.as_mut_slice-buckets.ensures.value in
     let words = whole w.buckets.len c.loop-doc.buckets w.buckets.items long w.buckets.ok.0 in
-    ap (λ ws. has_at w.start ws d) words
-    ∙ marked-beyond _ es ascends w.start c.loop-doc.doc c.loop-doc.last c.args.bound w.buckets.items c.loop-doc.buckets c.loop-doc.invariant.marks
-    (omega (arith, c.loop-doc-test.false, c.min-end.ensures)) c.requires.bound (omega (arith, w.sixty_four, w.buckets.ok.0))
-    (omega (arith, long, w.sixty_four, w.buckets.ok.0)) (c.loop-doc.invariant.here ∙ ap head_document c.loop-doc.invariant.left) d beyond
-
-pub returns-clause-until : goal.returns-clause-until
-returns-clause-until g c = λ until.
-    let w = c.args.self.now in
-    let es = g.S.DocSet.entries c.args.scorer.now in
-    let ascends = g.met.S.DocSet.ascending c.args.scorer.now c.requires.scorer.valid in
-    marked-until _ es ascends w.start c.loop-doc.doc c.loop-doc.last c.args.bound w.buckets.items c.loop-doc.buckets c.loop-doc.invariant.marks
-    (omega (arith, c.loop-doc-test.false, c.min-end.ensures)) c.requires.bound w.last c.max-self.result (window_has w) _ until
-    (omega (arith, c.max-self.ensures)) (omega (arith, c.max-self.ensures)) (returns-clause-documents g c) (returns-clause-beyond g c)
+    let marks = c.loop-doc.invariant.marks in
+    let passed : min c.args.bound 2147483647 ≤ c.loop-doc.doc = omega (arith, c.loop-doc-test.false, c.min-end.ensures) in
+    IsTakenIn-made step w _ c.args.bound es refl refl
+    (λ d inside. ap (λ ws. has_at w.start ws d) words
+    ∙ marked-below _ es ascends w.start c.loop-doc.doc c.loop-doc.last c.args.bound w.buckets.items c.loop-doc.buckets marks
+    passed c.requires.bound c.requires.first d inside)
+    (λ d beyond. ap (λ ws. has_at w.start ws d) words
+    ∙ marked-beyond _ es ascends w.start c.loop-doc.doc c.loop-doc.last c.args.bound w.buckets.items c.loop-doc.buckets marks
+    passed c.requires.bound (omega (arith, w.sixty_four, w.buckets.ok.0))
+    (omega (arith, long, w.sixty_four, w.buckets.ok.0)) (c.loop-doc.invariant.here ∙ ap head_document c.loop-doc.invariant.left) d beyond)
+    (λ d inside. ap (λ ws. state_at w.start ws c.loop-doc.states.items w.combiner d) words ∙ elim (cases_lt d w.start) [
+      | inl before ↦
+          let none = scores_of-ahead _ es ascends d (omega (arith, c.requires.first)) in
+          state_at-before w.start c.loop-doc.buckets c.loop-doc.states.items w.combiner d before
+          ∙ sym (ap (fold step (window_state w d)) none ∙ state_at-before w.start w.buckets.items w.states.items w.combiner d before)
+      | inr past ↦
+          let x = d - w.start in
+          let at : w.start + x ≡ d = omega arith in
+          state_at-from w.start c.loop-doc.buckets c.loop-doc.states.items w.combiner d past ∙ c.loop-doc.invariant.states x (omega arith)
+          ∙ ap (λ n. fold step (place_state w.buckets.items w.states.items w.combiner x) (taken c.loop-doc.doc n es)) at
+          ∙ ap₂ (fold step) (sym (state_at-from w.start w.buckets.items w.states.items w.combiner d past))
+          (taken-all _ es ascends c.loop-doc.doc c.args.bound d passed inside)
+    ])
+    (λ documents beyond until. marked-until _ es ascends w.start c.loop-doc.doc c.loop-doc.last c.args.bound w.buckets.items c.loop-doc.buckets marks
+    passed c.requires.bound w.last c.max-self.result (window_has w) _ until
+    (omega (arith, c.max-self.ensures)) (omega (arith, c.max-self.ensures)) documents beyond)
