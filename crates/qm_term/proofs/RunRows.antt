@@ -10,7 +10,7 @@ use Rattle.qm_term.specs.RunScorers.{IsRunScorer, first_score, wand_member}
 use Rattle.qm_term.specs.declared.norms.Norms.{Ghosts as NormGhosts}
 use Rattle.qm_term.specs.declared.wand.front.TermScorerWithMaxScore.{TermScorerWithMaxScore}
 use Rattle.qm_term.proofs.WandMembers.{IsMember-scorer, top-member, top_small}
-use Rattle.qm_docset.specs.Entry.{AreEntries, Entry, Limits, head_document, head_score}
+use Rattle.qm_docset.specs.Entry.{AreEntries, Entry, Limits, greatest_score, head_document, head_score}
 use Rattle.qm_term.proofs.WandBounds.{IsBelow}
 use Rattle.qm_docset.specs.EntryFacts.{head_document-bounds}
 
@@ -41,7 +41,7 @@ scores_le_tops (s ∷ ss) h =
       scores_le_tops ss (All-tail IsRunScorer s ss h),
     )
 
-pub top_le : {N : Type 0} {G : NormGhosts N} (s : TermScorerWithMaxScore N G) → (wand_member s).top ≤ 9223372036854775807
+pub top_le : {N : Type 0} {G : NormGhosts N} (s : TermScorerWithMaxScore N G) → (wand_member s).top ≤ greatest_score
 unfolding wand_member
 top_le s = omega (arith, top-member s.scorer, top_small s.scorer)
 

@@ -7,7 +7,7 @@ use Rattle.std.proofs.lemmas.Bool.{cases_Bool, cases_lt, le-leb, lt-leb, false�
 use Rattle.std.proofs.lemmas.List.Elements.{All-map}
 use Rattle.std.proofs.Math.Nat.{mul-zero}
 use Rattle.qm_combine.specs.Rescored.{rescored}
-use Rattle.qm_docset.specs.Entry.{Entry, from, head_document, head_score}
+use Rattle.qm_docset.specs.Entry.{Entry, from, greatest_score, head_document, head_score}
 use Rattle.qm_docset.specs.declared.numbers.TheConstants.{TERMINATED}
 use Rattle.qm_postings.proofs.BlockFrequencies.{within_blocks}
 use Rattle.qm_postings.proofs.BlockLemmas.{head_below, head_end, looked_outside}
@@ -184,5 +184,5 @@ bound_end s h end =
     ap (λ b. (scored_by s.similarity_weight s.fieldnorm_reader b).bound) (looked_end s.postings h.postings end)
     ∙ no_frequency (weighing s.similarity_weight) (cond (is_made_constant s.fieldnorm_reader) (get_or (norm_ids s.fieldnorm_reader) 0 0) 0)
 
-pub top_small : {N : Type 0} {G : NormGhosts N} (s : TermScorer N G) → (scored_limits s).top ≤ 9223372036854775807
+pub top_small : {N : Type 0} {G : NormGhosts N} (s : TermScorer N G) → (scored_limits s).top ≤ greatest_score
 top_small s = s.similarity_weight.fits
