@@ -1,4 +1,7 @@
 //! A weight of clauses that must, should or must not match.
+//!
+//! Its rule, joins and steps are those of a weight of terms (terms_weight.rt). The loops over clauses stand in both: those
+//! here go down a tree, as one cycle of calls, which may not lead through a method of whatever a clause is.
 
 ghost use Rattle.std.specs.Prelude.{◌≡◌, ◌<◌, ◌≤◌, IfErr, IfOk, OnErr, length, true};
 ghost use Rattle.qm_docset.specs.Entry.{greatest_score};
