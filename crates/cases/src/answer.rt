@@ -1,10 +1,11 @@
 //! What a call answered.
 
-use qm_docset::{COLLECT_BLOCK_BUFFER_LEN, DocId, Score, TERMINATED};
-use std::alloc::AllocError;
+use crate::fault::{Done, Fault};
+use crate::listing::Listing;
+use qm_docset::{COLLECT_BLOCK_BUFFER_LEN, DocId, Score};
 
 /// What a call on a cursor answered.
-#[derive(Clone, Copy, Debug, PartialEq, Eq)]
+#[derive(Clone, Copy, PartialEq, Eq)]
 pub enum Answer {
     Document(DocId),
     Found,
@@ -23,73 +24,23 @@ pub enum Answer {
 }
 
 impl Answer {
-    /// Puts this answer into the text, behind what stands there.
-    pub fn write(
-        self,
-        buffer: &[DocId; COLLECT_BLOCK_BUFFER_LEN],
-        text: &mut String,
-    ) -> Result<(), AllocError> {
+    /// Puts this answer into the text, behind what stands there; what is none is a fault.
+    pub fn write(self, buffer: &[DocId; COLLECT_BLOCK_BUFFER_LEN], text: &mut Listing) -> Done {
         match self {
-            Answer::Document(doc) => write_document(doc, text),
-            Answer::Found => text.push_str("found"),
+            Answer::Document(doc) => text.document(doc),
+            Answer::Found => text.word("found"),
             Answer::Below(doc) => {
-                text.push_str("below ")?;
-                write_document(doc, text)
+                text.word("below ");
+                text.document(doc);
             }
-            Answer::Allowed => text.push_str("allowed"),
-            Answer::Filled(count) => write_documents(buffer, count, text),
+            Answer::Allowed => text.word("allowed"),
+            Answer::Filled(count) => text.documents(&buffer[..count.min(buffer.len())]),
             Answer::Number(number) => write!(text, "{number}"),
             Answer::Score(score) => write!(text, "{score}"),
-            Answer::Written => Ok(()),
-            Answer::NotAllowed => text.push_str("not allowed"),
-            Answer::NotUnderstood => text.push_str("not understood"),
+            Answer::Written => {}
+            Answer::NotAllowed => return Err(Fault::NotAllowed),
+            Answer::NotUnderstood => return Err(Fault::NotUnderstood),
         }
-    }
-}
-
-/// Writes a document, or `end`.
-pub fn write_document(doc: DocId, text: &mut String) -> Result<(), AllocError> {
-    if doc == TERMINATED {
-        text.push_str("end")
-    } else {
-        write!(text, "{doc}")
-    }
-}
-
-/// Writes a space where something stands there already.
-pub fn write_space(text: &mut String) -> Result<(), AllocError> {
-    if text.as_str().is_empty() {
         Ok(())
-    } else {
-        text.push(' ')
     }
-}
-
-/// Writes a document behind what stands there.
-pub fn write_next(text: &mut String, doc: DocId) -> Result<(), AllocError> {
-    write_space(text)?;
-    write_document(doc, text)
-}
-
-/// Writes a document with a number behind what stands there.
-pub fn write_score(text: &mut String, doc: DocId, score: Score) -> Result<(), AllocError> {
-    write_next(text, doc)?;
-    write!(text, ":{score}")
-}
-
-// Writes the first so many documents of a buffer.
-fn write_documents(
-    buffer: &[DocId; COLLECT_BLOCK_BUFFER_LEN],
-    count: usize,
-    text: &mut String,
-) -> Result<(), AllocError> {
-    // the documents before this one are written, and are at most so many
-    for (number, doc) in buffer.iter().enumerate() {
-        if number >= count {
-            return Ok(());
-        }
-        write_space(text)?;
-        write_document(*doc, text)?;
-    }
-    Ok(())
 }

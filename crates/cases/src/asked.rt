@@ -1,7 +1,8 @@
 //! Rows played on what answers with a text.
 
-use crate::fault::Fault;
-use crate::memory::{Memory, end_refusals, is_awaited, is_heard};
+use crate::fault::{Done, Fault};
+use crate::listing::Listing;
+use crate::memory::{Memory, end_refusals, is_awaited};
 use crate::report::Report;
 use crate::row::Row;
 use qm_schema::QueryError;
@@ -14,13 +15,7 @@ const MOST_REQUESTS: u32 = 1000;
 pub trait Asker {
     /// Makes the call that words name, with some requests for memory refused in that call and no other,
     /// and writes what it answered behind the text.
-    fn ask(
-        &mut self,
-        alloc: Global,
-        call: &str,
-        memory: Memory,
-        text: &mut String,
-    ) -> Result<(), Fault>;
+    fn ask(&mut self, alloc: Global, call: &str, memory: Memory, text: &mut Listing) -> Done;
 }
 
 /// Plays rows. A row `refused each CALL` is made again and again, with the first of its requests for
@@ -33,22 +28,21 @@ pub fn play_asked<A: Asker>(
     asker: &mut A,
     rows: &[Row<'_>],
     report: &mut Report,
-) -> Result<(), Fault> {
+) -> Done {
     let mut memory = Memory::Ample;
     // the rows before this one are played, and `memory` is what they allow
     for row in rows {
         if let Some(allowed) = read_allowed(row.call) {
-            report.compare(
-                row.line,
-                row.wanted,
-                if is_heard(alloc) { "" } else { "unheard" },
-            )?;
+            report.hear(alloc, row);
             memory = allowed;
         } else if row.is_refused {
-            play_refused(alloc, asker, row, report)?;
+            play_refused(alloc, asker, row, report);
         } else {
-            play_row(alloc, asker, row, memory, report)?;
+            let answer = asker.ask(alloc, row.call, memory, &mut report.got);
+            end_refusals(alloc);
+            report.take(row, answer);
         }
+        report.check_memory()?;
     }
     Ok(())
 }
@@ -64,53 +58,24 @@ fn read_allowed(call: &str) -> Option<Memory> {
     Some(Memory::Over(bytes.parse().ok()?))
 }
 
-// Plays one row.
-fn play_row<A: Asker>(
-    alloc: Global,
-    asker: &mut A,
-    row: &Row<'_>,
-    memory: Memory,
-    report: &mut Report,
-) -> Result<(), Fault> {
-    let answer = asker.ask(alloc, row.call, memory, &mut report.got);
-    end_refusals(alloc);
-    take(row, answer, report)
-}
-
-// Takes what a row was answered.
-fn take(row: &Row<'_>, answer: Result<(), Fault>, report: &mut Report) -> Result<(), Fault> {
-    match answer {
-        Ok(()) => Ok(report.take(row)?),
-        Err(Fault::Refused(error)) => Ok(report.refused(row, error)?),
-        Err(Fault::NotUnderstood) => Ok(report.wrong(row.line, "not understood")?),
-        Err(Fault::NotAllowed) => Ok(report.wrong(row.line, "not allowed")?),
-        Err(Fault::Memory) => Err(Fault::Memory),
-    }
-}
-
 // Plays a row with each of its requests for memory refused in turn.
-fn play_refused<A: Asker>(
-    alloc: Global,
-    asker: &mut A,
-    row: &Row<'_>,
-    report: &mut Report,
-) -> Result<(), Fault> {
+fn play_refused<A: Asker>(alloc: Global, asker: &mut A, row: &Row<'_>, report: &mut Report) {
     // each call so far was refused for want of memory, and said nothing before
     for number in 1..MOST_REQUESTS {
         let answer = asker.ask(alloc, row.call, Memory::Refused(number), &mut report.got);
         end_refusals(alloc);
         if answer != Err(Fault::Refused(QueryError::Memory)) {
             if number == 1 {
-                return Ok(report.wrong(row.line, "no request for memory was refused")?);
+                return report.wrong(row.line, "no request for memory was refused");
             }
             if !is_awaited(alloc) {
-                return Ok(report.wrong(row.line, "a call that goes on behind a refusal")?);
+                return report.wrong(row.line, "a call that goes on behind a refusal");
             }
-            return take(row, answer, report);
+            return report.take(row, answer);
         }
         if !report.got.as_str().is_empty() {
-            return Ok(report.wrong(row.line, "a refused call that said something before")?);
+            return report.wrong(row.line, "a refused call that said something before");
         }
     }
-    Ok(report.wrong(row.line, "refused without an end")?)
+    report.wrong(row.line, "refused without an end");
 }

@@ -1,6 +1,6 @@
 //! A block of a case.
 
-use crate::fault::Fault;
+use crate::fault::Done;
 use crate::memory::Memory;
 use crate::report::Report;
 use crate::row::Row;
@@ -21,5 +21,5 @@ pub trait Player {
     /// Makes what the words of a block say, with some requests for memory refused in the one call that
     /// makes it, and plays the rows on it. A refusal of that call is answered as
     /// [`Fault::Refused`](crate::Fault::Refused), and then no row was played.
-    fn play(&mut self, alloc: Global, block: Block<'_>, report: &mut Report) -> Result<(), Fault>;
+    fn play(&mut self, alloc: Global, block: Block<'_>, report: &mut Report) -> Done;
 }

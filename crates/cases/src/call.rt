@@ -4,7 +4,7 @@ use crate::words::read_document;
 use qm_docset::DocId;
 
 /// A call on a scorer, by its word.
-#[derive(Clone, Copy, Debug, PartialEq, Eq)]
+#[derive(Clone, Copy, PartialEq, Eq)]
 pub enum Call {
     Doc,
     Advance,

@@ -1,6 +1,6 @@
 //! Lists of documents as words.
 
-use crate::fault::Fault;
+use crate::fault::{Done, Fault};
 use crate::words::read_document;
 use qm_docset::DocId;
 use std::alloc::Global;
@@ -12,16 +12,16 @@ pub fn read_documents(alloc: Global, words: &[&str]) -> Result<Vec<DocId>, Fault
     for word in words {
         match word.split_once("..") {
             Some((first, rest)) => add_range(first, rest, &mut documents)?,
-            None => {
-                let doc = read_document(word).ok_or(Fault::NotUnderstood)?;
-                documents.push(doc)?;
-            }
+            None => match read_document(word) {
+                Some(doc) => documents.push(doc)?,
+                None => return Err(Fault::NotUnderstood),
+            },
         }
     }
     Ok(documents)
 }
 
-fn add_range(first: &str, rest: &str, documents: &mut Vec<DocId>) -> Result<(), Fault> {
+fn add_range(first: &str, rest: &str, documents: &mut Vec<DocId>) -> Done {
     let (end, step) = match rest.split_once('/') {
         Some((end, step)) => (end, step),
         None => (rest, "1"),

@@ -4,7 +4,7 @@ use qm_schema::QueryError;
 use std::alloc::{AllocError, AllocFailed};
 
 /// Why a case could not be played.
-#[derive(Clone, Copy, Debug, PartialEq, Eq)]
+#[derive(Clone, Copy, PartialEq, Eq)]
 pub enum Fault {
     /// There was no memory for what the program itself keeps.
     Memory,
@@ -15,6 +15,9 @@ pub enum Fault {
     /// The library refused a call.
     Refused(QueryError),
 }
+
+/// What hands on nothing: it is done, or ends with a fault.
+pub type Done = Result<(), Fault>;
 
 impl From<AllocError> for Fault {
     fn from(_error: AllocError) -> Fault {

@@ -1,7 +1,7 @@
 //! A file of cases.
 
 use crate::block::{Block, Player};
-use crate::fault::Fault;
+use crate::fault::{Done, Fault};
 use crate::memory::{Memory, end_refusals, is_awaited, is_heard};
 use crate::repeat::{expand, is_repeated, read_rows, spell_rows};
 use crate::report::Report;
@@ -20,7 +20,7 @@ pub fn play_cases<P: Player>(
     player: &mut P,
     text: &str,
     report: &mut Report,
-) -> Result<(), Fault> {
+) -> Done {
     let mut rows: Vec<Row<'_>> = Vec::new(alloc);
     let mut head = "";
     let mut head_line = 0;
@@ -39,7 +39,7 @@ pub fn play_cases<P: Player>(
         }
     }
     play_head(alloc, player, head_line, head, &rows, report)?;
-    Ok(report.finish()?)
+    report.finish()
 }
 
 // Plays a block, or begins a file; none stands above the first.
@@ -50,19 +50,20 @@ fn play_head<P: Player>(
     head: &str,
     rows: &[Row<'_>],
     report: &mut Report,
-) -> Result<(), Fault> {
+) -> Done {
     if let Some(name) = head.strip_prefix("file ") {
-        return Ok(report.begin_file(line, name)?);
+        return Ok(report.begin_file(line, name));
     }
     let row = read_row(line, head);
     let words = words_of(alloc, row.call)?;
-    let (words, memory) = if row.is_refused {
-        (words.as_slice(), Memory::Refused(1))
+    let memory = if row.is_refused {
+        Memory::Refused(1)
     } else if row.call.starts_with("takes no memory ") {
-        (behind(&words, 3), Memory::None)
+        Memory::None
     } else {
-        (words.as_slice(), Memory::Ample)
+        Memory::Ample
     };
+    let words = behind(&words, if memory == Memory::None { 3 } else { 0 });
     let block = Block {
         line,
         words,
@@ -73,7 +74,7 @@ fn play_head<P: Player>(
         return Ok(());
     }
     if memory == Memory::None && !is_heard(alloc) {
-        report.wrong(line, "no refusal of memory is heard")?;
+        report.wrong(line, "no refusal of memory is heard");
     }
     let played = if is_repeated(block.words, rows) {
         play_expanded(alloc, player, block, row.is_refused, report)
@@ -90,7 +91,7 @@ fn play_expanded<P: Player>(
     block: Block<'_>,
     is_refused: bool,
     report: &mut Report,
-) -> Result<(), Fault> {
+) -> Done {
     let head = expand(alloc, block.words)?;
     let words = words_of(alloc, head.as_str())?;
     let text = spell_rows(alloc, block.rows)?;
@@ -111,7 +112,7 @@ fn play_block<P: Player>(
     block: Block<'_>,
     is_refused: bool,
     report: &mut Report,
-) -> Result<(), Fault> {
+) -> Done {
     if is_refused {
         play_refused(alloc, player, block, report)
     } else {
@@ -125,7 +126,7 @@ fn play_once<P: Player>(
     player: &mut P,
     block: Block<'_>,
     report: &mut Report,
-) -> Result<(), Fault> {
+) -> Done {
     let played = player.play(alloc, block, report);
     end_refusals(alloc);
     played
@@ -138,16 +139,16 @@ fn play_refused<P: Player>(
     player: &mut P,
     block: Block<'_>,
     report: &mut Report,
-) -> Result<(), Fault> {
+) -> Done {
     // with each request before this one refused, the block was refused for want of memory
     for number in 1..MOST_REQUESTS {
         let memory = Memory::Refused(number);
         let played = play_once(alloc, player, Block { memory, ..block }, report);
         if played != Err(Fault::Refused(QueryError::Memory)) {
             if number == 1 {
-                report.wrong(block.line, "no request for memory was refused")?;
+                report.wrong(block.line, "no request for memory was refused");
             } else if !is_awaited(alloc) {
-                report.wrong(block.line, "what is made behind a refusal")?;
+                report.wrong(block.line, "what is made behind a refusal");
             }
             return played;
         }
@@ -156,27 +157,16 @@ fn play_refused<P: Player>(
 }
 
 // Takes what came of a block of so many rows.
-fn end(
-    head: &Row<'_>,
-    rows: usize,
-    played: Result<(), Fault>,
-    report: &mut Report,
-) -> Result<(), Fault> {
+fn end(head: &Row<'_>, rows: usize, played: Done, report: &mut Report) -> Done {
     let is_to_be_made = head.wanted.is_empty();
-    match played {
-        Err(Fault::Memory) => return Err(Fault::Memory),
-        Err(Fault::NotUnderstood) => report.wrong(head.line, "not understood")?,
-        Err(Fault::NotAllowed) => report.wrong(head.line, "not allowed")?,
-        Err(Fault::Refused(error)) => report.refused(head, error)?,
-        Ok(()) => {
-            if !is_to_be_made {
-                report.compare(head.line, head.wanted, "made")?;
-            }
-        }
+    if played.is_err() {
+        report.take(head, played);
+    } else if !is_to_be_made {
+        report.compare(head.line, head.wanted, "made");
     }
     // rows that nothing answered
     if is_to_be_made == (rows == 0) {
-        report.wrong(head.line, "rows that are not played, or none")?;
+        report.wrong(head.line, "rows that are not played, or none");
     }
-    Ok(())
+    report.check_memory()
 }

@@ -19,7 +19,7 @@ use std::alloc::Global;
 use std::cell::Cell;
 
 /// What a leaf answers where its trait leaves it free.
-#[derive(Clone, Copy, Debug, PartialEq, Eq)]
+#[derive(Clone, Copy, PartialEq, Eq)]
 enum Manner {
     /// the documents reached as bounds, and its length as size hint
     Plain,
@@ -155,10 +155,14 @@ pub fn read_leaf<'a>(
     if !are_documents(&docs) {
         return Err(Fault::NotUnderstood);
     }
-    let manner = read_manner(word(words, 0)).ok_or(Fault::NotUnderstood)?;
-    let score = number(words, 1).ok_or(Fault::NotUnderstood)?;
     let more = if is_uneven { number(words, 3) } else { Some(0) };
-    let more = more.ok_or(Fault::NotUnderstood)?;
+    let (Some(manner), Some(score), Some(more)) = (
+        read_manner(word(words, 0)),
+        number(words, 1),
+        more,
+    ) else {
+        return Err(Fault::NotUnderstood);
+    };
     Ok(Leaf {
         docs: VecDocSet::new(docs),
         score,

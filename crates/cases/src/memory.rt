@@ -4,7 +4,7 @@
 use std::alloc::Global;
 
 /// Which requests for memory are refused as a call is made.
-#[derive(Clone, Copy, Debug, PartialEq, Eq)]
+#[derive(Clone, Copy, PartialEq, Eq)]
 pub enum Memory {
     Ample,
     /// The request of this number, counted from 1.

@@ -3,7 +3,7 @@
 use std::cell::Cell;
 
 /// How often the first of a block's own cursors was moved, and how often all others were.
-#[derive(Debug, Drop)]
+#[derive(Drop)]
 pub struct Moves {
     pub first: Cell<u64>,
     pub others: Cell<u64>,

@@ -3,9 +3,11 @@
 ghost use Rattle.std.specs.Prelude.{IsTrue};
 ghost use Rattle.qm_docset.specs.Lists.{IsPlaced};
 
-use crate::answer::{Answer, write_document, write_space};
+use crate::answer::Answer;
 use crate::call::{Call, read_call};
-use crate::memory::{Memory, end_refusals, is_heard};
+use crate::fault::Done;
+use crate::listing::Listing;
+use crate::memory::{Memory, end_refusals};
 use crate::moves::Moves;
 use crate::report::Report;
 use crate::row::Row;
@@ -13,7 +15,7 @@ use qm_combine::Scorer;
 use qm_docset::{
     AliveBitSet, COLLECT_BLOCK_BUFFER_LEN, DocId, DocSet, SeekDangerResult, TERMINATED,
 };
-use std::alloc::{AllocError, Global};
+use std::alloc::Global;
 
 /// What calls are played with.
 #[derive(Clone, Copy)]
@@ -32,7 +34,7 @@ pub fn play_scores<S: Scorer>(
     scorer: &mut S,
     rows: &[Row<'_>],
     report: &mut Report,
-) -> Result<(), AllocError>
+) -> Done
     requires { IsPlaced S.DocSet scorer.old }
 {
     let mut buffer = [0; COLLECT_BLOCK_BUFFER_LEN];
@@ -41,38 +43,20 @@ pub fn play_scores<S: Scorer>(
     for row in rows {
         let call = read_call(row.call);
         if row.is_refused {
-            report.wrong(row.line, "a call that never takes memory")?;
+            report.wrong(row.line, "a call that never takes memory");
         } else if call == Call::TakesNoMemory {
-            report.compare(
-                row.line,
-                row.wanted,
-                if is_heard(alloc) { "" } else { "unheard" },
-            )?;
+            report.hear(alloc, row);
             Memory::None.begin(alloc);
         } else {
-            let answer = ask(desk, scorer, call, &mut placed, &mut buffer, report)?;
-            take(row, answer, &buffer, report)?;
+            let text = &mut report.got;
+            let answer = ask(desk, scorer, call, &mut placed, &mut buffer, text);
+            let written = answer.write(&buffer, &mut report.got);
+            report.take(row, written);
         }
+        report.check_memory()?;
     }
     end_refusals(alloc);
     Ok(())
-}
-
-// Takes what a row was answered. A call that was not made is wrong, whatever was wanted.
-fn take(
-    row: &Row<'_>,
-    answer: Answer,
-    buffer: &[DocId; COLLECT_BLOCK_BUFFER_LEN],
-    report: &mut Report,
-) -> Result<(), AllocError> {
-    match answer {
-        Answer::NotAllowed => report.wrong(row.line, "not allowed"),
-        Answer::NotUnderstood => report.wrong(row.line, "not understood"),
-        _ => {
-            answer.write(buffer, &mut report.got)?;
-            report.take(row)
-        }
-    }
 }
 
 // Makes one call; one that asks for what doesn't hold is not made.
@@ -82,34 +66,34 @@ fn ask<S: Scorer>(
     call: Call,
     placed: &mut bool,
     buffer: &mut [DocId; COLLECT_BLOCK_BUFFER_LEN],
-    report: &mut Report,
-) -> Result<Answer, AllocError>
+    text: &mut Listing,
+) -> Answer
     requires valid { S.valid scorer.old }
     requires placed { IsTrue placed.old → S.placed scorer.old }
     ensures valid { S.valid scorer.new }
     ensures placed { IsTrue placed.new → S.placed scorer.new }
 {
     match call {
-        Call::Seek(target) => Ok(seek(scorer, target, placed)),
-        Call::SeekDanger(target) => Ok(seek_danger(scorer, target, placed)),
+        Call::Seek(target) => seek(scorer, target, placed),
+        Call::SeekDanger(target) => seek_danger(scorer, target, placed),
         Call::SeekWithin(target, most) => {
             let answer = seek_danger(scorer, target, placed);
-            Ok(within(answer, target, most))
+            within(answer, target, most)
         }
-        Call::MaxScore => Ok(Answer::Score(scorer.max_score())),
-        Call::Hint => Ok(Answer::Number(u64::from(scorer.size_hint()))),
-        Call::Cost => Ok(Answer::Number(scorer.cost())),
-        Call::Moves => Ok(Answer::Number(desk.moves.total())),
-        Call::MovesOfFirst => Ok(Answer::Number(desk.moves.first.get())),
-        Call::MovesOfOthers => Ok(Answer::Number(desk.moves.others.get())),
-        Call::MovesWithin(most) => Ok(moves_within(desk.moves.total(), most)),
+        Call::MaxScore => Answer::Score(scorer.max_score()),
+        Call::Hint => Answer::Number(u64::from(scorer.size_hint())),
+        Call::Cost => Answer::Number(scorer.cost()),
+        Call::Moves => Answer::Number(desk.moves.total()),
+        Call::MovesOfFirst => Answer::Number(desk.moves.first.get()),
+        Call::MovesOfOthers => Answer::Number(desk.moves.others.get()),
+        Call::MovesWithin(most) => moves_within(desk.moves.total(), most),
         _ => {
             if !*placed {
-                Ok(Answer::NotAllowed)
+                Answer::NotAllowed
             } else if call == Call::Scores {
-                write_scores(scorer, &mut report.got)
+                write_scores(scorer, text)
             } else {
-                Ok(ask_placed(desk, scorer, call, buffer))
+                ask_placed(desk, scorer, call, buffer)
             }
         }
     }
@@ -169,7 +153,7 @@ fn moves_within(moves: u64, most: u64) -> Answer {
 }
 
 // Writes all documents that are left, each with its score.
-fn write_scores<S: Scorer>(scorer: &mut S, text: &mut String) -> Result<Answer, AllocError>
+fn write_scores<S: Scorer>(scorer: &mut S, text: &mut Listing) -> Answer
     requires { IsPlaced S.DocSet scorer.old }
     ensures { IsPlaced S.DocSet scorer.new }
 {
@@ -177,12 +161,10 @@ fn write_scores<S: Scorer>(scorer: &mut S, text: &mut String) -> Result<Answer, 
     // the scorer stands on this document
     while doc < TERMINATED {
         let score = scorer.score();
-        write_space(text)?;
-        write_document(doc, text)?;
-        write!(text, ":{score}")?;
+        text.score(doc, score);
         doc = scorer.advance();
     }
-    Ok(Answer::Written)
+    Answer::Written
 }
 
 // The calls that ask for a placed cursor, and keep it so.

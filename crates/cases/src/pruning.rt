@@ -1,13 +1,13 @@
 //! What the calls of a pruned run answer.
 
-use crate::answer::{write_next, write_score};
 use crate::fault::Fault;
+use crate::listing::Listing;
 use crate::words::{behind, word, words_of};
 use qm_docset::{DocId, Score};
 use std::alloc::Global;
 
 /// What a call answers.
-#[derive(Clone, Copy, Debug)]
+#[derive(Clone, Copy)]
 pub enum Reply {
     ItsScore,
     Number(Score),
@@ -16,7 +16,7 @@ pub enum Reply {
 /// What the calls of a pruned run have said so far, and what those to come answer.
 #[derive(Drop)]
 pub struct Pruning<'a> {
-    pub text: &'a mut String,
+    pub text: &'a mut Listing,
     /// these in turn, and the last one again and again
     pub replies: &'a [Reply],
     pub last: Reply,
@@ -27,11 +27,11 @@ pub struct Pruning<'a> {
 impl<'a> Pruning<'a> {
     /// A call for a document.
     pub fn call(&mut self, doc: DocId, score: Score) -> Score {
-        let _ = if self.has_scores {
-            write_score(self.text, doc, score)
+        if self.has_scores {
+            self.text.score(doc, score);
         } else {
-            write_next(self.text, doc)
-        };
+            self.text.next(doc);
+        }
         if let Some((first, rest)) = self.replies.split_first() {
             self.last = *first;
             self.replies = rest;

@@ -1,28 +1,29 @@
 //! What a case repeats: words of a block, and rows.
 
-use crate::fault::Fault;
+use crate::fault::{Done, Fault};
+use crate::listing::Listing;
 use crate::row::{Row, read_row};
-use std::alloc::Global;
+use std::alloc::{AllocError, Global};
 
 /// The line of these words, in which those in `repeat N ( .. )` stand N times, and those in
 /// `repeat A..B ( .. )` once for each number, which takes the place of `#`.
 pub fn expand(alloc: Global, words: &[&str]) -> Result<String, Fault> {
-    let mut line = String::new(alloc);
+    let mut line = Listing::new(alloc);
     // the line has the words of the parts before this one, the repeated ones as often as is said
     for part in words.split(|word| *word == "repeat") {
         if line.as_str().is_empty() {
-            add_words(part, "#", &mut line)?;
+            add_words(part, "#", &mut line);
             // so that no later part stands first
-            line.push(' ')?;
+            line.word(" ");
         } else {
             add_repeated(alloc, part, &mut line)?;
         }
     }
-    Ok(line)
+    Ok(line.into_string()?)
 }
 
 // Adds `N ( .. ) ..`: what is repeated, and what stands behind it.
-fn add_repeated(alloc: Global, words: &[&str], line: &mut String) -> Result<(), Fault> {
+fn add_repeated(alloc: Global, words: &[&str], line: &mut Listing) -> Done {
     let [range, "(", rest @ ..] = words else {
         return Err(Fault::NotUnderstood);
     };
@@ -37,7 +38,7 @@ fn add_repeated(alloc: Global, words: &[&str], line: &mut String) -> Result<(), 
         } else if is_inside {
             inside.push(*word)?;
         } else {
-            add_word(word, line)?;
+            write!(line, "{word} ");
         }
     }
     if is_inside {
@@ -51,28 +52,23 @@ fn add_times(
     words: &[&str],
     first: u32,
     end: u32,
-    line: &mut String,
-) -> Result<(), Fault> {
+    line: &mut Listing,
+) -> Result<(), AllocError> {
     // the line has the words once for each number before this one
     for number in first..end {
         let number = format!(in alloc; "{number}")?;
-        add_words(words, number.as_str(), line)?;
+        add_words(words, number.as_str(), line);
     }
     Ok(())
 }
 
 // Adds words, with another one in place of `#`.
-fn add_words(words: &[&str], number: &str, line: &mut String) -> Result<(), Fault> {
+fn add_words(words: &[&str], number: &str, line: &mut Listing) {
     // the words before this one are in the line, with the number in place of `#`
     for word in words {
-        add_word(if *word == "#" { number } else { word }, line)?;
+        line.word(if *word == "#" { number } else { word });
+        line.word(" ");
     }
-    Ok(())
-}
-
-fn add_word(word: &str, line: &mut String) -> Result<(), Fault> {
-    line.push_str(word)?;
-    Ok(line.push(' ')?)
 }
 
 fn read_range(word: &str) -> Result<(u32, u32), Fault> {
@@ -89,51 +85,52 @@ fn read_range(word: &str) -> Result<(u32, u32), Fault> {
 /// A text of the rows, each behind the number of its line, in which a row `repeat A..B ROW` is ROW once for
 /// each number, which takes the place of every `#` in it.
 pub fn spell_rows(alloc: Global, rows: &[Row<'_>]) -> Result<String, Fault> {
-    let mut text = String::new(alloc);
+    let mut text = Listing::new(alloc);
     // the rows before this one are in the text, a repeated one once for each of its numbers
     for row in rows {
         match row.call.strip_prefix("repeat ") {
             Some(call) => spell_times(alloc, row, call, &mut text)?,
-            None => spell_row(row, row.call, "#", &mut text)?,
+            None => spell_row(row, row.call, "#", &mut text),
         }
     }
-    Ok(text)
+    Ok(text.into_string()?)
 }
 
 // Adds `A..B CALL` once for each number.
-fn spell_times(alloc: Global, row: &Row<'_>, call: &str, text: &mut String) -> Result<(), Fault> {
-    let (range, call) = call.split_once(' ').ok_or(Fault::NotUnderstood)?;
+fn spell_times(alloc: Global, row: &Row<'_>, call: &str, text: &mut Listing) -> Done {
+    let Some((range, call)) = call.split_once(' ') else {
+        return Err(Fault::NotUnderstood);
+    };
     let (first, end) = read_range(range)?;
     // the text has the row once for each number before this one
     for number in first..end {
         let number = format!(in alloc; "{number}")?;
-        spell_row(row, call, number.as_str(), text)?;
+        spell_row(row, call, number.as_str(), text);
     }
     Ok(())
 }
 
 // Adds a row with this call, in which a number takes the place of `#`.
-fn spell_row(row: &Row<'_>, call: &str, number: &str, text: &mut String) -> Result<(), Fault> {
+fn spell_row(row: &Row<'_>, call: &str, number: &str, text: &mut Listing) {
     let each = if row.is_refused { "refused each " } else { "" };
-    write!(text, "{} {each}", row.line)?;
-    add_replaced(call, number, text)?;
-    text.push_str(" = ")?;
-    add_replaced(row.wanted, number, text)?;
-    Ok(text.push('\n')?)
+    write!(text, "{} {each}", row.line);
+    add_replaced(call, number, text);
+    text.word(" = ");
+    add_replaced(row.wanted, number, text);
+    text.word("\n");
 }
 
 // Adds a text, in which a number takes the place of `#`.
-fn add_replaced(spelled: &str, number: &str, text: &mut String) -> Result<(), Fault> {
+fn add_replaced(spelled: &str, number: &str, text: &mut Listing) {
     let mut is_first = true;
     // the text has the parts before this one, with the number between two
     for part in spelled.split('#') {
         if !is_first {
-            text.push_str(number)?;
+            text.word(number);
         }
-        text.push_str(part)?;
+        text.word(part);
         is_first = false;
     }
-    Ok(())
 }
 
 /// The rows of such a text.
@@ -141,8 +138,12 @@ pub fn read_rows<'a>(alloc: Global, text: &'a str) -> Result<Vec<Row<'a>>, Fault
     let mut rows = Vec::new(alloc);
     // the rows of the lines before this one are there
     for line in text.lines() {
-        let (number, row) = line.split_once(' ').ok_or(Fault::NotUnderstood)?;
-        let number = number.parse().map_err(|_| Fault::NotUnderstood)?;
+        let Some((number, row)) = line.split_once(' ') else {
+            return Err(Fault::NotUnderstood);
+        };
+        let Ok(number) = number.parse() else {
+            return Err(Fault::NotUnderstood);
+        };
         rows.push(read_row(number, row))?;
     }
     Ok(rows)

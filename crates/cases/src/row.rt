@@ -1,7 +1,7 @@
 //! A row of a block.
 
 /// A call, and what it must answer.
-#[derive(Clone, Copy, Debug)]
+#[derive(Clone, Copy)]
 pub struct Row<'a> {
     pub line: u64,
     /// the words of the call
