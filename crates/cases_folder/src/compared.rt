@@ -2,9 +2,9 @@
 
 use crate::given_files::GivenFiles;
 use crate::left::fault_of;
-use cases::{Asker, Fault, Memory, end_refusals, word, words_of, write_space};
+use cases::{Asker, Done, Fault, Listing, Memory, end_refusals, word, words_of};
 use qm_folder::{FileStamp, ascend, changes, is_settled};
-use std::alloc::{AllocError, Global};
+use std::alloc::Global;
 
 /// Files that an index has kept, beside files that are found.
 #[derive(Drop)]
@@ -15,23 +15,17 @@ pub struct Compared {
 impl Asker for Compared {
     // `changes`, the places of the kept files that are gone and of the found ones that are to be read; `ascend`, which of
     // the two have their paths in order.
-    fn ask(
-        &mut self,
-        alloc: Global,
-        call: &str,
-        memory: Memory,
-        text: &mut String,
-    ) -> Result<(), Fault> {
+    fn ask(&mut self, alloc: Global, call: &str, memory: Memory, text: &mut Listing) -> Done {
         match call {
             "changes" => self.compare(alloc, memory, text),
-            "ascend" => Ok(self.write_order(alloc, memory, text)?),
+            "ascend" => Ok(self.write_order(alloc, memory, text)),
             _ => Err(Fault::NotUnderstood),
         }
     }
 }
 
 impl Compared {
-    fn compare(&self, alloc: Global, memory: Memory, text: &mut String) -> Result<(), Fault> {
+    fn compare(&self, alloc: Global, memory: Memory, text: &mut Listing) -> Done {
         if !ascend(&self.files.kept) || !ascend(&self.files.found) {
             return Err(Fault::NotAllowed);
         }
@@ -40,41 +34,34 @@ impl Compared {
         end_refusals(alloc);
         match compared {
             Ok(changed) => {
-                text.push_str("gone")?;
-                write_places(&changed.gone, text)?;
-                text.push_str(" read")?;
-                Ok(write_places(&changed.to_read, text)?)
+                text.word("gone");
+                write_places(&changed.gone, text);
+                text.word(" read");
+                Ok(write_places(&changed.to_read, text))
             }
             Err(error) => Err(fault_of(error)),
         }
     }
 
-    fn write_order(
-        &self,
-        alloc: Global,
-        memory: Memory,
-        text: &mut String,
-    ) -> Result<(), AllocError> {
+    fn write_order(&self, alloc: Global, memory: Memory, text: &mut Listing) {
         memory.begin(alloc);
         let kept = ascend(&self.files.kept);
         let found = ascend(&self.files.found);
         end_refusals(alloc);
-        text.push_str(match (kept, found) {
+        text.word(match (kept, found) {
             (true, true) => "both",
             (true, false) => "kept",
             (false, true) => "found",
             (false, false) => "none",
-        })
+        });
     }
 }
 
-fn write_places(places: &[usize], text: &mut String) -> Result<(), AllocError> {
+fn write_places(places: &[usize], text: &mut Listing) {
     // the places before this one are written
     for place in places {
-        write_space(text)?;
-        write!(text, "{place}")?;
+        text.add(place);
     }
-    Ok(())
 }
 
 /// A stamp.
@@ -98,13 +85,7 @@ impl GivenStamp {
 
 impl Asker for GivenStamp {
     // `read AT`, whether a file with that stamp which is read then is settled.
-    fn ask(
-        &mut self,
-        alloc: Global,
-        call: &str,
-        memory: Memory,
-        text: &mut String,
-    ) -> Result<(), Fault> {
+    fn ask(&mut self, alloc: Global, call: &str, memory: Memory, text: &mut Listing) -> Done {
         let words = words_of(alloc, call)?;
         if word(&words, 0) != "read" {
             return Err(Fault::NotUnderstood);
@@ -113,7 +94,7 @@ impl Asker for GivenStamp {
         memory.begin(alloc);
         let settled = is_settled(&self.stamp, read_at);
         end_refusals(alloc);
-        Ok(text.push_str(if settled { "settled" } else { "unsettled" })?)
+        Ok(text.word(if settled { "settled" } else { "unsettled" }))
     }
 }
 

@@ -1,7 +1,7 @@
 //! A change that is given by hand, and the index of before.
 
 use crate::spelled::named;
-use cases::{Fault, behind};
+use cases::{Done, Fault, behind};
 use qm_folder::{MANIFEST, NewFile};
 use std::alloc::{AllocError, Global};
 
@@ -40,7 +40,7 @@ impl GivenChange {
     }
 
     // Adds what a word of a part says.
-    fn add(&mut self, alloc: Global, part: u32, word: &str) -> Result<(), Fault> {
+    fn add(&mut self, alloc: Global, part: u32, word: &str) -> Done {
         if part == 2 {
             return Ok(self.gone.push(String::from_str(alloc, word)?)?);
         }

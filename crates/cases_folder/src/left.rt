@@ -5,7 +5,7 @@ ghost use Rattle.qm_folder.specs.Clean.{IsClean};
 ghost use Rattle.qm_folder.specs.Names.{file_names, names_of};
 
 use crate::given::{GivenChange, Which};
-use cases::{Fault, write_space};
+use cases::{Done, Fault, Listing};
 use qm_folder::{Folder, FolderError, MANIFEST, MemoryFolder, NewFile, is_clean};
 use qm_schema::QueryError;
 use std::alloc::{AllocError, Global};
@@ -28,7 +28,7 @@ impl Left {
     }
 
     /// Writes them.
-    pub fn write(self, text: &mut String) -> Result<(), AllocError> {
+    pub fn write(self, text: &mut Listing) {
         // those before this one are written, as far as they are there
         for (is_there, word) in [
             (self.before, "before"),
@@ -36,11 +36,9 @@ impl Left {
             (self.neither, "neither"),
         ] {
             if is_there {
-                write_space(text)?;
-                text.push_str(word)?;
+                text.add(word);
             }
         }
-        Ok(())
     }
 }
 
@@ -53,7 +51,7 @@ pub fn fault_of(error: FolderError) -> Fault {
 }
 
 /// Refused where the names of a change get in each other's way.
-pub fn ask_clean(alloc: Global, files: &[NewFile], gone: &[String]) -> Result<(), Fault>
+pub fn ask_clean(alloc: Global, files: &[NewFile], gone: &[String]) -> Done
     ensures { OnOk result (IsClean (file_names files.now) (names_of gone.now)) }
 {
     match is_clean(alloc, files, gone) {
@@ -163,32 +161,27 @@ fn bytes_of(content: &Option<Vec<u8>>) -> Option<&[u8]> {
 }
 
 /// Writes which index it is.
-pub fn write_which(which: Which, text: &mut String) -> Result<(), AllocError> {
-    write_space(text)?;
-    text.push_str(match which {
+pub fn write_which(which: Which, text: &mut Listing) {
+    text.add(match which {
         Which::Before => "before",
         Which::After => "after",
         Which::Neither => "neither",
-    })
+    });
 }
 
 /// Writes the names of a folder's files, in order.
-pub fn write_names<F: Folder>(
-    alloc: Global,
-    folder: &mut F,
-    text: &mut String,
-) -> Result<(), Fault> {
-    let mut names = match folder.list(alloc) {
-        Ok(names) => names,
-        Err(error) => return Err(fault_of(error)),
-    };
-    names.sort_unstable();
-    // the names before this one are written
-    for name in &names {
-        write_space(text)?;
-        text.push_str(name.as_str())?;
+pub fn write_names<F: Folder>(alloc: Global, folder: &mut F, text: &mut Listing) -> Done {
+    match folder.list(alloc) {
+        Ok(mut names) => {
+            names.sort_unstable();
+            // the names before this one are written
+            for name in &names {
+                text.add(name.as_str());
+            }
+            Ok(())
+        }
+        Err(error) => Err(fault_of(error)),
     }
-    Ok(())
 }
 
 /// Writes the bytes of a file, which are a text, or `none`.
@@ -196,13 +189,13 @@ pub fn write_file<F: Folder>(
     alloc: Global,
     folder: &mut F,
     name: &str,
-    text: &mut String,
-) -> Result<(), Fault> {
+    text: &mut Listing,
+) -> Done {
     match folder.read(alloc, name) {
         Err(error) => Err(fault_of(error)),
-        Ok(None) => Ok(text.push_str("none")?),
+        Ok(None) => Ok(text.word("none")),
         Ok(Some(bytes)) => match str::from_utf8(&bytes) {
-            Ok(read) => Ok(text.push_str(read)?),
+            Ok(read) => Ok(text.word(read)),
             Err(_) => Err(Fault::NotAllowed),
         },
     }

@@ -19,7 +19,7 @@ use std::process::ExitCode;
 fn main(rt: HostRuntime) -> io::Result<ExitCode> {
     let text = io::read_to_string(rt.alloc(), rt.reader())?;
     let scratch = system::scratch(&rt)?;
-    let mut report = Report::new(rt.alloc())?;
+    let mut report = Report::new(rt.alloc());
     let mut folders = Folders {
         files: &rt,
         scratch: scratch.as_str(),

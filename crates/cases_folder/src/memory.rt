@@ -7,7 +7,7 @@ ghost use Rattle.qm_folder.specs.MemoryFolder.{calls_of};
 
 use crate::given::GivenChange;
 use crate::left::{ask_clean, fault_of, left_of, seen_in, write_file, write_names, write_which};
-use cases::{Asker, Fault, Memory, end_refusals};
+use cases::{Asker, Done, Fault, Listing, Memory, end_refusals};
 use qm_folder::{FolderError, MemoryFolder, update};
 use qm_schema::QueryError;
 use std::alloc::Global;
@@ -50,61 +50,60 @@ fn make(
     Ok(made)
 }
 
-// Writes how a change ended.
-fn write_end(made: Result<(), FolderError>, text: &mut String) -> Result<(), Fault> {
-    match made {
-        Ok(()) => Ok(text.push_str("done")?),
-        Err(FolderError::Failed) => Ok(text.push_str("failed")?),
-        Err(FolderError::Memory) => Err(Fault::Refused(QueryError::Memory)),
-    }
+// Writes how a change ended, and which index a crash may leave then.
+fn write_end(
+    alloc: Global,
+    made: Result<(), FolderError>,
+    folder: &MemoryFolder,
+    change: &GivenChange,
+    text: &mut Listing,
+) -> Done {
+    text.word(match made {
+        Ok(()) => "done",
+        Err(FolderError::Failed) => "failed",
+        Err(FolderError::Memory) => return Err(Fault::Refused(QueryError::Memory)),
+    });
+    Ok(left_of(alloc, folder, change)?.write(text))
 }
 
 impl InMemory {
-    // `update`: how it ends, and which index a crash may leave then.
-    fn update(&self, alloc: Global, memory: Memory, text: &mut String) -> Result<(), Fault> {
+    // `update`: how it ends.
+    fn update(&self, alloc: Global, memory: Memory, text: &mut Listing) -> Done {
         let mut folder = begun(alloc, &self.change)?;
         let made = make(&mut folder, &self.change, alloc, memory)?;
-        write_end(made, text)?;
-        Ok(left_of(alloc, &folder, &self.change)?.write(text)?)
+        write_end(alloc, made, &folder, &self.change, text)
     }
 
     // `fails N`: the same where the call behind N others fails.
-    fn fail(&self, alloc: Global, calls: usize, text: &mut String) -> Result<(), Fault> {
+    fn fail(&self, alloc: Global, calls: usize, text: &mut Listing) -> Done {
         let mut folder = begun(alloc, &self.change)?;
         folder.fail_after(calls);
         let made = make(&mut folder, &self.change, alloc, Memory::Ample)?;
-        write_end(made, text)?;
-        Ok(left_of(alloc, &folder, &self.change)?.write(text)?)
+        write_end(alloc, made, &folder, &self.change, text)
     }
 
     // `sees N`: which index is seen then.
-    fn see(&self, alloc: Global, calls: usize, text: &mut String) -> Result<(), Fault> {
+    fn see(&self, alloc: Global, calls: usize, text: &mut Listing) -> Done {
         let mut folder = begun(alloc, &self.change)?;
         folder.fail_after(calls);
         let _ = make(&mut folder, &self.change, alloc, Memory::Ample)?;
         match seen_in(alloc, &mut folder, &self.change) {
-            Ok(which) => Ok(write_which(which, text)?),
+            Ok(which) => Ok(write_which(which, text)),
             Err(error) => Err(fault_of(error)),
         }
     }
 
     // `calls`: how many calls of the folder the change takes.
-    fn count(&self, alloc: Global, text: &mut String) -> Result<(), Fault> {
+    fn count(&self, alloc: Global, text: &mut Listing) -> Done {
         let mut folder = begun(alloc, &self.change)?;
         let before = folder.calls().len();
         let _ = make(&mut folder, &self.change, alloc, Memory::Ample)?;
         let calls = folder.calls().len().saturating_sub(before);
-        Ok(write!(text, "{calls}")?)
+        Ok(write!(text, "{calls}"))
     }
 
     // `names` and `file NAME`, behind the change.
-    fn read(
-        &self,
-        alloc: Global,
-        call: &str,
-        memory: Memory,
-        text: &mut String,
-    ) -> Result<(), Fault> {
+    fn read(&self, alloc: Global, call: &str, memory: Memory, text: &mut Listing) -> Done {
         let mut folder = begun(alloc, &self.change)?;
         let _ = make(&mut folder, &self.change, alloc, Memory::Ample)?;
         memory.begin(alloc);
@@ -118,13 +117,7 @@ impl InMemory {
 }
 
 impl Asker for InMemory {
-    fn ask(
-        &mut self,
-        alloc: Global,
-        call: &str,
-        memory: Memory,
-        text: &mut String,
-    ) -> Result<(), Fault> {
+    fn ask(&mut self, alloc: Global, call: &str, memory: Memory, text: &mut Listing) -> Done {
         if let Some(calls) = call.strip_prefix("fails ") {
             let calls = calls.parse().map_err(|_| Fault::NotUnderstood)?;
             return self.fail(alloc, calls, text);

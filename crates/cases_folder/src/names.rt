@@ -1,7 +1,7 @@
 //! Names of new files, and of files that are gone.
 
 use crate::left::fault_of;
-use cases::{Asker, Fault, Memory, behind, end_refusals};
+use cases::{Asker, Done, Fault, Listing, Memory, behind, end_refusals};
 use qm_folder::{NewFile, is_clean};
 use std::alloc::Global;
 
@@ -40,13 +40,7 @@ impl GivenNames {
 
 impl Asker for GivenNames {
     // `clean`, whether no name gets in another's way.
-    fn ask(
-        &mut self,
-        alloc: Global,
-        call: &str,
-        memory: Memory,
-        text: &mut String,
-    ) -> Result<(), Fault> {
+    fn ask(&mut self, alloc: Global, call: &str, memory: Memory, text: &mut Listing) -> Done {
         if call != "clean" {
             return Err(Fault::NotUnderstood);
         }
@@ -54,7 +48,7 @@ impl Asker for GivenNames {
         let clean = is_clean(alloc, &self.files, &self.gone);
         end_refusals(alloc);
         match clean {
-            Ok(clean) => Ok(text.push_str(if clean { "yes" } else { "no" })?),
+            Ok(clean) => Ok(text.word(if clean { "yes" } else { "no" })),
             Err(error) => Err(fault_of(error)),
         }
     }

@@ -6,7 +6,7 @@ use crate::given_files::GivenFiles;
 use crate::memory::InMemory;
 use crate::names::GivenNames;
 use crate::system::OnDisk;
-use cases::{Block, Fault, Player, Report, play_asked, word};
+use cases::{Block, Done, Fault, Player, Report, play_asked, word};
 use std::alloc::Global;
 use std::rt::Files;
 
@@ -19,7 +19,7 @@ pub struct Folders<'a, R: Files + AllocGlobal + Clone + Drop> {
 }
 
 impl<'a, R: Files + AllocGlobal + Clone + Drop> Player for Folders<'a, R> {
-    fn play(&mut self, alloc: Global, block: Block<'_>, report: &mut Report) -> Result<(), Fault> {
+    fn play(&mut self, alloc: Global, block: Block<'_>, report: &mut Report) -> Done {
         match word(block.words, 0) {
             "memory" => {
                 let change = GivenChange::make(alloc, block.words)?;

@@ -2,7 +2,7 @@
 
 use crate::given::GivenChange;
 use crate::left::{ask_clean, fault_of, seen_in, write_file, write_names, write_which};
-use cases::{Asker, Fault, Memory, end_refusals};
+use cases::{Asker, Done, Fault, Listing, Memory, end_refusals};
 use qm_folder::{NewFile, SystemFolder, update};
 use std::alloc::Global;
 use std::os::unix::fs::PermissionsExt;
@@ -26,7 +26,7 @@ pub struct OnDisk<'a, R: Files + AllocGlobal + Clone + Drop> {
 
 impl<'a, R: Files + AllocGlobal + Clone + Drop> OnDisk<'a, R> {
     // Makes the index of before and then the change, and tells what a row asks.
-    fn run(&self, alloc: Global, call: &str, text: &mut String) -> Result<(), Fault> {
+    fn run(&self, alloc: Global, call: &str, text: &mut Listing) -> Done {
         let mut folder = match SystemFolder::open(self.files, self.scratch) {
             Ok(folder) => folder,
             Err(error) => return Err(fault_of(error)),
@@ -50,8 +50,8 @@ impl<'a, R: Files + AllocGlobal + Clone + Drop> OnDisk<'a, R> {
         alloc: Global,
         folder: &mut SystemFolder<'a, R>,
         call: &str,
-        text: &mut String,
-    ) -> Result<(), Fault> {
+        text: &mut Listing,
+    ) -> Done {
         if let Some(name) = call.strip_prefix("file ") {
             return write_file(alloc, folder, name, text);
         }
@@ -61,7 +61,7 @@ impl<'a, R: Files + AllocGlobal + Clone + Drop> OnDisk<'a, R> {
         match call {
             "names" => write_names(alloc, folder, text),
             "update" => match seen_in(alloc, folder, &self.change) {
-                Ok(which) => Ok(write_which(which, text)?),
+                Ok(which) => Ok(write_which(which, text)),
                 Err(error) => Err(fault_of(error)),
             },
             _ => Err(Fault::NotUnderstood),
@@ -69,10 +69,10 @@ impl<'a, R: Files + AllocGlobal + Clone + Drop> OnDisk<'a, R> {
     }
 
     // Who may do what with a file, or with the folder, `.`: three digits from 0 to 7.
-    fn write_mode(&self, alloc: Global, name: &str, text: &mut String) -> Result<(), Fault> {
+    fn write_mode(&self, alloc: Global, name: &str, text: &mut Listing) -> Done {
         let path = format!(in alloc; "{}/{name}", self.scratch)?;
         match fs::metadata(self.files, path.as_str()) {
-            Ok(told) => Ok(write!(text, "{:o}", told.permissions().mode() & 0o777)?),
+            Ok(told) => Ok(write!(text, "{:o}", told.permissions().mode() & 0o777)),
             Err(_) => Err(Fault::NotAllowed),
         }
     }
@@ -85,7 +85,7 @@ fn make<R: Files + AllocGlobal + Clone + Drop>(
     files: &[NewFile],
     manifest: &[u8],
     gone: &[String],
-) -> Result<(), Fault> {
+) -> Done {
     ask_clean(alloc, files, gone)?;
     match update(folder, files, manifest, gone) {
         Ok(()) => Ok(()),
@@ -94,13 +94,7 @@ fn make<R: Files + AllocGlobal + Clone + Drop>(
 }
 
 impl<'a, R: Files + AllocGlobal + Clone + Drop> Asker for OnDisk<'a, R> {
-    fn ask(
-        &mut self,
-        alloc: Global,
-        call: &str,
-        memory: Memory,
-        text: &mut String,
-    ) -> Result<(), Fault> {
+    fn ask(&mut self, alloc: Global, call: &str, memory: Memory, text: &mut Listing) -> Done {
         memory.begin(alloc);
         let told = self.run(alloc, call, text);
         end_refusals(alloc);
