@@ -1,55 +1,55 @@
 //! Trees as rows show them.
 
 use crate::spelled::show_text;
+use cases::Listing;
 use qm_parser::{ParsedLeaf, ParsedQuery, Refusal, RefusalKind, Sign};
-use std::alloc::AllocError;
 
 /// Writes a tree: `word 'a'`, `prefix 'a'`, `phrase 2 'a b'`, `phrase prefix 'a b'`, `all`, `empty`, `field 'name' Q`,
 /// `boost 2 Q`, and `( + Q ? Q - Q )` for clauses.
-pub fn show_tree(tree: &ParsedQuery, text: &mut String) -> Result<(), AllocError> {
+pub fn show_tree(tree: &ParsedQuery, text: &mut Listing) {
     match tree {
-        ParsedQuery::Empty => text.push_str("empty"),
+        ParsedQuery::Empty => text.word("empty"),
         ParsedQuery::Leaf(leaf) => show_leaf(leaf, text),
         ParsedQuery::Field(name, inner) => {
-            text.push_str("field ")?;
-            show_text(name.as_str(), text)?;
-            text.push(' ')?;
-            show_tree(inner, text)
+            text.word("field ");
+            show_text(name.as_str(), text);
+            text.word(" ");
+            show_tree(inner, text);
         }
         ParsedQuery::Boost(boost, inner) => {
-            write!(text, "boost {boost} ")?;
-            show_tree(inner, text)
+            write!(text, "boost {boost} ");
+            show_tree(inner, text);
         }
         ParsedQuery::Boolean(clauses) => {
-            text.push('(')?;
+            text.word("(");
             // the clauses before this one are written, each behind its sign
             for (sign, clause) in clauses {
-                text.push_str(shown_sign(*sign))?;
-                show_tree(clause, text)?;
+                text.word(shown_sign(*sign));
+                show_tree(clause, text);
             }
-            text.push_str(" )")
+            text.word(" )");
         }
     }
 }
 
-fn show_leaf(leaf: &ParsedLeaf, text: &mut String) -> Result<(), AllocError> {
+fn show_leaf(leaf: &ParsedLeaf, text: &mut Listing) {
     match leaf {
-        ParsedLeaf::All => text.push_str("all"),
+        ParsedLeaf::All => text.word("all"),
         ParsedLeaf::Word(word) => {
-            text.push_str("word ")?;
-            show_text(word.as_str(), text)
+            text.word("word ");
+            show_text(word.as_str(), text);
         }
         ParsedLeaf::Prefix(word) => {
-            text.push_str("prefix ")?;
-            show_text(word.as_str(), text)
+            text.word("prefix ");
+            show_text(word.as_str(), text);
         }
         ParsedLeaf::Phrase { text: words, slop } => {
-            write!(text, "phrase {slop} ")?;
-            show_text(words.as_str(), text)
+            write!(text, "phrase {slop} ");
+            show_text(words.as_str(), text);
         }
         ParsedLeaf::PhrasePrefix(words) => {
-            text.push_str("phrase prefix ")?;
-            show_text(words.as_str(), text)
+            text.word("phrase prefix ");
+            show_text(words.as_str(), text);
         }
     }
 }
@@ -63,25 +63,25 @@ fn shown_sign(sign: Sign) -> &'static str {
 }
 
 /// Writes how a tree begins, where it is large: how many clauses it has, or what it is.
-pub fn show_size(tree: &ParsedQuery, text: &mut String) -> Result<(), AllocError> {
+pub fn show_size(tree: &ParsedQuery, text: &mut Listing) {
     match tree {
         ParsedQuery::Boolean(clauses) => write!(text, "{} clauses", clauses.len()),
         ParsedQuery::Leaf(ParsedLeaf::Word(word)) => write!(text, "word of {}", word.len()),
         ParsedQuery::Leaf(ParsedLeaf::Phrase { text: words, .. }) => {
-            write!(text, "phrase of {}", words.len())
+            write!(text, "phrase of {}", words.len());
         }
-        _ => text.push_str("other"),
+        _ => text.word("other"),
     }
 }
 
 /// Writes `refused KIND at N`.
-pub fn show_refusal(refusal: Refusal, text: &mut String) -> Result<(), AllocError> {
+pub fn show_refusal(refusal: Refusal, text: &mut Listing) {
     write!(
         text,
         "refused {} at {}",
         shown_kind(refusal.kind),
         refusal.at
-    )
+    );
 }
 
 fn shown_kind(kind: RefusalKind) -> &'static str {

@@ -1,7 +1,7 @@
 //! Texts as rows spell and show them.
 
-use cases::Fault;
-use std::alloc::{AllocError, Global};
+use cases::{Fault, Listing};
+use std::alloc::Global;
 
 /// The text that a row spells: each `%` with two digits is a byte.
 pub fn read_text(alloc: Global, spelled: &str) -> Result<String, Fault> {
@@ -12,8 +12,13 @@ pub fn read_text(alloc: Global, spelled: &str) -> Result<String, Fault> {
         let rest = if is_first {
             part
         } else {
-            let (digits, rest) = part.split_at_checked(2).ok_or(Fault::NotUnderstood)?;
-            bytes.push(u8::from_str_radix(digits, 16).map_err(|_| Fault::NotUnderstood)?)?;
+            let Some((digits, rest)) = part.split_at_checked(2) else {
+                return Err(Fault::NotUnderstood);
+            };
+            let Ok(byte) = u8::from_str_radix(digits, 16) else {
+                return Err(Fault::NotUnderstood);
+            };
+            bytes.push(byte)?;
             rest
         };
         bytes.extend_from_slice(rest.as_bytes())?;
@@ -27,15 +32,15 @@ pub fn read_text(alloc: Global, spelled: &str) -> Result<String, Fault> {
 
 /// Writes a text between two `'`. Of its bytes those that stand for themselves in a row stay, but for `%`,
 /// `'` and `=`; each other one is a `%` with two digits.
-pub fn show_text(shown: &str, text: &mut String) -> Result<(), AllocError> {
-    text.push('\'')?;
+pub fn show_text(shown: &str, text: &mut Listing) {
+    text.word("'");
     // the bytes before this one are written, each as itself or as a `%` with two digits
     for byte in shown.as_bytes() {
         if (*byte == b' ' || byte.is_ascii_graphic()) && !matches!(*byte, b'%' | b'\'' | b'=') {
-            text.push(char::from(*byte))?;
+            write!(text, "{}", char::from(*byte));
         } else {
-            write!(text, "%{byte:02x}")?;
+            write!(text, "%{byte:02x}");
         }
     }
-    text.push('\'')
+    text.word("'");
 }
