@@ -6,12 +6,12 @@ ghost use Rattle.qm_docset.specs.BitSet.{set_max_value};
 
 use crate::answer::Answer;
 use crate::bit_set::read_bit_set;
-use cases::{Asker, Block, Fault, Memory, Report, behind, end_refusals, play_asked};
+use cases::{Asker, Block, Done, Listing, Memory, Report, behind, end_refusals, play_asked};
 use qm_docset::{AliveBitSet, DocId};
 use std::alloc::Global;
 
 /// Plays `alivebits MAX DOC..`.
-pub fn play_alive_bits(alloc: Global, block: Block<'_>, report: &mut Report) -> Result<(), Fault> {
+pub fn play_alive_bits(alloc: Global, block: Block<'_>, report: &mut Report) -> Done {
     let set = read_bit_set(alloc, behind(block.words, 1), block.memory)?;
     let max_value = set.max_value();
     let mut asked = AskedAliveBits {
@@ -30,13 +30,7 @@ struct AskedAliveBits {
 }
 
 impl Asker for AskedAliveBits {
-    fn ask(
-        &mut self,
-        alloc: Global,
-        call: &str,
-        memory: Memory,
-        text: &mut String,
-    ) -> Result<(), Fault> {
+    fn ask(&mut self, alloc: Global, call: &str, memory: Memory, text: &mut Listing) -> Done {
         memory.begin(alloc);
         let answer = self.answer(call);
         end_refusals(alloc);

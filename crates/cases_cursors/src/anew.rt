@@ -5,8 +5,8 @@ ghost use Rattle.qm_docset.specs.Lists.{IsPlaced};
 
 use crate::cursors::{read_ascending, read_bits};
 use cases::{
-    Asker, Block, Fault, Memory, Moves, Report, behind, end_refusals, number, play_asked,
-    read_document, read_leaf, word, write_document, write_space,
+    Asker, Block, Done, Fault, Listing, Memory, Moves, Report, behind, end_refusals, number,
+    play_asked, read_document, read_leaf, word,
 };
 use qm_combine::{AllScorer, ConstScorer, Scorer, scores_left};
 use qm_docset::{DocId, DocSet, Score, TERMINATED, VecDocSet, documents_left, seek_by_steps};
@@ -14,7 +14,7 @@ use qm_schema::QueryError;
 use std::alloc::Global;
 
 /// Plays `from DOC CURSOR`: each row is on the cursor made anew, which was sent to the document.
-pub fn play_anew(alloc: Global, block: Block<'_>, report: &mut Report) -> Result<(), Fault> {
+pub fn play_anew(alloc: Global, block: Block<'_>, report: &mut Report) -> Done {
     let Some(from) = number(block.words, 1) else {
         return Err(Fault::NotUnderstood);
     };
@@ -32,13 +32,7 @@ struct AskedAnew<'a, 'b> {
 }
 
 impl<'a, 'b> Asker for AskedAnew<'a, 'b> {
-    fn ask(
-        &mut self,
-        alloc: Global,
-        call: &str,
-        memory: Memory,
-        text: &mut String,
-    ) -> Result<(), Fault> {
+    fn ask(&mut self, alloc: Global, call: &str, memory: Memory, text: &mut Listing) -> Done {
         let request = Request {
             alloc,
             from: self.from,
@@ -63,7 +57,7 @@ struct Request<'a> {
     memory: Memory,
 }
 
-fn ask_all(request: Request<'_>, words: &[&str], text: &mut String) -> Result<(), Fault> {
+fn ask_all(request: Request<'_>, words: &[&str], text: &mut Listing) -> Done {
     let Some(max_doc) = number(words, 1) else {
         return Err(Fault::NotUnderstood);
     };
@@ -73,24 +67,24 @@ fn ask_all(request: Request<'_>, words: &[&str], text: &mut String) -> Result<()
     ask_scorer(request, AllScorer::new(max_doc), text)
 }
 
-fn ask_vec(request: Request<'_>, words: &[&str], text: &mut String) -> Result<(), Fault> {
+fn ask_vec(request: Request<'_>, words: &[&str], text: &mut Listing) -> Done {
     let docs = read_ascending(request.alloc, behind(words, 1))?;
     ask_scorer(request, ConstScorer::from(VecDocSet::new(docs)), text)
 }
 
-fn ask_bits(request: Request<'_>, words: &[&str], text: &mut String) -> Result<(), Fault> {
+fn ask_bits(request: Request<'_>, words: &[&str], text: &mut Listing) -> Done {
     let bits = read_bits(request.alloc, behind(words, 1), Memory::Ample)?;
     ask_scorer(request, ConstScorer::from(bits), text)
 }
 
-fn ask_leaf(request: Request<'_>, words: &[&str], text: &mut String) -> Result<(), Fault> {
+fn ask_leaf(request: Request<'_>, words: &[&str], text: &mut Listing) -> Done {
     let moves = Moves::new();
     let leaf = read_leaf(request.alloc, words, true, &moves)?;
     ask_scorer(request, leaf, text)
 }
 
 // Makes the call, and writes what it asks for of its answer.
-fn ask_scorer<S: Scorer>(request: Request<'_>, scorer: S, text: &mut String) -> Result<(), Fault>
+fn ask_scorer<S: Scorer>(request: Request<'_>, scorer: S, text: &mut Listing) -> Done
     requires { S.valid scorer }
 {
     let mut scorer = scorer;
@@ -105,7 +99,7 @@ fn ask_scorer<S: Scorer>(request: Request<'_>, scorer: S, text: &mut String) -> 
 }
 
 // Makes a seek of some kind, and writes the document that it leads to, and the one behind.
-fn ask_seek<S: Scorer>(request: Request<'_>, scorer: S, text: &mut String) -> Result<(), Fault>
+fn ask_seek<S: Scorer>(request: Request<'_>, scorer: S, text: &mut Listing) -> Done
     requires { IsPlaced S.DocSet scorer }
 {
     let Some((name, target)) = request.call.split_once(' ') else {
@@ -121,9 +115,9 @@ fn ask_seek<S: Scorer>(request: Request<'_>, scorer: S, text: &mut String) -> Re
     let Some((doc, next)) = found else {
         return Err(Fault::NotUnderstood);
     };
-    write_document(doc, text)?;
-    text.push_str(" then ")?;
-    Ok(write_document(next, text)?)
+    text.document(doc);
+    text.word(" then ");
+    Ok(text.document(next))
 }
 
 // The document that a seek leads to, and the next one.
@@ -139,12 +133,7 @@ fn seek_by_name<S: Scorer>(scorer: &mut S, name: &str, target: DocId) -> Option<
     Some((doc, scorer.advance()))
 }
 
-fn ask_documents<S: Scorer>(
-    request: Request<'_>,
-    scorer: S,
-    part: &str,
-    text: &mut String,
-) -> Result<(), Fault>
+fn ask_documents<S: Scorer>(request: Request<'_>, scorer: S, part: &str, text: &mut Listing) -> Done
     requires { IsPlaced S.DocSet scorer }
 {
     request.memory.begin(request.alloc);
@@ -156,12 +145,7 @@ fn ask_documents<S: Scorer>(
     }
 }
 
-fn ask_scores<S: Scorer>(
-    request: Request<'_>,
-    scorer: S,
-    part: &str,
-    text: &mut String,
-) -> Result<(), Fault>
+fn ask_scores<S: Scorer>(request: Request<'_>, scorer: S, part: &str, text: &mut Listing) -> Done
     requires { IsPlaced S.DocSet scorer }
 {
     request.memory.begin(request.alloc);
@@ -205,32 +189,34 @@ impl Part {
 }
 
 // Writes the documents that are asked for, or how many there are.
-fn write_documents(left: &[DocId], part: &str, text: &mut String) -> Result<(), Fault> {
-    let part = Part::read(part).ok_or(Fault::NotUnderstood)?;
+fn write_documents(left: &[DocId], part: &str, text: &mut Listing) -> Done {
+    let Some(part) = Part::read(part) else {
+        return Err(Fault::NotUnderstood);
+    };
     if matches!(part, Part::Count) {
-        write!(text, "{}", left.len())?;
+        text.add(left.len());
     }
     // those asked for before this place are written
     for (place, doc) in left.iter().enumerate() {
         if part.has(place) {
-            write_space(text)?;
-            write_document(*doc, text)?;
+            text.next(*doc);
         }
     }
     Ok(())
 }
 
 // The same of documents with their scores.
-fn write_scores(left: &[(DocId, Score)], part: &str, text: &mut String) -> Result<(), Fault> {
-    let part = Part::read(part).ok_or(Fault::NotUnderstood)?;
+fn write_scores(left: &[(DocId, Score)], part: &str, text: &mut Listing) -> Done {
+    let Some(part) = Part::read(part) else {
+        return Err(Fault::NotUnderstood);
+    };
     if matches!(part, Part::Count) {
-        write!(text, "{}", left.len())?;
+        text.add(left.len());
     }
     // as above
     for (place, (doc, score)) in left.iter().enumerate() {
         if part.has(place) {
-            write_space(text)?;
-            write!(text, "{doc}:{score}")?;
+            text.score(*doc, *score);
         }
     }
     Ok(())

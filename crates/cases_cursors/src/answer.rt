@@ -1,8 +1,7 @@
 //! What a call answered.
 
-use cases::{Fault, write_document, write_space};
+use cases::{Done, Fault, Listing};
 use qm_docset::{DocId, Score, TinySet};
-use std::alloc::AllocError;
 
 /// What a call answered.
 #[derive(Clone, Copy)]
@@ -33,38 +32,34 @@ impl Answer {
     }
 
     /// Writes this answer behind a text; what is none is a fault.
-    pub fn write(self, text: &mut String) -> Result<(), Fault> {
-        let written = match self {
-            Answer::Nothing => Ok(()),
+    pub fn write(self, text: &mut Listing) -> Done {
+        match self {
+            Answer::Nothing => {}
             Answer::Truth(truth) => write!(text, "{truth}"),
             Answer::Number(number) => write!(text, "{number}"),
             Answer::Score(score) => write!(text, "{score}"),
-            Answer::Document(doc) => write_document(doc, text),
-            Answer::NoValue => text.push_str("none"),
-            Answer::Found => text.push_str("found"),
-            Answer::Below(doc) => write_below(doc, text),
+            Answer::Document(doc) => text.document(doc),
+            Answer::NoValue => text.word("none"),
+            Answer::Found => text.word("found"),
+            Answer::Below(doc) => {
+                text.word("below ");
+                text.document(doc);
+            }
             Answer::Members(set) => write_members(set, text),
             Answer::NotAllowed => return Err(Fault::NotAllowed),
             Answer::NotUnderstood => return Err(Fault::NotUnderstood),
-        };
-        Ok(written?)
+        }
+        Ok(())
     }
 }
 
-fn write_below(doc: DocId, text: &mut String) -> Result<(), AllocError> {
-    text.push_str("below ")?;
-    write_document(doc, text)
-}
-
 // Writes the members of a small set, which are at most 64.
-fn write_members(set: TinySet, text: &mut String) -> Result<(), AllocError> {
+fn write_members(set: TinySet, text: &mut Listing) {
     let mut left = set;
     // those that were written are no longer in the set
     for _ in 0..64 {
         if let Some(member) = left.pop_lowest() {
-            write_space(text)?;
-            write!(text, "{member}")?;
+            text.add(member);
         }
     }
-    Ok(())
 }

@@ -2,7 +2,8 @@
 
 use crate::answer::Answer;
 use cases::{
-    Asker, Block, Fault, Memory, Report, behind, end_refusals, number, play_asked, read_documents,
+    Asker, Block, Done, Fault, Listing, Memory, Report, behind, end_refusals, number, play_asked,
+    read_documents,
 };
 use qm_docset::BitSet;
 use qm_schema::QueryError;
@@ -31,7 +32,7 @@ pub fn read_bit_set(alloc: Global, words: &[&str], memory: Memory) -> Result<Bit
 }
 
 /// Plays `bitset MAX DOC..`.
-pub fn play_bit_set(alloc: Global, block: Block<'_>, report: &mut Report) -> Result<(), Fault> {
+pub fn play_bit_set(alloc: Global, block: Block<'_>, report: &mut Report) -> Done {
     let set = read_bit_set(alloc, behind(block.words, 1), block.memory)?;
     let mut asked = AskedBitSet { set };
     play_asked(alloc, &mut asked, block.rows, report)
@@ -43,13 +44,7 @@ struct AskedBitSet {
 }
 
 impl Asker for AskedBitSet {
-    fn ask(
-        &mut self,
-        alloc: Global,
-        call: &str,
-        memory: Memory,
-        text: &mut String,
-    ) -> Result<(), Fault> {
+    fn ask(&mut self, alloc: Global, call: &str, memory: Memory, text: &mut Listing) -> Done {
         memory.begin(alloc);
         let answer = self.answer(call);
         end_refusals(alloc);

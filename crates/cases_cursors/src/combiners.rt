@@ -5,13 +5,13 @@ ghost use Rattle.qm_docset.specs.Entry.{head_document, head_score};
 
 use crate::answer::Answer;
 use crate::gathered::read_maximum;
-use cases::{Asker, Block, Fault, Memory, Report, end_refusals, play_asked, word};
+use cases::{Asker, Block, Done, Fault, Listing, Memory, Report, end_refusals, play_asked, word};
 use qm_combine::{AllScorer, ConstScorer, Counted, DoNothingCombiner, ScoreCombiner, SumCombiner};
 use qm_docset::{DocSet, Score};
 use std::alloc::Global;
 
 /// Plays `combiner COMBINER`.
-pub fn play_combiner(alloc: Global, block: Block<'_>, report: &mut Report) -> Result<(), Fault> {
+pub fn play_combiner(alloc: Global, block: Block<'_>, report: &mut Report) -> Done {
     match word(block.words, 1) {
         "sum" => play_calls(alloc, SumCombiner::default(), block, report),
         "nothing" => play_calls(alloc, DoNothingCombiner, block, report),
@@ -28,7 +28,7 @@ fn play_calls<C: ScoreCombiner>(
     combiner: C,
     block: Block<'_>,
     report: &mut Report,
-) -> Result<(), Fault> {
+) -> Done {
     let mut asked = AskedCombiner {
         combiner,
         calls: Vec::new(alloc),
@@ -51,19 +51,15 @@ struct AskedCombiner<C: ScoreCombiner> {
 }
 
 impl<C: ScoreCombiner> Asker for AskedCombiner<C> {
-    fn ask(
-        &mut self,
-        alloc: Global,
-        call: &str,
-        memory: Memory,
-        text: &mut String,
-    ) -> Result<(), Fault> {
+    fn ask(&mut self, alloc: Global, call: &str, memory: Memory, text: &mut Listing) -> Done {
         if call == "clear" {
             return Ok(self.calls.push(Change::Clear)?);
         }
         if let Some(score) = call.strip_prefix("update ") {
-            let score = score.parse::<u64>().ok().ok_or(Fault::NotUnderstood)?;
-            return Ok(self.calls.push(Change::Update(score))?);
+            return match score.parse() {
+                Ok(score) => Ok(self.calls.push(Change::Update(score))?),
+                Err(_) => Err(Fault::NotUnderstood),
+            };
         }
         memory.begin(alloc);
         let answer = match call {

@@ -3,7 +3,7 @@
 ghost use Rattle.std.specs.Prelude.{◌≤ℤ◌, IfOk, pos};
 ghost use Rattle.qm_docset.specs.Lists.{ArePlaced};
 
-use cases::{Fault, behind, read_documents, score, word};
+use cases::{Done, Fault, behind, read_documents, score, word};
 use qm_combine::{AllScorer, ConstScorer};
 use qm_docset::{DocId, DocSet, Score, TERMINATED};
 use std::alloc::Global;
@@ -32,7 +32,7 @@ pub fn read_constants(alloc: Global, words: &[&str]) -> Result<Vec<Constant>, Fa
 }
 
 // Adds a member for each of these numbers of documents.
-fn add_constants(score: Score, ends: &[DocId], members: &mut Vec<Constant>) -> Result<(), Fault>
+fn add_constants(score: Score, ends: &[DocId], members: &mut Vec<Constant>) -> Done
     requires score { pos 0 ≤ℤ score }
     requires placed { ArePlaced ⟦<ConstScorer<AllScorer> as DocSet>⟧ members.old.items }
     ensures placed { ArePlaced ⟦<ConstScorer<AllScorer> as DocSet>⟧ members.new.items }

@@ -7,27 +7,42 @@ ghost use Rattle.qm_docset.specs.Lists.{IsPlaced};
 use crate::bit_set::read_bit_set;
 use crate::only_steps::OnlySteps;
 use cases::{
-    Block, Desk, Fault, Memory, Moves, Report, behind, end_refusals, number, play_scores,
+    Block, Desk, Done, Fault, Memory, Moves, Report, behind, end_refusals, number, play_scores,
     read_documents, read_leaf,
 };
 use qm_combine::{AllScorer, ConstScorer, EmptyScorer, Scorer};
 use qm_docset::{AliveBitSet, BitSetDocSet, DocId, DocSet, TERMINATED, VecDocSet, are_documents};
+use qm_schema::QueryError;
 use std::alloc::Global;
 
-/// Plays rows on a scorer whose members count moves.
+/// Plays rows on a scorer whose members count moves, and ends the refusals of memory before that.
 pub fn play_made<S: Scorer>(
     alloc: Global,
     desk: &Desk<'_>,
     scorer: S,
     block: Block<'_>,
     report: &mut Report,
-) -> Result<(), Fault>
+) -> Done
     requires { IsPlaced S.DocSet scorer }
 {
+    end_refusals(alloc);
     let mut scorer = scorer;
-    match play_scores(alloc, desk, &mut scorer, block.rows, report) {
-        Ok(()) => Ok(()),
-        Err(_) => Err(Fault::Memory),
+    play_scores(alloc, desk, &mut scorer, block.rows, report)
+}
+
+/// The same where it was made; a fault where it was refused.
+pub fn play_new<S: Scorer>(
+    alloc: Global,
+    desk: &Desk<'_>,
+    made: Result<S, QueryError>,
+    block: Block<'_>,
+    report: &mut Report,
+) -> Done
+    requires { IfOk made (λ s. IsPlaced S.DocSet s) }
+{
+    match made {
+        Ok(scorer) => play_made(alloc, desk, scorer, block, report),
+        Err(error) => Err(Fault::Refused(error)),
     }
 }
 
@@ -38,14 +53,11 @@ fn play_unscored<D: DocSet>(
     docset: D,
     block: Block<'_>,
     report: &mut Report,
-) -> Result<(), Fault>
+) -> Done
     requires { IsPlaced D.DocSet docset }
 {
-    let moves = Moves::new();
-    let desk = Desk {
-        alive,
-        moves: &moves,
-    };
+    let moves = &Moves::new();
+    let desk = Desk { alive, moves };
     let scorer = ConstScorer::from(docset);
     play_made(alloc, &desk, scorer, block, report)
 }
@@ -68,28 +80,18 @@ pub fn play_leaf(
     alive: &AliveBitSet,
     block: Block<'_>,
     report: &mut Report,
-) -> Result<(), Fault> {
-    let moves = Moves::new();
-    let leaf = read_leaf(alloc, block.words, true, &moves)?;
-    let desk = Desk {
-        alive,
-        moves: &moves,
-    };
+) -> Done {
+    let moves = &Moves::new();
+    let leaf = read_leaf(alloc, block.words, true, moves)?;
+    let desk = Desk { alive, moves };
     play_made(alloc, &desk, leaf, block, report)
 }
 
 /// Plays `vec DOC..`.
-pub fn play_vec(
-    alloc: Global,
-    alive: &AliveBitSet,
-    block: Block<'_>,
-    report: &mut Report,
-) -> Result<(), Fault> {
+pub fn play_vec(alloc: Global, alive: &AliveBitSet, block: Block<'_>, report: &mut Report) -> Done {
     let docs = read_ascending(alloc, behind(block.words, 1))?;
     block.memory.begin(alloc);
-    let docset = VecDocSet::new(docs);
-    end_refusals(alloc);
-    play_unscored(alloc, alive, docset, block, report)
+    play_unscored(alloc, alive, VecDocSet::new(docs), block, report)
 }
 
 /// Plays `boxed DOC..`.
@@ -98,7 +100,7 @@ pub fn play_boxed(
     alive: &AliveBitSet,
     block: Block<'_>,
     report: &mut Report,
-) -> Result<(), Fault> {
+) -> Done {
     let docs = read_ascending(alloc, behind(block.words, 1))?;
     let docset = Box::new(alloc, VecDocSet::new(docs))?;
     play_unscored(alloc, alive, docset, block, report)
@@ -110,7 +112,7 @@ pub fn play_steps(
     alive: &AliveBitSet,
     block: Block<'_>,
     report: &mut Report,
-) -> Result<(), Fault> {
+) -> Done {
     let docs = read_ascending(alloc, behind(block.words, 1))?;
     let docset = OnlySteps {
         docs: VecDocSet::new(docs),
@@ -124,7 +126,7 @@ pub fn play_bits(
     alive: &AliveBitSet,
     block: Block<'_>,
     report: &mut Report,
-) -> Result<(), Fault> {
+) -> Done {
     let docset = read_bits(alloc, behind(block.words, 1), block.memory)?;
     play_unscored(alloc, alive, docset, block, report)
 }
@@ -138,33 +140,21 @@ pub fn read_bits(alloc: Global, words: &[&str], memory: Memory) -> Result<BitSet
         return Err(Fault::NotAllowed);
     }
     memory.begin(alloc);
-    let docset = BitSetDocSet::new(set);
-    end_refusals(alloc);
-    Ok(docset)
+    Ok(BitSetDocSet::new(set))
 }
 
 /// Plays `all N`.
-pub fn play_all(
-    alloc: Global,
-    alive: &AliveBitSet,
-    block: Block<'_>,
-    report: &mut Report,
-) -> Result<(), Fault> {
+pub fn play_all(alloc: Global, alive: &AliveBitSet, block: Block<'_>, report: &mut Report) -> Done {
     let Some(max_doc) = number(block.words, 1) else {
         return Err(Fault::NotUnderstood);
     };
     if max_doc > TERMINATED {
         return Err(Fault::NotAllowed);
     }
-    let moves = Moves::new();
-    let desk = Desk {
-        alive,
-        moves: &moves,
-    };
+    let moves = &Moves::new();
+    let desk = Desk { alive, moves };
     block.memory.begin(alloc);
-    let scorer = AllScorer::new(max_doc);
-    end_refusals(alloc);
-    play_made(alloc, &desk, scorer, block, report)
+    play_made(alloc, &desk, AllScorer::new(max_doc), block, report)
 }
 
 /// Plays `empty`.
@@ -173,11 +163,8 @@ pub fn play_empty(
     alive: &AliveBitSet,
     block: Block<'_>,
     report: &mut Report,
-) -> Result<(), Fault> {
-    let moves = Moves::new();
-    let desk = Desk {
-        alive,
-        moves: &moves,
-    };
+) -> Done {
+    let moves = &Moves::new();
+    let desk = Desk { alive, moves };
     play_made(alloc, &desk, EmptyScorer, block, report)
 }

@@ -2,14 +2,14 @@
 
 use crate::answer::Answer;
 use cases::{
-    Asker, Block, Fault, Memory, Report, behind, end_refusals, play_asked, read_document,
+    Asker, Block, Done, Listing, Memory, Report, behind, end_refusals, play_asked, read_document,
     read_documents,
 };
 use qm_docset::{DocId, are_documents, gallop};
 use std::alloc::Global;
 
 /// Plays `documents DOC..`.
-pub fn play_documents(alloc: Global, block: Block<'_>, report: &mut Report) -> Result<(), Fault> {
+pub fn play_documents(alloc: Global, block: Block<'_>, report: &mut Report) -> Done {
     let docs = read_documents(alloc, behind(block.words, 1))?;
     let mut asked = AskedDocuments { docs };
     play_asked(alloc, &mut asked, block.rows, report)
@@ -21,13 +21,7 @@ struct AskedDocuments {
 }
 
 impl Asker for AskedDocuments {
-    fn ask(
-        &mut self,
-        alloc: Global,
-        call: &str,
-        memory: Memory,
-        text: &mut String,
-    ) -> Result<(), Fault> {
+    fn ask(&mut self, alloc: Global, call: &str, memory: Memory, text: &mut Listing) -> Done {
         memory.begin(alloc);
         let answer = answer(&self.docs, call);
         end_refusals(alloc);

@@ -2,14 +2,14 @@
 
 use crate::cursors::read_bits;
 use cases::{
-    Asker, Block, Fault, Memory, Moves, Report, behind, end_refusals, play_asked, read_documents,
-    read_leaves, word, words_of, write_space,
+    Asker, Block, Done, Fault, Listing, Memory, Moves, Report, behind, play_asked, read_documents,
+    read_leaves, word, words_of,
 };
 use qm_docset::{DocId, ExclusionSet, TERMINATED};
 use std::alloc::Global;
 
 /// Plays `exclusion LEAF ; ..` and `exclusion bits MAX DOC..`: each row is on the set made anew.
-pub fn play_exclusion(alloc: Global, block: Block<'_>, report: &mut Report) -> Result<(), Fault> {
+pub fn play_exclusion(alloc: Global, block: Block<'_>, report: &mut Report) -> Done {
     let mut asked = AskedExclusion {
         words: behind(block.words, 1),
     };
@@ -22,13 +22,7 @@ struct AskedExclusion<'a, 'b> {
 }
 
 impl<'a, 'b> Asker for AskedExclusion<'a, 'b> {
-    fn ask(
-        &mut self,
-        alloc: Global,
-        call: &str,
-        memory: Memory,
-        text: &mut String,
-    ) -> Result<(), Fault> {
+    fn ask(&mut self, alloc: Global, call: &str, memory: Memory, text: &mut Listing) -> Done {
         let words = words_of(alloc, call)?;
         if word(&words, 0) != "contains" {
             return Err(Fault::NotUnderstood);
@@ -47,13 +41,11 @@ fn ask_bits(
     words: &[&str],
     docs: &[DocId],
     memory: Memory,
-    text: &mut String,
-) -> Result<(), Fault> {
+    text: &mut Listing,
+) -> Done {
     let mut bits = read_bits(alloc, behind(words, 1), Memory::Ample)?;
     memory.begin(alloc);
-    let answer = ask_in_turn(&mut bits, docs, text);
-    end_refusals(alloc);
-    answer
+    ask_in_turn(&mut bits, docs, text)
 }
 
 fn ask_leaves(
@@ -61,26 +53,22 @@ fn ask_leaves(
     words: &[&str],
     docs: &[DocId],
     memory: Memory,
-    text: &mut String,
-) -> Result<(), Fault> {
+    text: &mut Listing,
+) -> Done {
     let moves = Moves::new();
     let mut leaves = read_leaves(alloc, words, &moves)?;
     if leaves.len() == 1 {
         let mut leaf = leaves.swap_remove(0);
         memory.begin(alloc);
-        let answer = ask_in_turn(&mut leaf, docs, text);
-        end_refusals(alloc);
-        answer
+        ask_in_turn(&mut leaf, docs, text)
     } else {
         memory.begin(alloc);
-        let answer = ask_in_turn(&mut leaves, docs, text);
-        end_refusals(alloc);
-        answer
+        ask_in_turn(&mut leaves, docs, text)
     }
 }
 
 // Asks a set for documents in turn, and writes each answer.
-fn ask_in_turn<E: ExclusionSet>(set: &mut E, docs: &[DocId], text: &mut String) -> Result<(), Fault>
+fn ask_in_turn<E: ExclusionSet>(set: &mut E, docs: &[DocId], text: &mut Listing) -> Done
     requires { E.usable set.old }
 {
     // the set can be asked, and the answers for those before are written
@@ -88,9 +76,7 @@ fn ask_in_turn<E: ExclusionSet>(set: &mut E, docs: &[DocId], text: &mut String) 
         if *doc >= TERMINATED {
             return Err(Fault::NotAllowed);
         }
-        let is_member = set.contains(*doc);
-        write_space(text)?;
-        write!(text, "{is_member}")?;
+        text.add(set.contains(*doc));
     }
     Ok(())
 }

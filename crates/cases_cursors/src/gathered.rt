@@ -4,8 +4,8 @@ ghost use Rattle.std.specs.Prelude.{◌≤◌};
 ghost use Rattle.qm_docset.specs.Lists.{ArePlaced};
 
 use crate::constants::read_constants;
-use crate::cursors::play_made;
-use cases::{Block, Desk, Fault, Moves, Report, behind, end_refusals, number, read_leaves, word};
+use crate::cursors::play_new;
+use cases::{Block, Desk, Done, Fault, Moves, Report, behind, number, read_leaves, word};
 use qm_combine::{
     BufferedDisjunction, BufferedUnionScorer, Disjunction, DisjunctionMaxCombiner,
     DoNothingCombiner, Intersection, ScoreCombiner, Scorer, SumCombiner,
@@ -19,12 +19,9 @@ pub fn play_intersection(
     alive: &AliveBitSet,
     block: Block<'_>,
     report: &mut Report,
-) -> Result<(), Fault> {
-    let moves = Moves::new();
-    let desk = Desk {
-        alive,
-        moves: &moves,
-    };
+) -> Done {
+    let moves = &Moves::new();
+    let desk = Desk { alive, moves };
     let Some(num_docs) = number(block.words, 1) else {
         return Err(Fault::NotUnderstood);
     };
@@ -33,7 +30,7 @@ pub fn play_intersection(
         let members = read_constants(alloc, words)?;
         intersect(alloc, &desk, members, num_docs, block, report)
     } else {
-        let members = read_leaves(alloc, words, &moves)?;
+        let members = read_leaves(alloc, words, moves)?;
         intersect(alloc, &desk, members, num_docs, block, report)
     }
 }
@@ -45,19 +42,20 @@ fn intersect<S: Scorer>(
     num_docs: u32,
     block: Block<'_>,
     report: &mut Report,
-) -> Result<(), Fault>
+) -> Done
     requires { ArePlaced S.DocSet members.items }
 {
     if members.len() < 2 {
         return Err(Fault::NotAllowed);
     }
     block.memory.begin(alloc);
-    let made = Intersection::new(alloc, members, num_docs);
-    end_refusals(alloc);
-    match made {
-        Err(error) => Err(Fault::Refused(error)),
-        Ok(scorer) => play_made(alloc, desk, scorer, block, report),
-    }
+    play_new(
+        alloc,
+        desk,
+        Intersection::new(alloc, members, num_docs),
+        block,
+        report,
+    )
 }
 
 /// Plays `union COMBINER MAX MEMBERS`.
@@ -66,7 +64,7 @@ pub fn play_union(
     alive: &AliveBitSet,
     block: Block<'_>,
     report: &mut Report,
-) -> Result<(), Fault> {
+) -> Done {
     match word(block.words, 1) {
         "sum" => unite(alloc, alive, SumCombiner::default(), 2, block, report),
         "nothing" => unite(alloc, alive, DoNothingCombiner, 2, block, report),
@@ -96,12 +94,9 @@ fn unite<C: ScoreCombiner>(
     at: usize,
     block: Block<'_>,
     report: &mut Report,
-) -> Result<(), Fault> {
-    let moves = Moves::new();
-    let desk = Desk {
-        alive,
-        moves: &moves,
-    };
+) -> Done {
+    let moves = &Moves::new();
+    let desk = Desk { alive, moves };
     let Some(num_docs) = number(block.words, at) else {
         return Err(Fault::NotUnderstood);
     };
@@ -110,7 +105,7 @@ fn unite<C: ScoreCombiner>(
         let members = read_constants(alloc, words)?;
         unite_members(alloc, &desk, members, combiner, num_docs, block, report)
     } else {
-        let members = read_leaves(alloc, words, &moves)?;
+        let members = read_leaves(alloc, words, moves)?;
         unite_members(alloc, &desk, members, combiner, num_docs, block, report)
     }
 }
@@ -123,16 +118,17 @@ fn unite_members<S: Scorer, C: ScoreCombiner>(
     num_docs: u32,
     block: Block<'_>,
     report: &mut Report,
-) -> Result<(), Fault>
+) -> Done
     requires { ArePlaced S.DocSet members.items }
 {
     block.memory.begin(alloc);
-    let made = BufferedUnionScorer::build(alloc, members, combiner, num_docs);
-    end_refusals(alloc);
-    match made {
-        Err(error) => Err(Fault::Refused(error)),
-        Ok(scorer) => play_made(alloc, desk, scorer, block, report),
-    }
+    play_new(
+        alloc,
+        desk,
+        BufferedUnionScorer::build(alloc, members, combiner, num_docs),
+        block,
+        report,
+    )
 }
 
 /// Plays `atleast MIN COMBINER MEMBERS`, `unforetold MIN COMBINER MEMBERS`, whose members come from an
@@ -143,7 +139,7 @@ pub fn play_at_least(
     alive: &AliveBitSet,
     block: Block<'_>,
     report: &mut Report,
-) -> Result<(), Fault> {
+) -> Done {
     match word(block.words, 2) {
         "sum" => gather(alloc, alive, SumCombiner::default(), 3, block, report),
         "nothing" => gather(alloc, alive, DoNothingCombiner, 3, block, report),
@@ -162,12 +158,9 @@ fn gather<C: ScoreCombiner>(
     at: usize,
     block: Block<'_>,
     report: &mut Report,
-) -> Result<(), Fault> {
-    let moves = Moves::new();
-    let desk = Desk {
-        alive,
-        moves: &moves,
-    };
+) -> Done {
+    let moves = &Moves::new();
+    let desk = Desk { alive, moves };
     let words = if word(block.words, 0) == "enough" {
         behind(behind(block.words, at), 1)
     } else {
@@ -177,7 +170,7 @@ fn gather<C: ScoreCombiner>(
         let members = read_constants(alloc, words)?;
         gather_members(alloc, &desk, members, combiner, at, block, report)
     } else {
-        let members = read_leaves(alloc, words, &moves)?;
+        let members = read_leaves(alloc, words, moves)?;
         gather_members(alloc, &desk, members, combiner, at, block, report)
     }
 }
@@ -190,7 +183,7 @@ fn gather_members<S: Scorer, C: ScoreCombiner>(
     at: usize,
     block: Block<'_>,
     report: &mut Report,
-) -> Result<(), Fault>
+) -> Done
     requires { ArePlaced S.DocSet members.items }
 {
     let Some(minimum) = word(block.words, 1).parse::<usize>().ok() else {
@@ -218,7 +211,7 @@ fn play_enough<S: Scorer, C: ScoreCombiner>(
     at: usize,
     block: Block<'_>,
     report: &mut Report,
-) -> Result<(), Fault>
+) -> Done
     requires { ArePlaced S.DocSet members.items }
 {
     let Some(num_docs) = number(block.words, at) else {
@@ -228,12 +221,13 @@ fn play_enough<S: Scorer, C: ScoreCombiner>(
         return Err(Fault::NotAllowed);
     }
     block.memory.begin(alloc);
-    let made = BufferedDisjunction::build(alloc, members, combiner, minimum, num_docs);
-    end_refusals(alloc);
-    match made {
-        Err(error) => Err(Fault::Refused(error)),
-        Ok(scorer) => play_made(alloc, desk, scorer, block, report),
-    }
+    play_new(
+        alloc,
+        desk,
+        BufferedDisjunction::build(alloc, members, combiner, minimum, num_docs),
+        block,
+        report,
+    )
 }
 
 fn play_foretold<S: Scorer, C: ScoreCombiner>(
@@ -244,17 +238,18 @@ fn play_foretold<S: Scorer, C: ScoreCombiner>(
     minimum: usize,
     block: Block<'_>,
     report: &mut Report,
-) -> Result<(), Fault>
+) -> Done
     requires minimum { 2 ≤ minimum }
     requires placed { ArePlaced S.DocSet members.items }
 {
     block.memory.begin(alloc);
-    let made = Disjunction::new(alloc, members, combiner, minimum);
-    end_refusals(alloc);
-    match made {
-        Err(error) => Err(Fault::Refused(error)),
-        Ok(scorer) => play_made(alloc, desk, scorer, block, report),
-    }
+    play_new(
+        alloc,
+        desk,
+        Disjunction::new(alloc, members, combiner, minimum),
+        block,
+        report,
+    )
 }
 
 fn play_unforetold<S: Scorer, C: ScoreCombiner>(
@@ -265,16 +260,17 @@ fn play_unforetold<S: Scorer, C: ScoreCombiner>(
     minimum: usize,
     block: Block<'_>,
     report: &mut Report,
-) -> Result<(), Fault>
+) -> Done
     requires minimum { 2 ≤ minimum }
     requires placed { ArePlaced S.DocSet members.items }
 {
     let each = members.into_iter().filter(|_| true);
     block.memory.begin(alloc);
-    let made = Disjunction::new(alloc, each, combiner, minimum);
-    end_refusals(alloc);
-    match made {
-        Err(error) => Err(Fault::Refused(error)),
-        Ok(scorer) => play_made(alloc, desk, scorer, block, report),
-    }
+    play_new(
+        alloc,
+        desk,
+        Disjunction::new(alloc, each, combiner, minimum),
+        block,
+        report,
+    )
 }

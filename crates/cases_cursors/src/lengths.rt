@@ -4,12 +4,14 @@ ghost use Rattle.qm_docset.specs.VecDocSet.{IsVecCursor};
 
 use crate::answer::Answer;
 use crate::cursors::read_ascending;
-use cases::{Asker, Block, Fault, Memory, Report, behind, end_refusals, play_asked, read_document};
+use cases::{
+    Asker, Block, Done, Listing, Memory, Report, behind, end_refusals, play_asked, read_document,
+};
 use qm_docset::{DocSet, HasLen, TERMINATED, VecDocSet};
 use std::alloc::Global;
 
 /// Plays `length DOC..`.
-pub fn play_lengths(alloc: Global, block: Block<'_>, report: &mut Report) -> Result<(), Fault> {
+pub fn play_lengths(alloc: Global, block: Block<'_>, report: &mut Report) -> Done {
     let docs = read_ascending(alloc, behind(block.words, 1))?;
     let mut asked = AskedLength {
         docset: VecDocSet::new(docs),
@@ -24,13 +26,7 @@ struct AskedLength {
 }
 
 impl Asker for AskedLength {
-    fn ask(
-        &mut self,
-        alloc: Global,
-        call: &str,
-        memory: Memory,
-        text: &mut String,
-    ) -> Result<(), Fault> {
+    fn ask(&mut self, alloc: Global, call: &str, memory: Memory, text: &mut Listing) -> Done {
         memory.begin(alloc);
         let answer = self.answer(call);
         end_refusals(alloc);

@@ -21,7 +21,7 @@ mod window;
 mod window_changes;
 mod wrapped;
 
-use cases::{Fault, Report, play_cases};
+use cases::{Done, Report, play_cases};
 use player::CursorPlayer;
 use std::alloc::Global;
 use std::io;
@@ -29,7 +29,7 @@ use std::process::ExitCode;
 
 fn main(rt: HostRuntime) -> io::Result<ExitCode> {
     let text = io::read_to_string(rt.alloc(), rt.reader())?;
-    let mut report = Report::new(rt.alloc())?;
+    let mut report = Report::new(rt.alloc());
     let status = match play(rt.alloc(), text.as_str(), &mut report) {
         Ok(()) => u8::from(!report.is_right()),
         Err(_) => 2,
@@ -38,7 +38,7 @@ fn main(rt: HostRuntime) -> io::Result<ExitCode> {
     Ok(ExitCode::from(status))
 }
 
-fn play(alloc: Global, text: &str, report: &mut Report) -> Result<(), Fault> {
+fn play(alloc: Global, text: &str, report: &mut Report) -> Done {
     let mut player = CursorPlayer::new(alloc)?;
     play_cases(alloc, &mut player, text, report)
 }

@@ -6,8 +6,8 @@ ghost use Rattle.qm_docset.specs.Lists.{ArePlaced};
 use crate::answer::Answer;
 use crate::constants::read_constants;
 use cases::{
-    Asker, Block, Fault, Leaf, Memory, Moves, Report, behind, end_refusals, play_asked,
-    read_document, read_leaves, word, write_space,
+    Asker, Block, Done, Fault, Leaf, Listing, Memory, Moves, Report, behind, end_refusals,
+    play_asked, read_document, read_leaves, word,
 };
 use qm_combine::{Scorer, by_cost, least_document, seek_below, seek_each, sum_of_bounds};
 use qm_docset::{DocId, DocSet, SeekDangerResult, TERMINATED};
@@ -16,7 +16,7 @@ use std::alloc::Global;
 
 /// Plays `members MEMBERS`: each row is on the members made anew, and their moves are counted over all
 /// rows.
-pub fn play_members(alloc: Global, block: Block<'_>, report: &mut Report) -> Result<(), Fault> {
+pub fn play_members(alloc: Global, block: Block<'_>, report: &mut Report) -> Done {
     let mut asked = AskedMembers {
         words: behind(block.words, 1),
         moves: Moves::new(),
@@ -31,13 +31,7 @@ struct AskedMembers<'a, 'b> {
 }
 
 impl<'a, 'b> Asker for AskedMembers<'a, 'b> {
-    fn ask(
-        &mut self,
-        alloc: Global,
-        call: &str,
-        memory: Memory,
-        text: &mut String,
-    ) -> Result<(), Fault> {
+    fn ask(&mut self, alloc: Global, call: &str, memory: Memory, text: &mut Listing) -> Done {
         match call {
             "moves" => Answer::Number(self.moves.total()).write(text),
             "moves of first" => Answer::Number(self.moves.first.get()).write(text),
@@ -63,8 +57,8 @@ fn ask_sum(
     words: &[&str],
     moves: &Moves,
     memory: Memory,
-    text: &mut String,
-) -> Result<(), Fault> {
+    text: &mut Listing,
+) -> Done {
     if word(words, 0) == "const" {
         let members = read_constants(alloc, words)?;
         memory.begin(alloc);
@@ -94,29 +88,26 @@ fn ask_by_cost<D: DocSet>(
     alloc: Global,
     members: Vec<D>,
     memory: Memory,
-    text: &mut String,
-) -> Result<(), Fault>
+    text: &mut Listing,
+) -> Done
     requires { All D.valid members.items }
 {
     memory.begin(alloc);
     let ranked = by_cost(alloc, members);
     end_refusals(alloc);
     match ranked {
-        Ok(ranked) => write_costs(&ranked, text),
+        Ok(ranked) => Ok(write_costs(&ranked, text)),
         Err(_) => Err(Fault::Refused(QueryError::Memory)),
     }
 }
 
-fn write_costs<D: DocSet>(members: &[D], text: &mut String) -> Result<(), Fault>
+fn write_costs<D: DocSet>(members: &[D], text: &mut Listing)
     requires { All D.valid members.now }
 {
     // the costs of those before are written
     for member in members {
-        let cost = member.cost();
-        write_space(text)?;
-        write!(text, "{cost}")?;
+        text.add(member.cost());
     }
-    Ok(())
 }
 
 // Makes a call on members that are placed.

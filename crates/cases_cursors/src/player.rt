@@ -15,7 +15,7 @@ use crate::member_calls::play_members;
 use crate::tiny_set::play_tiny_set;
 use crate::window::play_window;
 use crate::wrapped::{play_boost, play_boxed_scorer, play_const, play_exclude, play_optional};
-use cases::{Block, Fault, Memory, Player, Report, behind, word, words_of};
+use cases::{Block, Done, Fault, Memory, Player, Report, behind, word, words_of};
 use qm_docset::{AliveBitSet, BitSet};
 use std::alloc::{AllocError, Global};
 
@@ -36,12 +36,7 @@ impl CursorPlayer {
     }
 
     // takes what stands below `given`
-    fn take_given(
-        &mut self,
-        alloc: Global,
-        block: Block<'_>,
-        report: &mut Report,
-    ) -> Result<(), Fault> {
+    fn take_given(&mut self, alloc: Global, block: Block<'_>, report: &mut Report) -> Done {
         // what the rows before this one give is taken
         for row in block.rows {
             let words = words_of(alloc, row.call)?;
@@ -50,14 +45,14 @@ impl CursorPlayer {
             }
             let set = read_bit_set(alloc, behind(&words, 1), Memory::Ample)?;
             self.alive = AliveBitSet::from(set);
-            report.compare(row.line, row.wanted, "")?;
+            report.compare(row.line, row.wanted, "");
         }
         Ok(())
     }
 }
 
 impl Player for CursorPlayer {
-    fn play(&mut self, alloc: Global, block: Block<'_>, report: &mut Report) -> Result<(), Fault> {
+    fn play(&mut self, alloc: Global, block: Block<'_>, report: &mut Report) -> Done {
         let name = word(block.words, 0);
         if block.memory == Memory::None && !is_made_by_a_call(name) {
             return Err(Fault::NotUnderstood);
@@ -97,12 +92,7 @@ fn is_made_by_a_call(name: &str) -> bool {
 }
 
 // Plays a block whose rows are calls on a scorer.
-fn play_scorer(
-    alloc: Global,
-    alive: &AliveBitSet,
-    block: Block<'_>,
-    report: &mut Report,
-) -> Result<(), Fault> {
+fn play_scorer(alloc: Global, alive: &AliveBitSet, block: Block<'_>, report: &mut Report) -> Done {
     match word(block.words, 0) {
         "vec" => play_vec(alloc, alive, block, report),
         "boxed" => play_boxed(alloc, alive, block, report),

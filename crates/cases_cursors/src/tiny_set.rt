@@ -1,12 +1,12 @@
 //! Blocks of a set of small numbers.
 
 use crate::answer::Answer;
-use cases::{Asker, Block, Fault, Memory, Report, end_refusals, play_asked};
+use cases::{Asker, Block, Done, Listing, Memory, Report, end_refusals, play_asked};
 use qm_docset::TinySet;
 use std::alloc::Global;
 
 /// Plays `tinyset`.
-pub fn play_tiny_set(alloc: Global, block: Block<'_>, report: &mut Report) -> Result<(), Fault> {
+pub fn play_tiny_set(alloc: Global, block: Block<'_>, report: &mut Report) -> Done {
     let mut asked = AskedTinySet {
         set: TinySet::empty(),
     };
@@ -19,13 +19,7 @@ struct AskedTinySet {
 }
 
 impl Asker for AskedTinySet {
-    fn ask(
-        &mut self,
-        alloc: Global,
-        call: &str,
-        memory: Memory,
-        text: &mut String,
-    ) -> Result<(), Fault> {
+    fn ask(&mut self, alloc: Global, call: &str, memory: Memory, text: &mut Listing) -> Done {
         memory.begin(alloc);
         let answer = self.answer(call);
         end_refusals(alloc);

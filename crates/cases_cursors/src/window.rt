@@ -8,14 +8,15 @@ use crate::answer::Answer;
 use crate::gathered::read_maximum;
 use crate::window_changes::{Change, change_window, read_change};
 use cases::{
-    Asker, Block, Fault, Memory, Report, end_refusals, play_asked, read_document, word, write_next,
+    Asker, Block, Done, Fault, Listing, Memory, Report, end_refusals, play_asked, read_document,
+    word,
 };
 use qm_combine::{DoNothingCombiner, ScoreCombiner, SumCombiner, Window};
 use qm_docset::{COLLECT_BLOCK_BUFFER_LEN, DocId, Score};
 use std::alloc::Global;
 
 /// Plays `window COMBINER`.
-pub fn play_window(alloc: Global, block: Block<'_>, report: &mut Report) -> Result<(), Fault> {
+pub fn play_window(alloc: Global, block: Block<'_>, report: &mut Report) -> Done {
     match word(block.words, 1) {
         "sum" => play_calls(alloc, SumCombiner::default(), block, report),
         "nothing" => play_calls(alloc, DoNothingCombiner, block, report),
@@ -32,7 +33,7 @@ fn play_calls<C: ScoreCombiner>(
     combiner: C,
     block: Block<'_>,
     report: &mut Report,
-) -> Result<(), Fault> {
+) -> Done {
     make(alloc, combiner, block.memory)?;
     let mut asked = AskedWindow {
         combiner,
@@ -42,7 +43,7 @@ fn play_calls<C: ScoreCombiner>(
 }
 
 // Makes a window while some requests for memory are refused, and says why there is none.
-fn make<C: ScoreCombiner>(alloc: Global, combiner: C, memory: Memory) -> Result<(), Fault> {
+fn make<C: ScoreCombiner>(alloc: Global, combiner: C, memory: Memory) -> Done {
     memory.begin(alloc);
     let made = Window::new(alloc, combiner);
     end_refusals(alloc);
@@ -60,13 +61,7 @@ struct AskedWindow<C: ScoreCombiner> {
 }
 
 impl<C: ScoreCombiner> Asker for AskedWindow<C> {
-    fn ask(
-        &mut self,
-        alloc: Global,
-        call: &str,
-        memory: Memory,
-        text: &mut String,
-    ) -> Result<(), Fault> {
+    fn ask(&mut self, alloc: Global, call: &str, memory: Memory, text: &mut Listing) -> Done {
         if let Some(change) = read_change(alloc, call)? {
             return Ok(self.changes.push(change)?);
         }
@@ -108,8 +103,8 @@ fn write_filled<C: ScoreCombiner>(
     alloc: Global,
     window: &Window<C>,
     doc: &str,
-    text: &mut String,
-) -> Result<(), Fault>
+    text: &mut Listing,
+) -> Done
     requires { IsUntil window.now }
 {
     let Some(doc) = read_document(doc) else {
@@ -118,14 +113,7 @@ fn write_filled<C: ScoreCombiner>(
     let mut places = [0; COLLECT_BLOCK_BUFFER_LEN];
     let count = window.fill(doc, &mut places);
     end_refusals(alloc);
-    // the places before this one are written
-    for (number, place) in places.iter().enumerate() {
-        if number >= count {
-            return Ok(());
-        }
-        write_next(text, *place)?;
-    }
-    Ok(())
+    Ok(text.documents(&places[..count]))
 }
 
 fn answer<C: ScoreCombiner>(window: &Window<C>, call: &str) -> Answer

@@ -2,10 +2,9 @@
 
 ghost use Rattle.qm_docset.specs.Lists.{IsPlaced};
 
-use crate::cursors::{play_made, read_bits};
+use crate::cursors::{play_made, play_new};
 use cases::{
-    Block, Desk, Fault, Leaf, Moves, Report, behind, end_refusals, read_leaf, read_leaves, score,
-    word,
+    Block, Desk, Done, Fault, Leaf, Moves, Report, behind, read_leaf, read_leaves, score, word,
 };
 use qm_combine::{
     BoostScorer, ConstScorer, DisjunctionMaxCombiner, DoNothingCombiner, Exclude,
@@ -20,20 +19,15 @@ pub fn play_const(
     alive: &AliveBitSet,
     block: Block<'_>,
     report: &mut Report,
-) -> Result<(), Fault> {
-    let moves = Moves::new();
-    let desk = Desk {
-        alive,
-        moves: &moves,
-    };
+) -> Done {
+    let moves = &Moves::new();
+    let desk = Desk { alive, moves };
     let Some(score) = score(block.words, 1) else {
         return Err(Fault::NotUnderstood);
     };
-    let leaf = read_leaf(alloc, behind(block.words, 2), true, &moves)?;
+    let leaf = read_leaf(alloc, behind(block.words, 2), true, moves)?;
     block.memory.begin(alloc);
-    let scorer = ConstScorer::new(leaf, score);
-    end_refusals(alloc);
-    play_made(alloc, &desk, scorer, block, report)
+    play_made(alloc, &desk, ConstScorer::new(leaf, score), block, report)
 }
 
 /// Plays `boost K LEAF`.
@@ -42,23 +36,15 @@ pub fn play_boost(
     alive: &AliveBitSet,
     block: Block<'_>,
     report: &mut Report,
-) -> Result<(), Fault> {
-    let moves = Moves::new();
-    let desk = Desk {
-        alive,
-        moves: &moves,
-    };
+) -> Done {
+    let moves = &Moves::new();
+    let desk = Desk { alive, moves };
     let Some(boost) = score(block.words, 1) else {
         return Err(Fault::NotUnderstood);
     };
-    let leaf = read_leaf(alloc, behind(block.words, 2), true, &moves)?;
+    let leaf = read_leaf(alloc, behind(block.words, 2), true, moves)?;
     block.memory.begin(alloc);
-    let made = BoostScorer::new(leaf, boost);
-    end_refusals(alloc);
-    match made {
-        Err(error) => Err(Fault::Refused(error)),
-        Ok(scorer) => play_made(alloc, &desk, scorer, block, report),
-    }
+    play_new(alloc, &desk, BoostScorer::new(leaf, boost), block, report)
 }
 
 /// Plays `boxedscorer LEAF`.
@@ -67,13 +53,10 @@ pub fn play_boxed_scorer(
     alive: &AliveBitSet,
     block: Block<'_>,
     report: &mut Report,
-) -> Result<(), Fault> {
-    let moves = Moves::new();
-    let desk = Desk {
-        alive,
-        moves: &moves,
-    };
-    let leaf = read_leaf(alloc, behind(block.words, 1), true, &moves)?;
+) -> Done {
+    let moves = &Moves::new();
+    let desk = Desk { alive, moves };
+    let leaf = read_leaf(alloc, behind(block.words, 1), true, moves)?;
     let boxed = Box::new(alloc, leaf)?;
     play_made(alloc, &desk, boxed, block, report)
 }
@@ -84,13 +67,10 @@ pub fn play_exclude(
     alive: &AliveBitSet,
     block: Block<'_>,
     report: &mut Report,
-) -> Result<(), Fault> {
-    let moves = Moves::new();
-    let desk = Desk {
-        alive,
-        moves: &moves,
-    };
-    let mut leaves = read_leaves(alloc, behind(block.words, 1), &moves)?;
+) -> Done {
+    let moves = &Moves::new();
+    let desk = Desk { alive, moves };
+    let mut leaves = read_leaves(alloc, behind(block.words, 1), moves)?;
     if leaves.len() < 2 {
         return Err(Fault::NotUnderstood);
     }
@@ -110,14 +90,12 @@ fn exclude<'a, E: ExclusionSet>(
     exclusion: E,
     block: Block<'_>,
     report: &mut Report,
-) -> Result<(), Fault>
+) -> Done
     requires placed { IsPlaced ⟦<Leaf<'a> as DocSet>⟧ leaf }
     requires usable { E.usable exclusion }
 {
     block.memory.begin(alloc);
-    let scorer = Exclude::new(leaf, exclusion);
-    end_refusals(alloc);
-    play_made(alloc, desk, scorer, block, report)
+    play_made(alloc, desk, Exclude::new(leaf, exclusion), block, report)
 }
 
 /// Plays `optional COMBINER LEAF ; LEAF`; of the maximum combiners there is the default alone, `max 0`.
@@ -126,7 +104,7 @@ pub fn play_optional(
     alive: &AliveBitSet,
     block: Block<'_>,
     report: &mut Report,
-) -> Result<(), Fault> {
+) -> Done {
     match (word(block.words, 1), word(block.words, 2)) {
         ("sum", _) => optional::<SumCombiner>(alloc, alive, 2, block, report),
         ("nothing", _) => optional::<DoNothingCombiner>(alloc, alive, 2, block, report),
@@ -141,24 +119,21 @@ fn optional<C: ScoreCombiner>(
     at: usize,
     block: Block<'_>,
     report: &mut Report,
-) -> Result<(), Fault> {
-    let moves = Moves::new();
-    let desk = Desk {
-        alive,
-        moves: &moves,
-    };
-    let mut leaves = read_leaves(alloc, behind(block.words, at), &moves)?;
+) -> Done {
+    let moves = &Moves::new();
+    let desk = Desk { alive, moves };
+    let mut leaves = read_leaves(alloc, behind(block.words, at), moves)?;
     if leaves.len() != 2 {
         return Err(Fault::NotUnderstood);
     }
     let required = leaves.remove(0);
     let optional = leaves.swap_remove(0);
     block.memory.begin(alloc);
-    let made: Result<RequiredOptionalScorer<Leaf<'_>, Leaf<'_>, C>, _> =
-        RequiredOptionalScorer::new(required, optional);
-    end_refusals(alloc);
-    match made {
-        Err(error) => Err(Fault::Refused(error)),
-        Ok(scorer) => play_made(alloc, &desk, scorer, block, report),
-    }
+    play_new(
+        alloc,
+        &desk,
+        RequiredOptionalScorer::<Leaf<'_>, Leaf<'_>, C>::new(required, optional),
+        block,
+        report,
+    )
 }
