@@ -17,7 +17,9 @@ use crate::stored_rows::play_stored;
 use crate::term_rows::{AddressRows, PrefixEndRows, TermRows, make_term, read_address};
 use crate::weight_rows::{WeightRows, make_weight};
 use crate::{borrowed, phrases, segment_phrases, unions};
-use cases::{Asker, Block, Fault, Memory, Player, Report, behind, end_refusals, play_asked, word};
+use cases::{
+    Asker, Block, Done, Fault, Memory, Player, Report, behind, end_refusals, play_asked, word,
+};
 use qm_docset::AliveBitSet;
 use qm_postings::SegmentReader;
 use qm_schema::Schema;
@@ -35,7 +37,7 @@ pub struct Bench {
 impl Bench {
     /// What stands there before anything is given: a field `body`, and no document.
     pub fn new(alloc: Global) -> Result<Bench, Fault> {
-        let mut unseen = Report::new(alloc)?;
+        let mut unseen = Report::new(alloc);
         let block = Block {
             line: 0,
             words: &[],
@@ -47,7 +49,7 @@ impl Bench {
 }
 
 impl Player for Bench {
-    fn play(&mut self, alloc: Global, block: Block<'_>, report: &mut Report) -> Result<(), Fault> {
+    fn play(&mut self, alloc: Global, block: Block<'_>, report: &mut Report) -> Done {
         match word(block.words, 0) {
             "given" => {
                 *self = make_given(alloc, block, report)?;
@@ -72,12 +74,7 @@ impl Player for Bench {
 }
 
 // Blocks that no cursor answers.
-fn play_made(
-    alloc: Global,
-    bench: &Bench,
-    block: Block<'_>,
-    report: &mut Report,
-) -> Result<(), Fault> {
+fn play_made(alloc: Global, bench: &Bench, block: Block<'_>, report: &mut Report) -> Done {
     let words = behind(block.words, 1);
     match word(block.words, 0) {
         "fields" => play_on(alloc, SchemaMaker::new(alloc), block, report),
@@ -105,7 +102,7 @@ fn play_made(
 }
 
 // Blocks that stand on nothing.
-fn play_small(alloc: Global, block: Block<'_>, report: &mut Report) -> Result<(), Fault> {
+fn play_small(alloc: Global, block: Block<'_>, report: &mut Report) -> Done {
     let words = behind(block.words, 1);
     match word(block.words, 0) {
         "error" => {
@@ -132,7 +129,7 @@ fn play_small(alloc: Global, block: Block<'_>, report: &mut Report) -> Result<()
 }
 
 // Blocks of weights, of explanations, and of counts of phrases.
-fn play_weights(alloc: Global, block: Block<'_>, report: &mut Report) -> Result<(), Fault> {
+fn play_weights(alloc: Global, block: Block<'_>, report: &mut Report) -> Done {
     let words = behind(block.words, 1);
     match word(block.words, 0) {
         "bm25" => {
@@ -169,18 +166,13 @@ fn play_on<A: Asker + Drop>(
     asker: A,
     block: Block<'_>,
     report: &mut Report,
-) -> Result<(), Fault> {
+) -> Done {
     let mut asker = asker;
     play_asked(alloc, &mut asker, block.rows, report)
 }
 
 // Plays `schema`, or `schema copy`.
-fn play_schema(
-    alloc: Global,
-    bench: &Bench,
-    block: Block<'_>,
-    report: &mut Report,
-) -> Result<(), Fault> {
+fn play_schema(alloc: Global, bench: &Bench, block: Block<'_>, report: &mut Report) -> Done {
     let schema = &bench.schema;
     if word(block.words, 1) != "copy" {
         return play_on(alloc, SchemaRows { schema }, block, report);

@@ -6,13 +6,16 @@ ghost use Rattle.qm_term.specs.TermScorer.{IsTermScorer};
 
 use crate::spelled::{cut, read_number};
 use cases::{
-    Fault, Memory, Pruning, Reply, end_refusals, read_document, replies_of, threshold_of, words_of,
-    write_document,
+    Done, Fault, Listing, Memory, Pruning, Reply, end_refusals, read_document, replies_of,
+    threshold_of, words_of,
 };
 use qm_docset::{DocId, TERMINATED};
 use qm_postings::SegmentPostings;
 use qm_term::{Norms, TermScorer, WandCount, block_wand_single_scorer};
 use std::alloc::Global;
+
+/// How many bytes of what the calls of a run say have room before it.
+pub const ROOM: usize = 65536;
 
 /// The target of `seek_block T`.
 pub fn target_of(target: &str) -> Result<DocId, Fault>
@@ -31,8 +34,8 @@ pub fn ask_blocks(
     postings: &mut SegmentPostings<'_>,
     call: &str,
     memory: Memory,
-    text: &mut String,
-) -> Option<Result<(), Fault>>
+    text: &mut Listing,
+) -> Option<Done>
     requires { IsPostings postings.old }
     ensures { IsPostings postings.new }
 {
@@ -46,19 +49,11 @@ pub fn ask_blocks(
     let most = postings.block_max_term_freq();
     end_refusals(alloc);
     match name {
-        "last_doc_in_block" => Some(write_end(end, text)),
-        "block_least_fieldnorm_id" => Some(write_number(u64::from(id), text)),
-        "block_max_term_freq" => Some(write_number(u64::from(most), text)),
+        "last_doc_in_block" => Some(Ok(text.document(end))),
+        "block_least_fieldnorm_id" => Some(Ok(text.add(id))),
+        "block_max_term_freq" => Some(Ok(text.add(most))),
         _ => None,
     }
-}
-
-fn write_end(end: DocId, text: &mut String) -> Result<(), Fault> {
-    Ok(write_document(end, text)?)
-}
-
-fn write_number(number: u64, text: &mut String) -> Result<(), Fault> {
-    Ok(write!(text, "{number}")?)
 }
 
 fn seek_block(
@@ -66,15 +61,13 @@ fn seek_block(
     postings: &mut SegmentPostings<'_>,
     target: &str,
     memory: Memory,
-) -> Result<(), Fault>
+) -> Done
     requires { IsPostings postings.old }
     ensures { IsPostings postings.new }
 {
     let target = target_of(target)?;
     memory.begin(alloc);
-    postings.seek_block(target);
-    end_refusals(alloc);
-    Ok(())
+    Ok(postings.seek_block(target))
 }
 
 /// Makes a call of the blocks of a term's scorer, or the run over it, and writes what it answered; `None`
@@ -84,16 +77,16 @@ pub fn ask_scored_blocks<N: Norms>(
     scorer: &mut TermScorer<'_, N>,
     call: &str,
     memory: Memory,
-    text: &mut String,
-) -> Option<Result<(), Fault>>
+    text: &mut Listing,
+) -> Option<Done>
     requires { IsTermScorer scorer.old }
     ensures { IsTermScorer scorer.new }
 {
     let (name, target) = cut(call);
     match name {
         "seek_block" => Some(seek_scored_block(alloc, scorer, target, memory)),
-        "last_doc_in_block" => Some(write_end(scorer.last_doc_in_block(), text)),
-        "block_max_score" => Some(write_score_bound(scorer, text)),
+        "last_doc_in_block" => Some(Ok(text.document(scorer.last_doc_in_block()))),
+        "block_max_score" => Some(Ok(text.add(scorer.block_max_score()))),
         "single" => Some(write_calls(alloc, scorer, call, memory, text)),
         "bounded" => Some(write_bounded(alloc, scorer, target, memory, text)),
         "counted" => Some(write_counted(alloc, scorer, call, memory, text)),
@@ -101,26 +94,18 @@ pub fn ask_scored_blocks<N: Norms>(
     }
 }
 
-fn write_score_bound<N: Norms>(scorer: &TermScorer<'_, N>, text: &mut String) -> Result<(), Fault>
-    requires { IsTermScorer scorer.now }
-{
-    Ok(write!(text, "{}", scorer.block_max_score())?)
-}
-
 fn seek_scored_block<N: Norms>(
     alloc: Global,
     scorer: &mut TermScorer<'_, N>,
     target: &str,
     memory: Memory,
-) -> Result<(), Fault>
+) -> Done
     requires { IsTermScorer scorer.old }
     ensures { IsTermScorer scorer.new }
 {
     let target = target_of(target)?;
     memory.begin(alloc);
-    scorer.seek_block(target);
-    end_refusals(alloc);
-    Ok(())
+    Ok(scorer.seek_block(target))
 }
 
 // The run over what a copy of the scorer has left, by `CALL T` or `CALL T answers A..`: what it counted. Its
@@ -130,7 +115,7 @@ fn run_single<N: Norms>(
     scorer: &TermScorer<'_, N>,
     call: &str,
     memory: Memory,
-    text: &mut String,
+    text: &mut Listing,
 ) -> Result<WandCount, Fault>
     requires { IsTermScorer scorer.now }
 {
@@ -159,8 +144,8 @@ fn write_calls<N: Norms>(
     scorer: &TermScorer<'_, N>,
     call: &str,
     memory: Memory,
-    text: &mut String,
-) -> Result<(), Fault>
+    text: &mut Listing,
+) -> Done
     requires { IsTermScorer scorer.now }
 {
     run_single(alloc, scorer, call, memory, text)?;
@@ -174,20 +159,22 @@ fn write_bounded<N: Norms>(
     scorer: &TermScorer<'_, N>,
     bounds: &str,
     memory: Memory,
-    text: &mut String,
-) -> Result<(), Fault>
+    text: &mut Listing,
+) -> Done
     requires { IsTermScorer scorer.now }
 {
     let (ticks, run) = cut(bounds);
     let (turns, _) = cut(run);
     let (ticks, turns) = (read_number(ticks)?, read_number(turns)?);
-    let mut calls = String::new(alloc);
+    let mut calls = Listing::new(alloc);
+    // the run takes no memory for what its calls say
+    calls.reserve(ROOM);
     let count = run_single(alloc, scorer, run, memory, &mut calls)?;
-    let called = words_of(alloc, calls.as_str())?.len() as u128;
+    let called = words_of(alloc, calls.into_string()?.as_str())?.len() as u128;
     let is_bounded = called <= count.ticks
         && count.ticks <= u128::from(ticks)
         && count.turns <= u128::from(turns);
-    Ok(write!(text, "{is_bounded}")?)
+    Ok(write!(text, "{is_bounded}"))
 }
 
 // How many documents that run scores, and how many turns it takes.
@@ -196,12 +183,12 @@ fn write_counted<N: Norms>(
     scorer: &TermScorer<'_, N>,
     call: &str,
     memory: Memory,
-    text: &mut String,
-) -> Result<(), Fault>
+    text: &mut Listing,
+) -> Done
     requires { IsTermScorer scorer.now }
 {
-    let mut calls = String::new(alloc);
+    let mut calls = Listing::new(alloc);
     let count = run_single(alloc, scorer, call, memory, &mut calls)?;
     let (ticks, turns) = (count.ticks, count.turns);
-    Ok(write!(text, "{ticks} {turns}")?)
+    Ok(write!(text, "{ticks} {turns}"))
 }

@@ -9,7 +9,10 @@ use crate::making::play_owned;
 use crate::ranked::write_scores;
 use crate::spelled::{cut, read_boosted, read_field, read_option, read_rising_norms, read_term};
 use crate::weight_rows::WeightRows;
-use cases::{Asker, Block, Fault, Memory, Report, Row, end_refusals, play_asked, word, words_of};
+use cases::{
+    Asker, Block, Done, Fault, Listing, Memory, Report, Row, end_refusals, play_asked, word,
+    words_of,
+};
 use qm_docset::DocSet;
 use qm_postings::SegmentReader;
 use qm_schema::{IndexRecordOption, Term};
@@ -17,12 +20,7 @@ use qm_term::{Bm25Weight, TermScorer};
 use std::alloc::Global;
 
 /// Plays `borrowedweight WEIGHT NORMS`.
-pub fn play_weight(
-    alloc: Global,
-    bench: &Bench,
-    block: Block<'_>,
-    report: &mut Report,
-) -> Result<(), Fault> {
+pub fn play_weight(alloc: Global, bench: &Bench, block: Block<'_>, report: &mut Report) -> Done {
     let norms = read_rising_norms(word(block.words, 2))?;
     let weight = make_weight(alloc, word(block.words, 1), &norms, block.memory)?;
     play_rows(alloc, bench, weight, block.rows, report)
@@ -35,7 +33,7 @@ fn play_rows<'b>(
     weight: Bm25Weight<&'b [u32; 256]>,
     rows: &[Row<'_>],
     report: &mut Report,
-) -> Result<(), Fault> {
+) -> Done {
     let mut asker = BorrowedRows {
         bench,
         of_weight: WeightRows { weight },
@@ -44,12 +42,7 @@ fn play_rows<'b>(
 }
 
 /// Plays `borrowedscorer FIELD WORD WEIGHT NORMS OPTION`.
-pub fn play_scorer(
-    alloc: Global,
-    bench: &Bench,
-    block: Block<'_>,
-    report: &mut Report,
-) -> Result<(), Fault> {
+pub fn play_scorer(alloc: Global, bench: &Bench, block: Block<'_>, report: &mut Report) -> Done {
     let field = read_field(&bench.schema, word(block.words, 1))?;
     let term = read_term(alloc, field, word(block.words, 2))?;
     let option = read_option(word(block.words, 5))?;
@@ -102,13 +95,7 @@ pub struct BorrowedRows<'b> {
 }
 
 impl<'b> Asker for BorrowedRows<'b> {
-    fn ask(
-        &mut self,
-        alloc: Global,
-        call: &str,
-        memory: Memory,
-        text: &mut String,
-    ) -> Result<(), Fault> {
+    fn ask(&mut self, alloc: Global, call: &str, memory: Memory, text: &mut Listing) -> Done {
         let (name, rest) = cut(call);
         match name {
             "owned" => ask_owned(alloc, &self.of_weight.weight, rest, memory, text),
@@ -124,8 +111,8 @@ fn ask_owned(
     weight: &Bm25Weight<&[u32; 256]>,
     call: &str,
     memory: Memory,
-    text: &mut String,
-) -> Result<(), Fault> {
+    text: &mut Listing,
+) -> Done {
     memory.begin(alloc);
     let owned = weight.owned();
     end_refusals(alloc);
@@ -140,22 +127,22 @@ fn write_list(
     weight: Bm25Weight<&[u32; 256]>,
     spelled: &str,
     memory: Memory,
-    text: &mut String,
-) -> Result<(), Fault> {
+    text: &mut Listing,
+) -> Done {
     let words = words_of(alloc, spelled)?;
     let field = read_field(&bench.schema, word(&words, 0))?;
     let term = read_term(alloc, field, word(&words, 1))?;
     let option = read_option(word(&words, 2))?;
     match scorer_of(alloc, &bench.segment, &term, option, weight, memory) {
         Some(scorer) => write_all(scorer, text),
-        None => Ok(text.push_str("none")?),
+        None => Ok(text.word("none")),
     }
 }
 
 // Writes all documents that a scorer has, each with its score.
-fn write_all<'b>(scorer: TermScorer<'b, &'b [u32; 256]>, text: &mut String) -> Result<(), Fault>
+fn write_all<'b>(scorer: TermScorer<'b, &'b [u32; 256]>, text: &mut Listing) -> Done
     requires { IsPlaced ⟦<TermScorer<'b, &'b [u32; 256]> as DocSet>⟧ scorer }
 {
     let mut scorer = scorer;
-    Ok(write_scores(&mut scorer, text)?)
+    Ok(write_scores(&mut scorer, text))
 }

@@ -4,7 +4,7 @@ ghost use Rattle.std.specs.Prelude.{IsTrue};
 ghost use Rattle.qm_docset.specs.Lists.{IsPlaced};
 
 use crate::moved::{Moved, make_move, read_move};
-use cases::{Fault, Memory, Report, Row, end_refusals, is_awaited, is_heard};
+use cases::{Done, Fault, Listing, Memory, Report, Row, end_refusals, is_awaited};
 use qm_docset::{AliveBitSet, COLLECT_BLOCK_BUFFER_LEN, DocSet};
 use qm_schema::QueryError;
 use std::alloc::Global;
@@ -16,13 +16,7 @@ const MOST_REQUESTS: u32 = 1000;
 pub trait Played: DocSet {
     /// Makes a call of its own, where it is placed, with some requests for memory refused meanwhile, and
     /// writes what it answered.
-    fn ask(
-        &mut self,
-        alloc: Global,
-        call: &str,
-        memory: Memory,
-        text: &mut String,
-    ) -> Result<(), Fault>
+    fn ask(&mut self, alloc: Global, call: &str, memory: Memory, text: &mut Listing) -> Done
         requires valid { Self.valid self.old }
         requires placed { Self.placed self.old }
         ensures valid { Self.valid self.new }
@@ -37,7 +31,7 @@ pub fn play_cursor<C: Played>(
     cursor: &mut C,
     rows: &[Row<'_>],
     report: &mut Report,
-) -> Result<(), Fault>
+) -> Done
     requires { IsPlaced C.DocSet cursor.old }
 {
     let mut memory = Memory::Ample;
@@ -45,16 +39,17 @@ pub fn play_cursor<C: Played>(
     // the cursor is one all the time, and stands on its first document where `placed` says so
     for row in rows {
         if row.call == "takes no memory" {
-            let heard = if is_heard(alloc) { "" } else { "unheard" };
-            report.compare(row.line, row.wanted, heard)?;
+            report.hear(alloc, row);
             memory = Memory::None;
         } else if row.is_refused {
-            play_refused(alloc, alive, cursor, &mut placed, row, report)?;
+            play_refused(alloc, alive, cursor, &mut placed, row, report);
         } else {
             let text = &mut report.got;
             let answer = ask(alloc, alive, cursor, &mut placed, row.call, memory, text);
-            take(row, answer, report)?;
+            end_refusals(alloc);
+            report.take(row, answer);
         }
+        report.check_memory()?;
     }
     Ok(())
 }
@@ -67,7 +62,7 @@ fn play_refused<C: Played>(
     placed: &mut bool,
     row: &Row<'_>,
     report: &mut Report,
-) -> Result<(), Fault>
+)
     requires valid { C.valid cursor.old }
     requires placed { IsTrue placed.old → C.placed cursor.old }
     ensures valid { C.valid cursor.new }
@@ -78,17 +73,18 @@ fn play_refused<C: Played>(
         let memory = Memory::Refused(number);
         let text = &mut report.got;
         let answer = ask(alloc, alive, cursor, placed, row.call, memory, text);
+        end_refusals(alloc);
         if answer != Err(Fault::Refused(QueryError::Memory)) {
             if number == 1 {
-                return Ok(report.wrong(row.line, "no request for memory was refused")?);
+                return report.wrong(row.line, "no request for memory was refused");
             }
             if !is_awaited(alloc) {
-                return Ok(report.wrong(row.line, "a call that goes on behind a refusal")?);
+                return report.wrong(row.line, "a call that goes on behind a refusal");
             }
-            return take(row, answer, report);
+            return report.take(row, answer);
         }
     }
-    Ok(report.wrong(row.line, "refused without an end")?)
+    report.wrong(row.line, "refused without an end");
 }
 
 // Makes one call, with some requests for memory refused meanwhile, and writes what it answered.
@@ -99,8 +95,8 @@ fn ask<C: Played>(
     placed: &mut bool,
     call: &str,
     memory: Memory,
-    text: &mut String,
-) -> Result<(), Fault>
+    text: &mut Listing,
+) -> Done
     requires valid { C.valid cursor.old }
     requires placed { IsTrue placed.old → C.placed cursor.old }
     ensures valid { C.valid cursor.new }
@@ -111,24 +107,10 @@ fn ask<C: Played>(
         memory.begin(alloc);
         let moved = make_move(alive, cursor, call, placed, &mut buffer);
         end_refusals(alloc);
-        return match moved {
-            Moved::NotAllowed => Err(Fault::NotAllowed),
-            _ => Ok(moved.write(&buffer, text)?),
-        };
+        return moved.write(&buffer, text);
     }
     if !*placed {
         return Err(Fault::NotAllowed);
     }
     cursor.ask(alloc, call, memory, text)
-}
-
-/// Takes what a row was answered.
-pub fn take(row: &Row<'_>, answer: Result<(), Fault>, report: &mut Report) -> Result<(), Fault> {
-    match answer {
-        Ok(()) => Ok(report.take(row)?),
-        Err(Fault::Refused(error)) => Ok(report.refused(row, error)?),
-        Err(Fault::NotUnderstood) => Ok(report.wrong(row.line, "not understood")?),
-        Err(Fault::NotAllowed) => Ok(report.wrong(row.line, "not allowed")?),
-        Err(Fault::Memory) => Err(Fault::Memory),
-    }
 }

@@ -1,26 +1,25 @@
 //! Rows on explanations.
 
 use crate::spelled::{cut, read_number};
-use cases::{Asker, Fault, Memory, end_refusals};
+use cases::{Asker, Done, Fault, Listing, Memory, end_refusals};
 use qm_docset::Score;
 use qm_term::Explanation;
-use std::alloc::{AllocError, Global};
+use std::alloc::Global;
 
 /// Writes an explanation: its value, and each detail with its value.
-pub fn write_explanation(explanation: &Explanation, text: &mut String) -> Result<(), AllocError> {
-    write!(text, "{}", explanation.value())?;
+pub fn write_explanation(explanation: &Explanation, text: &mut Listing) {
+    write!(text, "{}", explanation.value());
     if explanation.description().is_empty() {
-        text.push_str(" without a description")?;
+        text.word(" without a description");
     }
     // the details before this one are written, each with its value
     for detail in explanation.details() {
         let (description, value) = (detail.description(), detail.value());
-        write!(text, " {description} {value}")?;
+        write!(text, " {description} {value}");
         if !detail.details().is_empty() {
-            text.push_str(" and more")?;
+            text.word(" and more");
         }
     }
-    Ok(())
 }
 
 /// An explanation, and its last copy.
@@ -37,7 +36,9 @@ pub fn make_explanation(
     description: &str,
     memory: Memory,
 ) -> Result<Explanation, Fault> {
-    let value = value.parse::<Score>().map_err(|_| Fault::NotUnderstood)?;
+    let Ok(value) = value.parse::<Score>() else {
+        return Err(Fault::NotUnderstood);
+    };
     memory.begin(alloc);
     let made = Explanation::new(alloc, description, value);
     end_refusals(alloc);
@@ -51,7 +52,7 @@ impl ExplanationRows {
     }
 
     // Adds the detail `VALUE DESCRIPTION`, and behind `>` its own one.
-    fn add_detail(&mut self, alloc: Global, spelled: &str, memory: Memory) -> Result<(), Fault> {
+    fn add_detail(&mut self, alloc: Global, spelled: &str, memory: Memory) -> Done {
         let (first, inner) = match spelled.split_once(" > ") {
             Some((first, inner)) => (first, Some(inner)),
             None => (spelled, None),
@@ -63,35 +64,23 @@ impl ExplanationRows {
             detail.add_detail(make_explanation(alloc, value, description, Memory::Ample)?)?;
         }
         memory.begin(alloc);
-        let added = self.explanation.add_detail(detail);
-        end_refusals(alloc);
-        Ok(added?)
+        Ok(self.explanation.add_detail(detail)?)
     }
 
-    fn add_context(&mut self, alloc: Global, context: &str, memory: Memory) -> Result<(), Fault> {
+    fn add_context(&mut self, alloc: Global, context: &str, memory: Memory) -> Done {
         memory.begin(alloc);
-        let added = self.explanation.add_context(context);
-        end_refusals(alloc);
-        Ok(added?)
+        Ok(self.explanation.add_context(context)?)
     }
 
-    fn make_copy(&mut self, alloc: Global, memory: Memory) -> Result<(), Fault> {
+    fn make_copy(&mut self, alloc: Global, memory: Memory) -> Done {
         memory.begin(alloc);
-        let copy = self.explanation.clone(alloc);
-        end_refusals(alloc);
-        self.copy = copy?;
+        self.copy = self.explanation.clone(alloc)?;
         Ok(())
     }
 }
 
 impl Asker for ExplanationRows {
-    fn ask(
-        &mut self,
-        alloc: Global,
-        call: &str,
-        memory: Memory,
-        text: &mut String,
-    ) -> Result<(), Fault> {
+    fn ask(&mut self, alloc: Global, call: &str, memory: Memory, text: &mut Listing) -> Done {
         let (name, rest) = cut(call);
         match name {
             "detail" => self.add_detail(alloc, rest, memory),
@@ -109,26 +98,29 @@ fn ask_explanation(
     alloc: Global,
     explanation: &Explanation,
     call: &str,
-    text: &mut String,
-) -> Result<(), Fault> {
+    text: &mut Listing,
+) -> Done {
     let (name, rest) = cut(call);
     match name {
         "at" => write_detail(explanation, rest, text),
         "prints" => {
             let printed = format!(in alloc; "{explanation:?}")?;
-            Ok(write!(text, "{}", printed.contains(rest))?)
+            Ok(write!(text, "{}", printed.contains(rest)))
         }
         _ => Err(Fault::NotUnderstood),
     }
 }
 
-fn write_detail(explanation: &Explanation, path: &str, text: &mut String) -> Result<(), Fault> {
+fn write_detail(explanation: &Explanation, path: &str, text: &mut Listing) -> Done {
     let mut here = explanation;
     // `here` is reached by the numbers so far
     for number in path.split_whitespace() {
         let place = read_number(number)? as usize;
-        here = here.details().get(place).ok_or(Fault::NotAllowed)?;
+        let Some(detail) = here.details().get(place) else {
+            return Err(Fault::NotAllowed);
+        };
+        here = detail;
     }
     let (value, count) = (here.value(), here.details().len());
-    Ok(write!(text, "{value} {} {count}", here.description())?)
+    Ok(write!(text, "{value} {} {count}", here.description()))
 }

@@ -16,7 +16,7 @@ const BLOCK_LEN: u32 = 2;
 /// the call that makes the segment of its documents; the rows are played once none is.
 pub fn make_given(alloc: Global, block: Block<'_>, report: &mut Report) -> Result<Bench, Fault> {
     if block.memory != Memory::Ample {
-        let mut unseen = Report::new(alloc)?;
+        let mut unseen = Report::new(alloc);
         make(alloc, block.rows, block.memory, &mut unseen)?;
     }
     make(alloc, block.rows, Memory::Ample, report)

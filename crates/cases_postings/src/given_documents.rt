@@ -1,7 +1,7 @@
 //! Documents that an index is handed, as words spell them.
 
 use crate::spelled::{cut, read_field, read_numbers, read_term, read_text};
-use cases::{Fault, Memory, end_refusals};
+use cases::{Done, Fault, Memory, end_refusals};
 use qm_index::GivenDocument;
 use qm_schema::Schema;
 use std::alloc::Global;
@@ -22,12 +22,7 @@ pub fn read_given(alloc: Global, schema: &Schema, spelled: &str) -> Result<Given
 }
 
 // Gives a document the terms and the length ids that `PART ; PART ..` spell.
-fn add_parts(
-    alloc: Global,
-    schema: &Schema,
-    document: &mut GivenDocument,
-    spelled: &str,
-) -> Result<(), Fault> {
+fn add_parts(alloc: Global, schema: &Schema, document: &mut GivenDocument, spelled: &str) -> Done {
     // the document has the terms and the length ids of the parts before this one
     for part in spelled.split(';') {
         if !part.contains(':') {
@@ -44,7 +39,7 @@ pub fn add_part(
     document: &mut GivenDocument,
     spelled: &str,
     memory: Memory,
-) -> Result<(), Fault> {
+) -> Done {
     let (name, rest) = cut(spelled);
     match name {
         "term" => add_term(alloc, schema, document, rest, memory),
@@ -60,7 +55,7 @@ fn add_term(
     document: &mut GivenDocument,
     spelled: &str,
     memory: Memory,
-) -> Result<(), Fault> {
+) -> Done {
     let (name, rest) = cut(spelled);
     let (word, places) = cut(rest);
     let term = read_term(alloc, read_field(schema, name)?, word)?;
@@ -78,7 +73,7 @@ fn set_length(
     document: &mut GivenDocument,
     spelled: &str,
     memory: Memory,
-) -> Result<(), Fault> {
+) -> Done {
     let (name, id) = cut(spelled);
     let field = read_field(schema, name)?;
     let id = id.parse::<u8>().map_err(|_| Fault::NotUnderstood)?;

@@ -12,11 +12,11 @@ use crate::spelled::{
     cut, read_field, read_norms, read_number, read_option, read_term, read_texts,
 };
 use crate::term_rows::read_address;
-use cases::{Asker, Fault, Memory, behind, end_refusals, score, word, words_of, write_space};
+use cases::{Asker, Done, Fault, Listing, Memory, behind, end_refusals, score, word, words_of};
 use qm_index::{GivenDocument, Index, address_of, number_of};
 use qm_postings::{Searcher, SegmentReader};
 use qm_schema::{Field, IndexRecordOption, Schema, Term};
-use std::alloc::{AllocError, Global};
+use std::alloc::Global;
 use std::mem;
 
 /// Rows on an index.
@@ -61,17 +61,15 @@ impl<'s> IndexRows<'s> {
     }
 
     // Adds a document of these texts.
-    fn add(&mut self, alloc: Global, spelled: &str, memory: Memory) -> Result<(), Fault> {
+    fn add(&mut self, alloc: Global, spelled: &str, memory: Memory) -> Done {
         let texts = read_texts(alloc, self.schema, spelled)?;
         self.is_refreshed = false;
         memory.begin(alloc);
-        let added = self.index.add_document(alloc, texts);
-        end_refusals(alloc);
-        Ok(added?)
+        Ok(self.index.add_document(alloc, texts)?)
     }
 
     // `add_given PARTS`: adds the document of these parts, or without any the one that was made part by part.
-    fn add_given(&mut self, alloc: Global, spelled: &str, memory: Memory) -> Result<(), Fault> {
+    fn add_given(&mut self, alloc: Global, spelled: &str, memory: Memory) -> Done {
         let document = if spelled.is_empty() {
             mem::replace(&mut self.document, GivenDocument::new(alloc))
         } else {
@@ -79,14 +77,12 @@ impl<'s> IndexRows<'s> {
         };
         self.is_refreshed = false;
         memory.begin(alloc);
-        let added = self.index.add_given(alloc, document);
-        end_refusals(alloc);
-        Ok(added?)
+        Ok(self.index.add_given(alloc, document)?)
     }
 
     // `each N TEXTS`: adds so many documents of these texts, with a refresh behind each. Writes how many
     // parts the open segment had at most.
-    fn add_each(&mut self, alloc: Global, spelled: &str, text: &mut String) -> Result<(), Fault> {
+    fn add_each(&mut self, alloc: Global, spelled: &str, text: &mut Listing) -> Done {
         let (count, texts) = cut(spelled);
         let mut most = 0;
         // `most` is how many parts the open segment had at most behind the documents so far
@@ -95,103 +91,85 @@ impl<'s> IndexRows<'s> {
             self.refresh(alloc, Memory::Ample)?;
             most = most.max(self.part_count()?);
         }
-        Ok(write!(text, "{most}")?)
+        Ok(write!(text, "{most}"))
     }
 
     // Deletes the document of a number, and writes whether there is one.
-    fn delete(
-        &mut self,
-        alloc: Global,
-        spelled: &str,
-        memory: Memory,
-        text: &mut String,
-    ) -> Result<(), Fault> {
+    fn delete(&mut self, alloc: Global, spelled: &str, memory: Memory, text: &mut Listing) -> Done {
         let number = read_number_over_all(spelled)?;
         memory.begin(alloc);
         let deleted = self.index.delete(alloc, number);
         end_refusals(alloc);
-        Ok(write!(text, "{}", deleted?)?)
+        Ok(write!(text, "{}", deleted?))
     }
 
     // `set_weight WORD WEIGHT`: gives a term of the first field its weight.
-    fn set_weight(&mut self, alloc: Global, spelled: &str, memory: Memory) -> Result<(), Fault> {
+    fn set_weight(&mut self, alloc: Global, spelled: &str, memory: Memory) -> Done {
         let (name, weight) = cut(spelled);
         let term = read_term(alloc, Field::from_field_id(0), name)?;
         let Some(weight) = score(&[weight], 0) else {
             return Err(Fault::NotUnderstood);
         };
         memory.begin(alloc);
-        let set = self.index.set_weight(term, weight);
-        end_refusals(alloc);
-        Ok(set?)
+        Ok(self.index.set_weight(term, weight)?)
     }
 
     // `set_norms NORMS`: gives each length id its norm.
-    fn set_norms(&mut self, alloc: Global, spelled: &str, memory: Memory) -> Result<(), Fault> {
+    fn set_norms(&mut self, alloc: Global, spelled: &str, memory: Memory) -> Done {
         let norms = read_norms(spelled)?;
         memory.begin(alloc);
-        let set = self.index.set_norms(&norms);
-        end_refusals(alloc);
-        Ok(set?)
+        Ok(self.index.set_norms(&norms)?)
     }
 
     // Ends the open segment.
-    fn end(&mut self, alloc: Global, memory: Memory) -> Result<(), Fault> {
+    fn end(&mut self, alloc: Global, memory: Memory) -> Done {
         self.is_refreshed = false;
         memory.begin(alloc);
-        let ended = self.index.end_segment(alloc);
-        end_refusals(alloc);
-        Ok(ended?)
+        Ok(self.index.end_segment(alloc)?)
     }
 
     // `join`: joins the last two ended segments, and writes whether there were two.
-    fn join(&mut self, alloc: Global, memory: Memory, text: &mut String) -> Result<(), Fault> {
+    fn join(&mut self, alloc: Global, memory: Memory, text: &mut Listing) -> Done {
         memory.begin(alloc);
         let joined = self.index.join_last_segments(alloc);
         end_refusals(alloc);
-        Ok(write!(text, "{}", joined?)?)
+        Ok(write!(text, "{}", joined?))
     }
 
     // `join_small`: joins the last ended segments, as long as they are small.
-    fn join_small(&mut self, alloc: Global, memory: Memory) -> Result<(), Fault> {
+    fn join_small(&mut self, alloc: Global, memory: Memory) -> Done {
         memory.begin(alloc);
-        let joined = self.index.join_small_segments(alloc);
-        end_refusals(alloc);
-        Ok(joined?)
+        Ok(self.index.join_small_segments(alloc)?)
     }
 
     // `leave_out`: leaves out what is deleted of the last ended segment, and writes whether anything was.
-    fn leave_out(&mut self, alloc: Global, memory: Memory, text: &mut String) -> Result<(), Fault> {
+    fn leave_out(&mut self, alloc: Global, memory: Memory, text: &mut Listing) -> Done {
         memory.begin(alloc);
         let left = self.index.leave_out_deleted(alloc);
         end_refusals(alloc);
-        Ok(write!(text, "{}", left?)?)
+        Ok(write!(text, "{}", left?))
     }
 
     // Has all documents searched.
-    fn refresh(&mut self, alloc: Global, memory: Memory) -> Result<(), Fault> {
+    fn refresh(&mut self, alloc: Global, memory: Memory) -> Done {
         self.is_refreshed = false;
         memory.begin(alloc);
-        let refreshed = self.index.refresh(alloc);
-        end_refusals(alloc);
-        refreshed?;
+        self.index.refresh(alloc)?;
         self.is_refreshed = true;
         Ok(())
     }
 
     // The same, in one part.
-    fn merge(&mut self, alloc: Global, memory: Memory) -> Result<(), Fault> {
+    fn merge(&mut self, alloc: Global, memory: Memory) -> Done {
         self.is_refreshed = false;
         memory.begin(alloc);
-        let merged = self.index.merge(alloc);
-        end_refusals(alloc);
-        merged?;
+        self.index.merge(alloc)?;
         self.is_refreshed = true;
         Ok(())
     }
 
     // Puts the index that was saved in the place of the one that is there.
-    fn open(&mut self, alloc: Global, memory: Memory, text: &mut String) -> Result<(), Fault> {
+    fn open(&mut self, alloc: Global, memory: Memory, text: &mut Listing) -> Done {
         if let Some(index) = self.saved.open(alloc, memory, text)? {
             self.is_refreshed = false;
             self.index = index;
@@ -214,19 +192,13 @@ impl<'s> IndexRows<'s> {
     }
 
     // The rows on what is searched.
-    fn ask_searcher(
-        &self,
-        alloc: Global,
-        call: &str,
-        memory: Memory,
-        text: &mut String,
-    ) -> Result<(), Fault> {
+    fn ask_searcher(&self, alloc: Global, call: &str, memory: Memory, text: &mut Listing) -> Done {
         let words = words_of(alloc, call)?;
         let searcher = self.searcher()?;
         let readers = searcher.segment_readers();
         match word(&words, 0) {
-            "segments" => Ok(write_lengths(readers, text)?),
-            "alive" => Ok(write_all_alive(readers, text)?),
+            "segments" => Ok(write_lengths(readers, text)),
+            "alive" => Ok(write_all_alive(readers, text)),
             "postings" => self.ask_postings(alloc, readers, &words, text),
             "address" => write_address(searcher, &words, text),
             "number" => write_number(searcher, &words, text),
@@ -235,31 +207,29 @@ impl<'s> IndexRows<'s> {
             "length_id" => self.write_length(searcher, &words, text),
             "weight" => {
                 let weight = weigh(alloc, searcher, behind(&words, 1), memory)?;
-                Ok(write!(text, "{weight}")?)
+                Ok(write!(text, "{weight}"))
             }
             _ => Err(Fault::NotUnderstood),
         }
     }
 
     // `length_id FIELD N`: that of the document of this number.
-    fn write_length(
-        &self,
-        searcher: &Searcher,
-        words: &[&str],
-        text: &mut String,
-    ) -> Result<(), Fault> {
+    fn write_length(&self, searcher: &Searcher, words: &[&str], text: &mut Listing) -> Done {
         let field = read_field(self.schema, word(words, 1))?;
         let number = read_number_over_all(word(words, 2))?;
         let readers = searcher.segment_readers();
-        let address = address_of(readers, number).ok_or(Fault::NotAllowed)?;
-        let segment = readers
-            .get(address.segment_ord as usize)
-            .ok_or(Fault::NotAllowed)?;
-        let ids = segment.fieldnorms(field).ok_or(Fault::NotAllowed)?;
-        if address.doc_id >= ids.num_docs() {
+        let Some(address) = address_of(readers, number) else {
             return Err(Fault::NotAllowed);
+        };
+        let Some(segment) = readers.get(address.segment_ord as usize) else {
+            return Err(Fault::NotAllowed);
+        };
+        match segment.fieldnorms(field) {
+            Some(ids) if address.doc_id < ids.num_docs() => {
+                Ok(write!(text, "{}", ids.fieldnorm_id(address.doc_id)))
+            }
+            _ => Err(Fault::NotAllowed),
         }
-        Ok(write!(text, "{}", ids.fieldnorm_id(address.doc_id))?)
     }
 
     // `postings FIELD WORD OPTION`: what they hold over all segments.
@@ -268,8 +238,8 @@ impl<'s> IndexRows<'s> {
         alloc: Global,
         readers: &[SegmentReader],
         words: &[&str],
-        text: &mut String,
-    ) -> Result<(), Fault> {
+        text: &mut Listing,
+    ) -> Done {
         let field = read_field(self.schema, word(words, 1))?;
         let term = read_term(alloc, field, word(words, 2))?;
         let option = read_option(word(words, 3))?;
@@ -278,13 +248,7 @@ impl<'s> IndexRows<'s> {
 }
 
 impl<'s> Asker for IndexRows<'s> {
-    fn ask(
-        &mut self,
-        alloc: Global,
-        call: &str,
-        memory: Memory,
-        text: &mut String,
-    ) -> Result<(), Fault> {
+    fn ask(&mut self, alloc: Global, call: &str, memory: Memory, text: &mut Listing) -> Done {
         let (name, rest) = cut(call);
         match name {
             "add" => self.add(alloc, rest, memory),
@@ -305,9 +269,9 @@ impl<'s> Asker for IndexRows<'s> {
             "files" => self.saved.write_files(alloc, text),
             "fail" => self.saved.fail(rest),
             "remove" => self.saved.remove(alloc, rest),
-            "ended_segments" => Ok(write_lengths(self.index.ended_segments(), text)?),
-            "ended" => Ok(write!(text, "{}", self.index.ended())?),
-            "document_count" => Ok(write!(text, "{}", self.index.document_count())?),
+            "ended_segments" => Ok(write_lengths(self.index.ended_segments(), text)),
+            "ended" => Ok(write!(text, "{}", self.index.ended())),
+            "document_count" => Ok(write!(text, "{}", self.index.document_count())),
             _ => self.ask_searcher(alloc, call, memory, text),
         }
     }
@@ -319,42 +283,39 @@ fn read_number_over_all(spelled: &str) -> Result<u64, Fault> {
 }
 
 // `address N`: where the document of this number stands, as its segment and its number there.
-fn write_address(searcher: &Searcher, words: &[&str], text: &mut String) -> Result<(), Fault> {
+fn write_address(searcher: &Searcher, words: &[&str], text: &mut Listing) -> Done {
     let number = read_number_over_all(word(words, 1))?;
     match address_of(searcher.segment_readers(), number) {
-        Some(address) => Ok(write!(text, "{}/{}", address.segment_ord, address.doc_id)?),
-        None => Ok(text.push_str("none")?),
+        Some(address) => Ok(write!(text, "{}/{}", address.segment_ord, address.doc_id)),
+        None => Ok(text.word("none")),
     }
 }
 
 // `number SEGMENT DOCUMENT`: the number of the document at this address.
-fn write_number(searcher: &Searcher, words: &[&str], text: &mut String) -> Result<(), Fault> {
+fn write_number(searcher: &Searcher, words: &[&str], text: &mut Listing) -> Done {
     let address = read_address(behind(words, 1))?;
     match number_of(searcher.segment_readers(), address) {
-        Some(number) => Ok(write!(text, "{number}")?),
-        None => Ok(text.push_str("none")?),
+        Some(number) => Ok(write!(text, "{number}")),
+        None => Ok(text.word("none")),
     }
 }
 
 // Writes how many documents each segment has.
-fn write_lengths(readers: &[SegmentReader], text: &mut String) -> Result<(), AllocError> {
+fn write_lengths(readers: &[SegmentReader], text: &mut Listing) {
     // how many documents the segments before this one have is written
     for reader in readers {
-        write_space(text)?;
-        write!(text, "{}", reader.max_doc())?;
+        text.add(reader.max_doc());
     }
-    Ok(())
 }
 
 // Writes the alive documents of all segments, by their numbers over all of them.
-fn write_all_alive(readers: &[SegmentReader], text: &mut String) -> Result<(), AllocError> {
+fn write_all_alive(readers: &[SegmentReader], text: &mut Listing) {
     let mut first: u64 = 0;
     // those of the segments before this one are written, and this one's numbers begin at `first`
     for reader in readers {
-        write_alive(reader, first, text)?;
+        write_alive(reader, first, text);
         first = first.saturating_add(u64::from(reader.max_doc()));
     }
-    Ok(())
 }
 
 // Writes the postings of a term in all segments, by the documents' numbers over all of them.
@@ -363,8 +324,8 @@ fn write_all_postings(
     readers: &[SegmentReader],
     term: &Term,
     option: IndexRecordOption,
-    text: &mut String,
-) -> Result<(), Fault> {
+    text: &mut Listing,
+) -> Done {
     let mut first: u64 = 0;
     // the postings in the segments before this one are written, and this one's numbers begin at `first`
     for reader in readers {
@@ -382,8 +343,8 @@ fn write_all_phrases(
     alloc: Global,
     readers: &[SegmentReader],
     words: &[&str],
-    text: &mut String,
-) -> Result<(), Fault> {
+    text: &mut Listing,
+) -> Done {
     let slop = read_number(word(words, 1))?;
     let mut first: u64 = 0;
     // the phrase's documents in the segments before this one are written, and this one's begin at `first`

@@ -3,7 +3,7 @@
 ghost use Rattle.std.specs.Prelude.{◌≤◌, length};
 
 use crate::spelled::{cut, read_option, read_text};
-use cases::{Asker, Fault, Memory, Row, end_refusals, word, words_of};
+use cases::{Asker, Done, Fault, Listing, Memory, Row, end_refusals, word, words_of};
 use qm_schema::{Field, IndexRecordOption, Schema, SchemaBuilder};
 use std::alloc::Global;
 
@@ -54,19 +54,13 @@ impl SchemaMaker {
 }
 
 impl Asker for SchemaMaker {
-    fn ask(
-        &mut self,
-        alloc: Global,
-        call: &str,
-        memory: Memory,
-        text: &mut String,
-    ) -> Result<(), Fault> {
+    fn ask(&mut self, alloc: Global, call: &str, memory: Memory, text: &mut Listing) -> Done {
         let (name, rest) = cut(call);
         if name != "field" {
             return Err(Fault::NotUnderstood);
         }
         let field = self.add(alloc, rest, memory)?;
-        Ok(write!(text, "{}", field.field_id())?)
+        Ok(write!(text, "{}", field.field_id()))
     }
 }
 

@@ -1,7 +1,7 @@
 //! Rows on maps whose keys are fields, occurrences and options.
 
 use crate::spelled::{read_number, read_option};
-use cases::{Asker, Fault, Memory, word, words_of};
+use cases::{Asker, Done, Fault, Listing, Memory, word, words_of};
 use qm_schema::{Field, IndexRecordOption, Occur};
 use std::alloc::Global;
 use std::collections::HashMap;
@@ -23,13 +23,7 @@ impl KeyRows {
 }
 
 impl Asker for KeyRows {
-    fn ask(
-        &mut self,
-        alloc: Global,
-        call: &str,
-        _memory: Memory,
-        text: &mut String,
-    ) -> Result<(), Fault> {
+    fn ask(&mut self, alloc: Global, call: &str, _memory: Memory, text: &mut Listing) -> Done {
         let words = words_of(alloc, call)?;
         let (first, second, third) = (word(&words, 1), word(&words, 2), word(&words, 3));
         match word(&words, 0) {
@@ -39,7 +33,7 @@ impl Asker for KeyRows {
             }
             "field" => {
                 let field = Field::from_field_id(read_number(first)?);
-                text.push_str(occur_name(self.fields.get(&field).copied()))?;
+                text.word(occur_name(self.fields.get(&field).copied()));
             }
             "insert_pair" => {
                 let pair = (read_occur(first)?, read_option(second)?);
@@ -48,8 +42,8 @@ impl Asker for KeyRows {
             "pair" => {
                 let pair = (read_occur(first)?, read_option(second)?);
                 match self.pairs.get(&pair) {
-                    Some(number) => write!(text, "{number}")?,
-                    None => text.push_str("none")?,
+                    Some(number) => write!(text, "{number}"),
+                    None => text.word("none"),
                 }
             }
             _ => return Err(Fault::NotUnderstood),

@@ -37,14 +37,14 @@ mod unions;
 mod weight_rows;
 
 use crate::bench::Bench;
-use cases::{Fault, Report, play_cases};
+use cases::{Done, Report, play_cases};
 use std::alloc::Global;
 use std::io;
 use std::process::ExitCode;
 
 fn main(rt: HostRuntime) -> io::Result<ExitCode> {
     let text = io::read_to_string(rt.alloc(), rt.reader())?;
-    let mut report = Report::new(rt.alloc())?;
+    let mut report = Report::new(rt.alloc());
     let status = match play(rt.alloc(), text.as_str(), &mut report) {
         Ok(()) => u8::from(!report.is_right()),
         Err(_) => 2,
@@ -53,7 +53,7 @@ fn main(rt: HostRuntime) -> io::Result<ExitCode> {
     Ok(ExitCode::from(status))
 }
 
-fn play(alloc: Global, text: &str, report: &mut Report) -> Result<(), Fault> {
+fn play(alloc: Global, text: &str, report: &mut Report) -> Done {
     let mut bench = Bench::new(alloc)?;
     play_cases(alloc, &mut bench, text, report)
 }

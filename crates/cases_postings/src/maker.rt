@@ -5,7 +5,7 @@ ghost use Rattle.std.specs.Prelude.{◌≤◌, length};
 use crate::spelled::{
     cut, read_field, read_number, read_numbers, read_term, read_text, read_texts,
 };
-use cases::{Asker, Fault, Memory, end_refusals, read_document};
+use cases::{Asker, Done, Fault, Listing, Memory, end_refusals, read_document};
 use qm_postings::{PlainDoc, SegmentBuilder, SegmentReader};
 use qm_schema::Schema;
 use std::alloc::{AllocError, Global};
@@ -55,14 +55,14 @@ impl<'s> Maker<'s> {
         alloc: Global,
         document: PlainDoc,
         memory: Memory,
-        text: &mut String,
-    ) -> Result<(), Fault> {
+        text: &mut Listing,
+    ) -> Done {
         memory.begin(alloc);
         let added = self.builder.add_document(document);
         end_refusals(alloc);
         let doc = added?;
         self.count = doc.saturating_add(1);
-        Ok(write!(text, "{doc}")?)
+        Ok(write!(text, "{doc}"))
     }
 
     // The document of these texts.
@@ -76,7 +76,7 @@ impl<'s> Maker<'s> {
     }
 
     // So many documents of the same texts: `N TEXTS`. Writes the number of the last one.
-    fn add_alike(&mut self, alloc: Global, spelled: &str, text: &mut String) -> Result<(), Fault> {
+    fn add_alike(&mut self, alloc: Global, spelled: &str, text: &mut Listing) -> Done {
         let (count, texts) = cut(spelled);
         // as many such documents are added as there were turns, and the text is the number of the last one
         for _ in 0..read_number(count)? {
@@ -88,18 +88,16 @@ impl<'s> Maker<'s> {
     }
 
     // A text of a field.
-    fn add_text(&mut self, alloc: Global, spelled: &str, memory: Memory) -> Result<(), Fault> {
+    fn add_text(&mut self, alloc: Global, spelled: &str, memory: Memory) -> Done {
         let (name, rest) = cut(spelled);
         let field = read_field(self.schema, name)?;
         let text = read_text(alloc, rest)?;
         memory.begin(alloc);
-        let added = self.document.add_text(field, text.as_str());
-        end_refusals(alloc);
-        Ok(added?)
+        Ok(self.document.add_text(field, text.as_str())?)
     }
 
     // A text of a field: so many numbers from 0 up, each less what is left of it by another number.
-    fn add_numbers(&mut self, alloc: Global, spelled: &str) -> Result<(), Fault> {
+    fn add_numbers(&mut self, alloc: Global, spelled: &str) -> Done {
         let (name, rest) = cut(spelled);
         let (count, terms) = cut(rest);
         let text = numbers_text(alloc, read_number(count)?, read_number(terms)?)?;
@@ -108,49 +106,41 @@ impl<'s> Maker<'s> {
     }
 
     // A term of a field at positions.
-    fn add_term(&mut self, alloc: Global, spelled: &str, memory: Memory) -> Result<(), Fault> {
+    fn add_term(&mut self, alloc: Global, spelled: &str, memory: Memory) -> Done {
         let (name, rest) = cut(spelled);
         let (word, places) = cut(rest);
         let term = read_term(alloc, read_field(self.schema, name)?, word)?;
         let positions = read_numbers(alloc, places)?;
         memory.begin(alloc);
-        let added = self.document.add_term(term, positions);
-        end_refusals(alloc);
-        Ok(added?)
+        Ok(self.document.add_term(term, positions)?)
     }
 
     // The length id of a field.
-    fn set_length(&mut self, alloc: Global, spelled: &str, memory: Memory) -> Result<(), Fault> {
+    fn set_length(&mut self, alloc: Global, spelled: &str, memory: Memory) -> Done {
         let (name, id) = cut(spelled);
         let field = read_field(self.schema, name)?;
-        let id = id.parse::<u8>().map_err(|_| Fault::NotUnderstood)?;
+        let Ok(id) = id.parse::<u8>() else {
+            return Err(Fault::NotUnderstood);
+        };
         memory.begin(alloc);
-        let set = self.document.set_length(field, id);
-        end_refusals(alloc);
-        Ok(set?)
+        Ok(self.document.set_length(field, id)?)
     }
 
     // Deletes a document that was added.
-    fn delete(&mut self, alloc: Global, spelled: &str, memory: Memory) -> Result<(), Fault> {
-        let doc = read_document(spelled).ok_or(Fault::NotUnderstood)?;
+    fn delete(&mut self, alloc: Global, spelled: &str, memory: Memory) -> Done {
+        let Some(doc) = read_document(spelled) else {
+            return Err(Fault::NotUnderstood);
+        };
         if doc >= self.count {
             return Err(Fault::NotAllowed);
         }
         memory.begin(alloc);
-        let deleted = self.builder.delete(doc);
-        end_refusals(alloc);
-        Ok(deleted?)
+        Ok(self.builder.delete(doc)?)
     }
 }
 
 impl<'s> Asker for Maker<'s> {
-    fn ask(
-        &mut self,
-        alloc: Global,
-        call: &str,
-        memory: Memory,
-        text: &mut String,
-    ) -> Result<(), Fault> {
+    fn ask(&mut self, alloc: Global, call: &str, memory: Memory, text: &mut Listing) -> Done {
         let (name, rest) = cut(call);
         match name {
             // these were read before
@@ -175,10 +165,10 @@ impl<'s> Asker for Maker<'s> {
 }
 
 fn numbers_text(alloc: Global, count: u32, terms: u32) -> Result<String, AllocError> {
-    let mut text = String::new(alloc);
+    let mut text = Listing::new(alloc);
     // what is left of each number before this one stands in the text
     for number in 0..count {
-        write!(text, "{} ", number % terms.max(1))?;
+        write!(text, "{} ", number % terms.max(1));
     }
-    Ok(text)
+    text.into_string()
 }

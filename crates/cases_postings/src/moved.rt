@@ -4,14 +4,13 @@ ghost use Rattle.std.specs.Prelude.{IsTrue};
 ghost use Rattle.qm_docset.specs.Lists.{IsPlaced};
 
 use crate::spelled::cut;
-use cases::{read_document, write_document, write_space};
+use cases::{Done, Fault, Listing, read_document};
 use qm_docset::{
     AliveBitSet, COLLECT_BLOCK_BUFFER_LEN, DocId, DocSet, SeekDangerResult, TERMINATED,
 };
-use std::alloc::AllocError;
 
 /// A call that every cursor has.
-#[derive(Clone, Copy, Debug)]
+#[derive(Clone, Copy)]
 pub enum Move {
     Doc,
     Advance,
@@ -28,7 +27,7 @@ pub enum Move {
 }
 
 /// What a call answered.
-#[derive(Clone, Copy, Debug)]
+#[derive(Clone, Copy)]
 pub enum Moved {
     Document(DocId),
     Found,
@@ -176,37 +175,20 @@ fn move_placed<C: DocSet>(
 }
 
 impl Moved {
-    /// Writes what a call answered, where it was made.
-    pub fn write(
-        self,
-        buffer: &[DocId; COLLECT_BLOCK_BUFFER_LEN],
-        text: &mut String,
-    ) -> Result<(), AllocError> {
+    /// Writes what a call answered; what is none is a fault.
+    pub fn write(self, buffer: &[DocId; COLLECT_BLOCK_BUFFER_LEN], text: &mut Listing) -> Done {
         match self {
-            Moved::Document(doc) => write_document(doc, text),
-            Moved::Found => text.push_str("found"),
+            Moved::Document(doc) => text.document(doc),
+            Moved::Found => text.word("found"),
             Moved::Below(bound) => {
-                text.push_str("below ")?;
-                write_document(bound, text)
+                text.word("below ");
+                text.document(bound);
             }
-            Moved::Allowed => text.push_str("allowed"),
-            Moved::Filled(count) => write_filled(buffer, count, text),
+            Moved::Allowed => text.word("allowed"),
+            Moved::Filled(count) => text.documents(&buffer[..count.min(buffer.len())]),
             Moved::Number(number) => write!(text, "{number}"),
-            Moved::NotAllowed => Ok(()),
+            Moved::NotAllowed => return Err(Fault::NotAllowed),
         }
+        Ok(())
     }
-}
-
-// Writes the first so many documents of a buffer.
-fn write_filled(
-    buffer: &[DocId; COLLECT_BLOCK_BUFFER_LEN],
-    count: usize,
-    text: &mut String,
-) -> Result<(), AllocError> {
-    // the documents of the buffer before this one are written
-    for doc in buffer.iter().take(count) {
-        write_space(text)?;
-        write_document(*doc, text)?;
-    }
-    Ok(())
 }

@@ -5,10 +5,10 @@ ghost use Rattle.qm_docset.specs.Entry.{head_document, head_positions};
 ghost use Rattle.qm_docset.specs.Lists.{IsPlaced};
 
 use crate::spelled::{cut, read_number};
-use cases::{Fault, Memory, end_refusals, read_documents, words_of, write_space};
+use cases::{Done, Fault, Listing, Memory, end_refusals, read_documents, words_of};
 use qm_docset::TERMINATED;
 use qm_postings::Postings;
-use std::alloc::{AllocError, Global};
+use std::alloc::Global;
 
 // how many positions of a document are read at most
 const MOST_POSITIONS: u64 = 1000000;
@@ -19,14 +19,14 @@ pub fn ask_postings<P: Postings>(
     postings: &mut P,
     call: &str,
     memory: Memory,
-    text: &mut String,
-) -> Result<(), Fault>
+    text: &mut Listing,
+) -> Done
     requires { IsPlaced P.DocSet postings.old }
     ensures { IsPlaced P.DocSet postings.new }
 {
     let (name, rest) = cut(call);
     match name {
-        "max_term_freq" => Ok(write!(text, "{}", postings.max_term_freq())?),
+        "max_term_freq" => Ok(write!(text, "{}", postings.max_term_freq())),
         "list" => {
             let offset = if rest.is_empty() {
                 0
@@ -50,8 +50,8 @@ fn ask_here<P: Postings>(
     postings: &mut P,
     call: &str,
     memory: Memory,
-    text: &mut String,
-) -> Result<(), Fault>
+    text: &mut Listing,
+) -> Done
     requires placed { IsPlaced P.DocSet postings.old }
     requires here { head_document (P.entries postings.old) < TERMINATED }
     ensures { IsPlaced P.DocSet postings.new }
@@ -62,7 +62,7 @@ fn ask_here<P: Postings>(
             memory.begin(alloc);
             let frequency = postings.term_freq();
             end_refusals(alloc);
-            return Ok(write!(text, "{frequency}")?);
+            return Ok(write!(text, "{frequency}"));
         }
         "positions" | "span" => read_positions(alloc, postings, memory)?,
         "positions_with_offset" => read_shifted(alloc, postings, read_number(rest)?, memory)?,
@@ -74,9 +74,9 @@ fn ask_here<P: Postings>(
         _ => return Err(Fault::NotUnderstood),
     };
     if name == "span" {
-        Ok(write_span(&numbers, text)?)
+        Ok(write_span(&numbers, text))
     } else {
-        Ok(write_numbers(&numbers, text)?)
+        Ok(write_numbers(&numbers, text))
     }
 }
 
@@ -174,54 +174,49 @@ pub fn write_list<P: Postings>(
     postings: &mut P,
     first: u64,
     offset: u32,
-    text: &mut String,
-) -> Result<(), Fault>
+    text: &mut Listing,
+) -> Done
     requires { IsPlaced P.DocSet postings.old }
     ensures { IsPlaced P.DocSet postings.new }
 {
     let mut doc = postings.doc();
     // the postings stand on this document
     while doc < TERMINATED {
-        write_space(text)?;
-        write!(text, "{}", first.saturating_add(u64::from(doc)))?;
-        write!(text, ":{}", postings.term_freq())?;
+        text.add(first.saturating_add(u64::from(doc)));
+        write!(text, ":{}", postings.term_freq());
         let positions = read_shifted(alloc, postings, offset, Memory::Ample)?;
         if !positions.is_empty() {
-            text.push(':')?;
-            write_joined(&positions, text)?;
+            text.word(":");
+            write_joined(&positions, text);
         }
         doc = postings.advance();
     }
     Ok(())
 }
 
-// Writes numbers with `,` between two.
-fn write_joined(numbers: &[u32], text: &mut String) -> Result<(), AllocError> {
+/// Writes numbers with `,` between two.
+pub fn write_joined(numbers: &[u32], text: &mut Listing) {
     // the numbers before this one are written, with `,` between two
     for (place, number) in numbers.iter().enumerate() {
         if place > 0 {
-            text.push(',')?;
+            text.word(",");
         }
-        write!(text, "{number}")?;
+        write!(text, "{number}");
     }
-    Ok(())
 }
 
 /// Writes numbers with a space between two.
-pub fn write_numbers(numbers: &[u32], text: &mut String) -> Result<(), AllocError> {
+pub fn write_numbers(numbers: &[u32], text: &mut Listing) {
     // the numbers before this one are written, with a space between two
     for number in numbers {
-        write_space(text)?;
-        write!(text, "{number}")?;
+        text.add(number);
     }
-    Ok(())
 }
 
 // Writes how many numbers there are, and the first and the last.
-fn write_span(numbers: &[u32], text: &mut String) -> Result<(), AllocError> {
-    write!(text, "{}", numbers.len())?;
+fn write_span(numbers: &[u32], text: &mut Listing) {
+    write!(text, "{}", numbers.len());
     if let (Some(first), Some(last)) = (numbers.first(), numbers.last()) {
-        write!(text, " {first} {last}")?;
+        write!(text, " {first} {last}");
     }
-    Ok(())
 }

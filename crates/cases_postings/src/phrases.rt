@@ -11,7 +11,9 @@ use crate::making::play_owned;
 use crate::member::{read_members, read_suffixes, read_terms};
 use crate::own_postings::OwnPostings;
 use crate::spelled::{read_number, read_weight_or_none};
-use cases::{Asker, Block, Fault, Memory, Report, behind, end_refusals, word, words_of};
+use cases::{
+    Asker, Block, Done, Fault, Listing, Memory, Report, behind, end_refusals, word, words_of,
+};
 use qm_docset::{DocSet, TERMINATED};
 use qm_phrase::{PhrasePrefixScorer, PhraseScorer, PhraseTerms, SimpleUnion};
 use qm_postings::{FieldNormReader, Postings};
@@ -27,21 +29,16 @@ struct Scoring {
 
 // The scoring that `ID WEIGHT` spells, behind two other words.
 fn read_scoring(words: &[&str]) -> Result<Scoring, Fault> {
-    let length_id = word(words, 2)
-        .parse::<u8>()
-        .map_err(|_| Fault::NotUnderstood)?;
+    let Ok(length_id) = word(words, 2).parse() else {
+        return Err(Fault::NotUnderstood);
+    };
     let weight = read_weight_or_none(word(words, 3))?;
     Ok(Scoring { weight, length_id })
 }
 
 /// Plays `phrase SLOP ID WEIGHT OFFSET:POSITIONS ..`, where `OFFSET~NUMBER` shares the postings of this
 /// number.
-pub fn play_phrase(
-    alloc: Global,
-    bench: &Bench,
-    block: Block<'_>,
-    report: &mut Report,
-) -> Result<(), Fault> {
+pub fn play_phrase(alloc: Global, bench: &Bench, block: Block<'_>, report: &mut Report) -> Done {
     let slop = read_number(word(block.words, 1))?;
     let scoring = read_scoring(block.words)?;
     let given = read_given(alloc, behind(block.words, 4))?;
@@ -49,9 +46,8 @@ pub fn play_phrase(
         return Err(Fault::NotAllowed);
     }
     block.memory.begin(alloc);
-    let made = make_shared(alloc, given, scoring, slop);
-    end_refusals(alloc);
-    play_owned(alloc, &bench.alive, made?, block.rows, report)
+    let scorer = make_shared(alloc, given, scoring, slop)?;
+    play_owned(alloc, &bench.alive, scorer, block.rows, report)
 }
 
 // The scorer of a phrase, some terms of which may share their postings.
@@ -111,12 +107,7 @@ fn make_phrase<P: Postings>(
 
 /// Plays `prefix OFFSET ID WEIGHT OFFSET:POSITIONS .. ; :POSITIONS ..`, the first offset that of the
 /// prefix, where `OFFSET~NUMBER` shares the postings of this number.
-pub fn play_prefix(
-    alloc: Global,
-    bench: &Bench,
-    block: Block<'_>,
-    report: &mut Report,
-) -> Result<(), Fault> {
+pub fn play_prefix(alloc: Global, bench: &Bench, block: Block<'_>, report: &mut Report) -> Done {
     let offset = read_number(word(block.words, 1))?;
     let scoring = read_scoring(block.words)?;
     let (full, ends) = halves(behind(block.words, 4));
@@ -126,9 +117,8 @@ pub fn play_prefix(
     }
     let suffixes = read_suffixes(alloc, ends)?;
     block.memory.begin(alloc);
-    let made = make_prefix(alloc, given, scoring, suffixes, offset);
-    end_refusals(alloc);
-    play_owned(alloc, &bench.alive, made?, block.rows, report)
+    let scorer = make_prefix(alloc, given, scoring, suffixes, offset)?;
+    play_owned(alloc, &bench.alive, scorer, block.rows, report)
 }
 
 // The words before the first `;`, and those behind it.
@@ -187,7 +177,7 @@ pub fn play_union_phrase(
     bench: &Bench,
     block: Block<'_>,
     report: &mut Report,
-) -> Result<(), Fault> {
+) -> Done {
     let slop = read_number(word(block.words, 1))?;
     let scoring = read_scoring(block.words)?;
     let terms = read_unions(alloc, behind(block.words, 4))?;
@@ -209,7 +199,9 @@ fn read_unions(
     let mut row = Vec::new(alloc);
     // all members so far are cursors, at offsets of 32 bits
     for spelled in words {
-        let (offset, members) = spelled.split_once('@').ok_or(Fault::NotUnderstood)?;
+        let Some((offset, members)) = spelled.split_once('@') else {
+            return Err(Fault::NotUnderstood);
+        };
         let offset = read_number(offset)?;
         row.push((offset as usize, read_union(alloc, members)?))?;
     }
@@ -235,13 +227,7 @@ pub struct PhraseCountRows {
 }
 
 impl Asker for PhraseCountRows {
-    fn ask(
-        &mut self,
-        alloc: Global,
-        call: &str,
-        memory: Memory,
-        text: &mut String,
-    ) -> Result<(), Fault> {
+    fn ask(&mut self, alloc: Global, call: &str, memory: Memory, text: &mut Listing) -> Done {
         let terms = read_terms(alloc, &words_of(alloc, call)?)?;
         if terms.len() < 2 {
             return Err(Fault::NotAllowed);
@@ -256,6 +242,6 @@ impl Asker for PhraseCountRows {
         } else {
             0
         };
-        Ok(write!(text, "{count}")?)
+        Ok(write!(text, "{count}"))
     }
 }

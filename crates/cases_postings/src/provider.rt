@@ -5,7 +5,7 @@ ghost use Rattle.std.specs.List.Sorted.{IsNonDecreasing};
 ghost use Rattle.qm_postings.specs.Statistics.{IsProviderRefusal};
 
 use crate::spelled::{read_rising_norms, read_term};
-use cases::{Asker, Fault, Memory, behind, end_refusals, word, words_of};
+use cases::{Asker, Done, Fault, Listing, Memory, behind, end_refusals, word, words_of};
 use qm_docset::Score;
 use qm_postings::Bm25StatisticsProvider;
 use qm_schema::{Field, QueryError, Term};
@@ -64,21 +64,15 @@ impl Bm25StatisticsProvider for OwnProvider {
 }
 
 impl Asker for OwnProvider {
-    fn ask(
-        &mut self,
-        alloc: Global,
-        call: &str,
-        memory: Memory,
-        text: &mut String,
-    ) -> Result<(), Fault> {
+    fn ask(&mut self, alloc: Global, call: &str, memory: Memory, text: &mut Listing) -> Done {
         let words = words_of(alloc, call)?;
         match word(&words, 0) {
             "for_terms" => {
                 let weight = weigh(alloc, self, behind(&words, 1), memory)?;
                 let (most, boost) = (weight.max_score(), weight.boost());
-                Ok(write!(text, "{most} boost {boost} score {}", weight.score(9, 1))?)
+                Ok(write!(text, "{most} boost {boost} score {}", weight.score(9, 1)))
             }
-            "asked" => Ok(write!(text, "{}", self.asked.get())?),
+            "asked" => Ok(write!(text, "{}", self.asked.get())),
             _ => Err(Fault::NotUnderstood),
         }
     }

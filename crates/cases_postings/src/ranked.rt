@@ -9,13 +9,13 @@ use crate::blocks::ask_scored_blocks;
 use crate::cursor::Played;
 use crate::explained::write_explanation;
 use crate::segment_rows::reading_name;
-use cases::{Fault, Memory, end_refusals, write_document, write_space};
+use cases::{Done, Fault, Listing, Memory, end_refusals};
 use qm_combine::Scorer;
 use qm_docset::{DocSet, TERMINATED};
 use qm_phrase::{PhrasePrefixScorer, PhraseScorer};
 use qm_postings::Postings;
 use qm_term::{Norms, TermScorer};
-use std::alloc::{AllocError, Global};
+use std::alloc::Global;
 
 // The calls of any scorer.
 fn ask_scorer<S: Scorer>(
@@ -23,8 +23,8 @@ fn ask_scorer<S: Scorer>(
     scorer: &mut S,
     call: &str,
     memory: Memory,
-    text: &mut String,
-) -> Result<(), Fault>
+    text: &mut Listing,
+) -> Done
     requires { IsPlaced S.DocSet scorer.old }
     ensures { IsPlaced S.DocSet scorer.new }
 {
@@ -33,9 +33,9 @@ fn ask_scorer<S: Scorer>(
             memory.begin(alloc);
             let most = scorer.max_score();
             end_refusals(alloc);
-            Ok(write!(text, "{most}")?)
+            Ok(write!(text, "{most}"))
         }
-        "scores" => Ok(write_scores(scorer, text)?),
+        "scores" => Ok(write_scores(scorer, text)),
         "score" => {
             if scorer.doc() >= TERMINATED {
                 return Err(Fault::NotAllowed);
@@ -43,14 +43,14 @@ fn ask_scorer<S: Scorer>(
             memory.begin(alloc);
             let score = scorer.score();
             end_refusals(alloc);
-            Ok(write!(text, "{score}")?)
+            Ok(write!(text, "{score}"))
         }
         _ => Err(Fault::NotUnderstood),
     }
 }
 
 /// Writes all documents that are left, each with its score.
-pub fn write_scores<S: Scorer>(scorer: &mut S, text: &mut String) -> Result<(), AllocError>
+pub fn write_scores<S: Scorer>(scorer: &mut S, text: &mut Listing)
     requires { IsPlaced S.DocSet scorer.old }
     ensures { IsPlaced S.DocSet scorer.new }
 {
@@ -58,24 +58,15 @@ pub fn write_scores<S: Scorer>(scorer: &mut S, text: &mut String) -> Result<(), 
     // the scorer stands on this document
     while doc < TERMINATED {
         let score = scorer.score();
-        write_space(text)?;
-        write_document(doc, text)?;
-        write!(text, ":{score}")?;
+        text.score(doc, score);
         doc = scorer.advance();
     }
-    Ok(())
 }
 
 impl<'a, N: Norms> Played for TermScorer<'a, N> {
-    fn ask(
-        &mut self,
-        alloc: Global,
-        call: &str,
-        memory: Memory,
-        text: &mut String,
-    ) -> Result<(), Fault> {
+    fn ask(&mut self, alloc: Global, call: &str, memory: Memory, text: &mut Listing) -> Done {
         match call {
-            "reading" => Ok(text.push_str(reading_name(self.freq_reading_option()))?),
+            "reading" => Ok(text.word(reading_name(self.freq_reading_option()))),
             "freq" | "fieldnorm_id" | "explain" => {
                 if self.doc() >= TERMINATED {
                     return Err(Fault::NotAllowed);
@@ -99,13 +90,13 @@ fn ask_copy<N: Norms>(
     scorer: &TermScorer<'_, N>,
     call: &str,
     memory: Memory,
-    text: &mut String,
-) -> Result<(), Fault>
+    text: &mut Listing,
+) -> Done
     requires { IsTermScorer scorer.now }
 {
     let mut copy = scorer.clone()?;
     if call == "total" {
-        return Ok(write!(text, "{}", copy.count_including_deleted())?);
+        return Ok(write!(text, "{}", copy.count_including_deleted()));
     }
     ask_scorer(alloc, &mut copy, call, memory, text)
 }
@@ -116,54 +107,42 @@ fn ask_term<N: Norms>(
     scorer: &TermScorer<'_, N>,
     call: &str,
     memory: Memory,
-    text: &mut String,
-) -> Result<(), Fault>
+    text: &mut Listing,
+) -> Done
     requires valid { IsTermScorer scorer.now }
     requires here { head_document (scored_left scorer.now) < TERMINATED }
 {
     match call {
-        "freq" => Ok(write!(text, "{}", scorer.term_freq())?),
-        "fieldnorm_id" => Ok(write!(text, "{}", scorer.fieldnorm_id())?),
+        "freq" => Ok(write!(text, "{}", scorer.term_freq())),
+        "fieldnorm_id" => Ok(write!(text, "{}", scorer.fieldnorm_id())),
         _ => {
             memory.begin(alloc);
             let explanation = scorer.explain(alloc);
             end_refusals(alloc);
-            Ok(write_explanation(&explanation?, text)?)
+            Ok(write_explanation(&explanation?, text))
         }
     }
 }
 
 impl<'a, P: Postings> Played for PhraseScorer<'a, P> {
-    fn ask(
-        &mut self,
-        alloc: Global,
-        call: &str,
-        memory: Memory,
-        text: &mut String,
-    ) -> Result<(), Fault> {
+    fn ask(&mut self, alloc: Global, call: &str, memory: Memory, text: &mut Listing) -> Done {
         if call == "phrase_count" {
             if self.doc() >= TERMINATED {
                 return Err(Fault::NotAllowed);
             }
-            return Ok(write!(text, "{}", self.phrase_count())?);
+            return Ok(write!(text, "{}", self.phrase_count()));
         }
         ask_scorer(alloc, self, call, memory, text)
     }
 }
 
 impl<'a, P: Postings> Played for PhrasePrefixScorer<'a, P> {
-    fn ask(
-        &mut self,
-        alloc: Global,
-        call: &str,
-        memory: Memory,
-        text: &mut String,
-    ) -> Result<(), Fault> {
+    fn ask(&mut self, alloc: Global, call: &str, memory: Memory, text: &mut Listing) -> Done {
         if call == "phrase_count" {
             if self.doc() >= TERMINATED {
                 return Err(Fault::NotAllowed);
             }
-            return Ok(write!(text, "{}", self.phrase_count())?);
+            return Ok(write!(text, "{}", self.phrase_count()));
         }
         ask_scorer(alloc, self, call, memory, text)
     }

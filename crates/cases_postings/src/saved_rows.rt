@@ -6,12 +6,12 @@ ghost use Rattle.qm_folder.specs.Memory.{disk_after};
 ghost use Rattle.qm_folder.specs.MemoryFolder.{calls_of};
 ghost use Rattle.qm_index.specs.Indexed.{IsRefreshed};
 
-use cases::{Fault, Memory, end_refusals, write_space};
+use cases::{Done, Fault, Listing, Memory, end_refusals};
 use qm_folder::{Folder, FolderError, MANIFEST, MemoryFolder, NewFile, STAGED, is_clean, update};
 use qm_index::Index;
 use qm_schema::QueryError;
 use qm_store::StoreError;
-use std::alloc::{AllocError, Global};
+use std::alloc::Global;
 
 /// A folder in memory, of which nothing waits for the disk.
 #[derive(Drop)]
@@ -35,11 +35,13 @@ impl SavedRows {
         index: &mut Index,
         spelled: &str,
         memory: Memory,
-        text: &mut String,
-    ) -> Result<(), Fault>
+        text: &mut Listing,
+    ) -> Done
         ensures { IsRefreshed index.old → IsRefreshed index.new }
     {
-        let moment = spelled.parse::<u64>().map_err(|_| Fault::NotUnderstood)?;
+        let Ok(moment) = spelled.parse() else {
+            return Err(Fault::NotUnderstood);
+        };
         memory.begin(alloc);
         let saved = index.save(alloc, &mut self.folder, moment);
         end_refusals(alloc);
@@ -57,7 +59,7 @@ impl SavedRows {
         &mut self,
         alloc: Global,
         memory: Memory,
-        text: &mut String,
+        text: &mut Listing,
     ) -> Result<Option<Index>, Fault> {
         memory.begin(alloc);
         let opened = Index::open(alloc, &mut self.folder);
@@ -65,7 +67,7 @@ impl SavedRows {
         match opened {
             Ok(Some(index)) => Ok(Some(index)),
             Ok(None) => {
-                text.push_str("none")?;
+                text.word("none");
                 Ok(None)
             }
             Err(error) => {
@@ -76,23 +78,24 @@ impl SavedRows {
     }
 
     /// `files`: writes the names of the files, in order, or `-`.
-    pub fn write_files(&mut self, alloc: Global, text: &mut String) -> Result<(), Fault> {
+    pub fn write_files(&mut self, alloc: Global, text: &mut Listing) -> Done {
         let Ok(mut names) = self.folder.list(alloc) else {
             return Err(Fault::Memory);
         };
         names.sort_unstable();
-        Ok(write_names(&names, text)?)
+        Ok(write_names(&names, text))
     }
 
     /// `fail N`: the folder's call behind so many fails.
-    pub fn fail(&mut self, spelled: &str) -> Result<(), Fault> {
-        let calls = spelled.parse::<usize>().map_err(|_| Fault::NotUnderstood)?;
-        self.folder.fail_after(calls);
-        Ok(())
+    pub fn fail(&mut self, spelled: &str) -> Done {
+        match spelled.parse() {
+            Ok(calls) => Ok(self.folder.fail_after(calls)),
+            Err(_) => Err(Fault::NotUnderstood),
+        }
     }
 
     /// `remove NAME`: removes a file.
-    pub fn remove(&mut self, alloc: Global, name: &str) -> Result<(), Fault> {
+    pub fn remove(&mut self, alloc: Global, name: &str) -> Done {
         let removed = self.folder.remove(name);
         settle(alloc, &mut self.folder)?;
         removed.map_err(|_| Fault::Memory)
@@ -100,20 +103,18 @@ impl SavedRows {
 }
 
 // Writes names, or `-` where there is none.
-fn write_names(names: &[String], text: &mut String) -> Result<(), AllocError> {
+fn write_names(names: &[String], text: &mut Listing) {
     if names.is_empty() {
-        return text.push_str("-");
+        return text.word("-");
     }
     // the names before this one are written
     for name in names {
-        write_space(text)?;
-        text.push_str(name.as_str())?;
+        text.add(name.as_str());
     }
-    Ok(())
 }
 
 // Writes why a folder's index couldn't be saved or opened.
-fn write_refusal(error: StoreError, text: &mut String) -> Result<(), Fault> {
+fn write_refusal(error: StoreError, text: &mut Listing) -> Done {
     let words = match error {
         StoreError::Memory => return Err(Fault::Refused(QueryError::Memory)),
         StoreError::Failed => "failed",
@@ -121,11 +122,11 @@ fn write_refusal(error: StoreError, text: &mut String) -> Result<(), Fault> {
         StoreError::OtherVersion => "another version",
         StoreError::Damaged => "damaged",
     };
-    Ok(text.push_str(words)?)
+    Ok(text.word(words))
 }
 
 // Puts in the place of a folder one with what is seen of its index, of which nothing waits for the disk.
-fn settle(alloc: Global, folder: &mut MemoryFolder) -> Result<(), Fault>
+fn settle(alloc: Global, folder: &mut MemoryFolder) -> Done
     ensures { IsSettled (disk_after (calls_of folder.new)) }
 {
     // no call is to fail any more

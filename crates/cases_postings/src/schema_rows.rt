@@ -1,7 +1,7 @@
 //! Rows on a schema, on options, and on the refusals.
 
 use crate::spelled::{cut, read_number, read_text};
-use cases::{Asker, Fault, Memory};
+use cases::{Asker, Done, Fault, Listing, Memory};
 use qm_schema::{Field, FieldEntry, IndexRecordOption, QueryError, Schema};
 use std::alloc::{AllocError, Global};
 
@@ -12,28 +12,22 @@ pub struct SchemaRows<'s> {
 }
 
 impl<'s> Asker for SchemaRows<'s> {
-    fn ask(
-        &mut self,
-        alloc: Global,
-        call: &str,
-        _memory: Memory,
-        text: &mut String,
-    ) -> Result<(), Fault> {
+    fn ask(&mut self, alloc: Global, call: &str, _memory: Memory, text: &mut Listing) -> Done {
         let (name, rest) = cut(call);
         match name {
             "get" => {
                 let name = read_text(alloc, rest)?;
                 match self.schema.get_field(name.as_str()) {
-                    Some(field) => write!(text, "{}", field.field_id())?,
-                    None => text.push_str("none")?,
+                    Some(field) => write!(text, "{}", field.field_id()),
+                    None => text.word("none"),
                 }
             }
-            "count" => write!(text, "{}", self.schema.field_count())?,
+            "count" => write!(text, "{}", self.schema.field_count()),
             "entry" => {
                 let field = Field::from_field_id(read_number(rest)?);
                 match self.schema.get_field_entry(field) {
-                    Some(entry) => write_entry(entry, text)?,
-                    None => text.push_str("none")?,
+                    Some(entry) => write_entry(entry, text),
+                    None => text.word("none"),
                 }
             }
             _ => return Err(Fault::NotUnderstood),
@@ -43,16 +37,15 @@ impl<'s> Asker for SchemaRows<'s> {
 }
 
 // Writes the name of a field, what it keeps, and `lengths` where it keeps these.
-fn write_entry(entry: &FieldEntry, text: &mut String) -> Result<(), AllocError> {
+fn write_entry(entry: &FieldEntry, text: &mut Listing) {
     let kept = entry.index_record_option();
-    write!(text, "\"{}\" {}", entry.name(), kept_name(kept))?;
+    write!(text, "\"{}\" {}", entry.name(), kept_name(kept));
     if entry.is_indexed() != kept.is_some() {
-        text.push_str(" by one call alone")?;
+        text.word(" by one call alone");
     }
     if entry.has_fieldnorms() {
-        text.push_str(" lengths")?;
+        text.word(" lengths");
     }
-    Ok(())
 }
 
 fn kept_name(kept: Option<IndexRecordOption>) -> &'static str {
@@ -71,19 +64,13 @@ pub struct OptionRows {
 }
 
 impl Asker for OptionRows {
-    fn ask(
-        &mut self,
-        _alloc: Global,
-        call: &str,
-        _memory: Memory,
-        text: &mut String,
-    ) -> Result<(), Fault> {
+    fn ask(&mut self, _alloc: Global, call: &str, _memory: Memory, text: &mut Listing) -> Done {
         let answer = match call {
             "has_freq" => self.option.has_freq(),
             "has_positions" => self.option.has_positions(),
             _ => return Err(Fault::NotUnderstood),
         };
-        Ok(write!(text, "{answer}")?)
+        Ok(write!(text, "{answer}"))
     }
 }
 
@@ -94,21 +81,15 @@ pub struct ErrorRows {
 }
 
 impl Asker for ErrorRows {
-    fn ask(
-        &mut self,
-        _alloc: Global,
-        call: &str,
-        _memory: Memory,
-        text: &mut String,
-    ) -> Result<(), Fault> {
+    fn ask(&mut self, _alloc: Global, call: &str, _memory: Memory, text: &mut Listing) -> Done {
         match call {
-            "text" => write!(text, "{}", self.error)?,
-            "number" => write!(text, "{}", self.error.number())?,
+            "text" => write!(text, "{}", self.error),
+            "number" => write!(text, "{}", self.error.number()),
             _ => {
                 let Some(other) = call.strip_prefix("equals ") else {
                     return Err(Fault::NotUnderstood);
                 };
-                write!(text, "{}", self.error == read_error(other)?)?
+                write!(text, "{}", self.error == read_error(other)?)
             }
         }
         Ok(())
@@ -144,8 +125,10 @@ fn read_error_of(spelled: &str) -> Result<QueryError, Fault> {
     };
     let number = rest.strip_suffix(")").unwrap_or(rest);
     if name == "OffsetTooLarge" {
-        let offset = number.parse::<usize>().map_err(|_| Fault::NotUnderstood)?;
-        return Ok(QueryError::OffsetTooLarge(offset));
+        return match number.parse() {
+            Ok(offset) => Ok(QueryError::OffsetTooLarge(offset)),
+            Err(_) => Err(Fault::NotUnderstood),
+        };
     }
     let number = read_number(number)?;
     match name {

@@ -5,7 +5,9 @@ ghost use Rattle.std.specs.Prelude.{pos, ◌≤ℤ◌, All, IfOk};
 use crate::given::empty_documents;
 use crate::segment_rows::write_alive;
 use crate::spelled::{cut, read_norms, read_number, read_numbers, read_term, read_text};
-use cases::{Asker, Fault, Memory, behind, end_refusals, number, score, word, words_of};
+use cases::{
+    Asker, Done, Fault, Listing, Memory, behind, end_refusals, number, score, word, words_of,
+};
 use qm_docset::Score;
 use qm_postings::{Bm25StatisticsProvider, DocAddress, Searcher, SegmentReader};
 use qm_schema::{Field, Schema, Term};
@@ -71,7 +73,9 @@ fn read_weights(alloc: Global, words: &[&str]) -> Result<Vec<(Term, Score)>, Fau
     // no weight so far is below 0
     for pair in words.chunks(2) {
         let term = read_term(alloc, Field::from_field_id(0), word(pair, 0))?;
-        let weight = score(pair, 1).ok_or(Fault::NotUnderstood)?;
+        let Some(weight) = score(pair, 1) else {
+            return Err(Fault::NotUnderstood);
+        };
         weights.push((term, weight))?;
     }
     Ok(weights)
@@ -96,33 +100,29 @@ pub fn weigh(
 }
 
 /// `norm ID`: writes the norm that a searcher gives this length id.
-pub fn write_norm(searcher: &Searcher, words: &[&str], text: &mut String) -> Result<(), Fault> {
-    let norm = searcher.norms().get(number(words, 1).unwrap_or(0) as usize);
-    Ok(write!(text, "{}", norm.ok_or(Fault::NotAllowed)?)?)
+pub fn write_norm(searcher: &Searcher, words: &[&str], text: &mut Listing) -> Done {
+    match searcher.norms().get(number(words, 1).unwrap_or(0) as usize) {
+        Some(norm) => Ok(write!(text, "{norm}")),
+        None => Err(Fault::NotAllowed),
+    }
 }
 
 impl<'s> Asker for SearcherRows<'s> {
-    fn ask(
-        &mut self,
-        alloc: Global,
-        call: &str,
-        memory: Memory,
-        text: &mut String,
-    ) -> Result<(), Fault> {
+    fn ask(&mut self, alloc: Global, call: &str, memory: Memory, text: &mut Listing) -> Done {
         let words = words_of(alloc, call)?;
         match word(&words, 0) {
             "weight" => {
                 let weight = weigh(alloc, &self.searcher, behind(&words, 1), memory)?;
-                Ok(write!(text, "{weight}")?)
+                Ok(write!(text, "{weight}"))
             }
-            "segments" => Ok(write!(text, "{}", self.searcher.segment_readers().len())?),
+            "segments" => Ok(write!(text, "{}", self.searcher.segment_readers().len())),
             "max_doc" | "num_docs" | "alive" => self.ask_segment(&words, text),
             "norm" => write_norm(&self.searcher, &words, text),
             "field" => {
                 let name = read_text(alloc, cut(call).1)?;
                 match self.searcher.schema().get_field(name.as_str()) {
-                    Some(field) => Ok(write!(text, "{}", field.field_id())?),
-                    None => Ok(text.push_str("none")?),
+                    Some(field) => Ok(write!(text, "{}", field.field_id())),
+                    None => Ok(text.word("none")),
                 }
             }
             _ => self.change(alloc, &words, memory, text),
@@ -132,15 +132,15 @@ impl<'s> Asker for SearcherRows<'s> {
 
 impl<'s> SearcherRows<'s> {
     // What a segment has: `max_doc N`, `num_docs N` and `alive N`.
-    fn ask_segment(&self, words: &[&str], text: &mut String) -> Result<(), Fault> {
+    fn ask_segment(&self, words: &[&str], text: &mut Listing) -> Done {
         let ord = read_number(word(words, 1))?;
         let Some(segment) = self.searcher.segment_reader(ord) else {
-            return Ok(text.push_str("none")?);
+            return Ok(text.word("none"));
         };
         match word(words, 0) {
-            "max_doc" => Ok(write!(text, "{}", segment.max_doc())?),
-            "num_docs" => Ok(write!(text, "{}", segment.num_docs())?),
-            _ => Ok(write_alive(segment, 0, text)?),
+            "max_doc" => Ok(write!(text, "{}", segment.max_doc())),
+            "num_docs" => Ok(write!(text, "{}", segment.num_docs())),
+            _ => Ok(write_alive(segment, 0, text)),
         }
     }
 
@@ -150,8 +150,8 @@ impl<'s> SearcherRows<'s> {
         alloc: Global,
         words: &[&str],
         memory: Memory,
-        text: &mut String,
-    ) -> Result<(), Fault> {
+        text: &mut Listing,
+    ) -> Done {
         match word(words, 0) {
             "set_weight" => set_weight(alloc, &mut self.searcher, words, memory),
             "set_norms" => set_norms(alloc, &mut self.searcher, words, memory),
@@ -163,64 +163,43 @@ impl<'s> SearcherRows<'s> {
     }
 
     // `push_segment COUNT`: one of so many empty documents.
-    fn push(&mut self, alloc: Global, words: &[&str], memory: Memory) -> Result<(), Fault> {
+    fn push(&mut self, alloc: Global, words: &[&str], memory: Memory) -> Done {
         let segment = empty_documents(alloc, self.schema, read_number(word(words, 1))?)?;
         memory.begin(alloc);
-        let pushed = self.searcher.push_segment(segment);
-        end_refusals(alloc);
-        Ok(pushed?)
+        Ok(self.searcher.push_segment(segment)?)
     }
 
     // `pop_segment`: how many documents the segment has.
-    fn pop(&mut self, alloc: Global, memory: Memory, text: &mut String) -> Result<(), Fault> {
+    fn pop(&mut self, alloc: Global, memory: Memory, text: &mut Listing) -> Done {
         memory.begin(alloc);
         let popped = self.searcher.pop_segment();
         end_refusals(alloc);
         match popped {
-            Some(segment) => Ok(write!(text, "{}", segment.max_doc())?),
-            None => Ok(text.push_str("none")?),
+            Some(segment) => Ok(write!(text, "{}", segment.max_doc())),
+            None => Ok(text.word("none")),
         }
     }
 }
 
 // `set_weight WORD WEIGHT`: gives a term of the first field its weight.
-fn set_weight(
-    alloc: Global,
-    searcher: &mut Searcher,
-    words: &[&str],
-    memory: Memory,
-) -> Result<(), Fault> {
+fn set_weight(alloc: Global, searcher: &mut Searcher, words: &[&str], memory: Memory) -> Done {
     let term = read_term(alloc, Field::from_field_id(0), word(words, 1))?;
     let Some(weight) = score(words, 2) else {
         return Err(Fault::NotUnderstood);
     };
     memory.begin(alloc);
-    let set = searcher.set_weight(term, weight);
-    end_refusals(alloc);
-    Ok(set?)
+    Ok(searcher.set_weight(term, weight)?)
 }
 
 // `set_norms NORMS`: gives each length id its norm.
-fn set_norms(
-    alloc: Global,
-    searcher: &mut Searcher,
-    words: &[&str],
-    memory: Memory,
-) -> Result<(), Fault> {
+fn set_norms(alloc: Global, searcher: &mut Searcher, words: &[&str], memory: Memory) -> Done {
     let norms = read_norms(word(words, 1))?;
     memory.begin(alloc);
-    let set = searcher.set_norms(&norms);
-    end_refusals(alloc);
-    Ok(set?)
+    Ok(searcher.set_norms(&norms)?)
 }
 
 // `delete SEGMENT DOCUMENT`.
-fn delete(
-    alloc: Global,
-    searcher: &mut Searcher,
-    words: &[&str],
-    memory: Memory,
-) -> Result<(), Fault> {
+fn delete(alloc: Global, searcher: &mut Searcher, words: &[&str], memory: Memory) -> Done {
     let ord = read_number(word(words, 1))?;
     let doc = read_number(word(words, 2))?;
     match searcher.segment_reader(ord) {
@@ -228,7 +207,5 @@ fn delete(
         _ => return Err(Fault::NotAllowed),
     }
     memory.begin(alloc);
-    let deleted = searcher.delete(alloc, DocAddress::new(ord, doc));
-    end_refusals(alloc);
-    Ok(deleted?)
+    Ok(searcher.delete(alloc, DocAddress::new(ord, doc))?)
 }

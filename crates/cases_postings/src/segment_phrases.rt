@@ -10,7 +10,7 @@ use crate::making::play_owned;
 use crate::spelled::{
     read_bytes, read_number, read_option, read_term, read_weight, read_weight_or_none,
 };
-use cases::{Block, Fault, Report, behind, end_refusals, word, write_space};
+use cases::{Block, Done, Fault, Listing, Report, behind, word};
 use qm_docset::{DocSet, TERMINATED};
 use qm_phrase::{PhrasePrefixScorer, PhraseScorer, prefix_end};
 use qm_postings::{FieldNormReader, SegmentPostings, SegmentReader};
@@ -32,26 +32,19 @@ pub fn play_term_scorer(
     bench: &Bench,
     block: Block<'_>,
     report: &mut Report,
-) -> Result<(), Fault> {
+) -> Done {
     let term = read_term(alloc, first_field(), word(block.words, 1))?;
     let weight = read_weight(word(block.words, 2))?;
     let option = read_option(word(block.words, 3))?;
     block.memory.begin(alloc);
-    let found = TermScorer::for_term(&bench.segment, &term, option, &weight);
-    end_refusals(alloc);
-    match found {
+    match TermScorer::for_term(&bench.segment, &term, option, &weight) {
         Some(scorer) => play_owned(alloc, &bench.alive, scorer, block.rows, report),
         None => Err(Fault::NotAllowed),
     }
 }
 
 /// Plays `segmentphrase SLOP WEIGHT WORD ..`.
-pub fn play_phrase(
-    alloc: Global,
-    bench: &Bench,
-    block: Block<'_>,
-    report: &mut Report,
-) -> Result<(), Fault> {
+pub fn play_phrase(alloc: Global, bench: &Bench, block: Block<'_>, report: &mut Report) -> Done {
     let slop = read_number(word(block.words, 1))?;
     let weight = read_weight_or_none(word(block.words, 2))?;
     let terms = full_terms(alloc, &bench.segment, behind(block.words, 3))?;
@@ -60,19 +53,13 @@ pub fn play_phrase(
     }
     let ids = length_ids(&bench.segment)?;
     block.memory.begin(alloc);
-    let made = PhraseScorer::new(alloc, terms, weight, ids, slop);
-    end_refusals(alloc);
-    play_owned(alloc, &bench.alive, made?, block.rows, report)
+    let scorer = PhraseScorer::new(alloc, terms, weight, ids, slop)?;
+    play_owned(alloc, &bench.alive, scorer, block.rows, report)
 }
 
 /// Plays `segmentprefix MAX WEIGHT WORD .. PREFIX`, which reads at most MAX terms that begin with the
 /// prefix.
-pub fn play_prefix(
-    alloc: Global,
-    bench: &Bench,
-    block: Block<'_>,
-    report: &mut Report,
-) -> Result<(), Fault> {
+pub fn play_prefix(alloc: Global, bench: &Bench, block: Block<'_>, report: &mut Report) -> Done {
     let most = read_number(word(block.words, 1))?;
     let weight = read_weight_or_none(word(block.words, 2))?;
     let Some((prefix, words)) = behind(block.words, 3).split_last() else {
@@ -87,9 +74,8 @@ pub fn play_prefix(
     let ids = length_ids(&bench.segment)?;
     let offset = words.len().min(4294967295);
     block.memory.begin(alloc);
-    let made = PhrasePrefixScorer::new(alloc, terms, weight, ids, ends, offset);
-    end_refusals(alloc);
-    play_owned(alloc, &bench.alive, made?, block.rows, report)
+    let scorer = PhrasePrefixScorer::new(alloc, terms, weight, ids, ends, offset)?;
+    play_owned(alloc, &bench.alive, scorer, block.rows, report)
 }
 
 /// Writes the documents of a segment that hold words of the first field as a phrase, by their numbers from `first`
@@ -100,8 +86,8 @@ pub fn write_phrase(
     words: &[&str],
     slop: u32,
     first: u64,
-    text: &mut String,
-) -> Result<(), Fault> {
+    text: &mut Listing,
+) -> Done {
     let terms = match full_terms(alloc, segment, words) {
         Ok(terms) => terms,
         // a word that no document holds
@@ -113,33 +99,30 @@ pub fn write_phrase(
     }
     let ids = length_ids(segment)?;
     let mut scorer = PhraseScorer::new(alloc, terms, None, ids, slop)?;
-    write_documents(&mut scorer, first, text)
+    Ok(write_documents(&mut scorer, first, text))
 }
 
 // Writes all documents that are left, by their numbers from `first` on.
-fn write_documents<S: DocSet>(set: &mut S, first: u64, text: &mut String) -> Result<(), Fault>
+fn write_documents<S: DocSet>(set: &mut S, first: u64, text: &mut Listing)
     requires { IsPlaced S.DocSet set.old }
     ensures { IsPlaced S.DocSet set.new }
 {
     let mut doc = set.doc();
     // the set stands on this document
     while doc < TERMINATED {
-        write_space(text)?;
-        write!(text, "{}", first.saturating_add(u64::from(doc)))?;
+        text.add(first.saturating_add(u64::from(doc)));
         doc = set.advance();
     }
-    Ok(())
 }
 
 // The length ids of a segment's documents.
 fn length_ids<'s>(segment: &'s SegmentReader) -> Result<FieldNormReader<'s>, Fault>
     ensures { IfOk result (λ ids. length (norm_ids ids) ≡ length segment.now.segment.documents) }
 {
-    let ids = segment.fieldnorms(first_field()).ok_or(Fault::NotAllowed)?;
-    if ids.num_docs() != segment.max_doc() {
-        return Err(Fault::NotAllowed);
+    match segment.fieldnorms(first_field()) {
+        Some(ids) if ids.num_docs() == segment.max_doc() => Ok(ids),
+        _ => Err(Fault::NotAllowed),
     }
-    Ok(ids)
 }
 
 // The postings of a term that some document holds.

@@ -8,22 +8,16 @@ use crate::given::{alive_of, is_alive};
 use crate::offered::{can_shift, output_for, read_positions, write_list, write_numbers};
 use crate::spelled::{read_bytes, read_field, read_number, read_option, read_term, write_bytes};
 use crate::stored_rows::ask_rows;
-use cases::{Asker, Fault, Memory, end_refusals, word, words_of, write_document, write_space};
+use cases::{Asker, Done, Fault, Listing, Memory, end_refusals, word, words_of};
 use qm_docset::{DocSet, TERMINATED};
 use qm_phrase::PostingsWithOffset;
 use qm_postings::{FreqReadingOption, SegmentPostings, SegmentReader};
 use qm_schema::{IndexRecordOption, Term};
-use std::alloc::{AllocError, Global};
+use std::alloc::Global;
 
 // The rows of a block `segment`, on the given one.
 impl Asker for Bench {
-    fn ask(
-        &mut self,
-        alloc: Global,
-        call: &str,
-        memory: Memory,
-        text: &mut String,
-    ) -> Result<(), Fault> {
+    fn ask(&mut self, alloc: Global, call: &str, memory: Memory, text: &mut Listing) -> Done {
         let words = words_of(alloc, call)?;
         match word(&words, 0) {
             "delete" => delete(alloc, self, &words, memory),
@@ -45,7 +39,7 @@ impl Asker for Bench {
 }
 
 // Deletes a document of the given segment, for the blocks behind this one too.
-fn delete(alloc: Global, bench: &mut Bench, words: &[&str], memory: Memory) -> Result<(), Fault> {
+fn delete(alloc: Global, bench: &mut Bench, words: &[&str], memory: Memory) -> Done {
     let doc = read_number(word(words, 1))?;
     if doc >= bench.segment.max_doc() {
         return Err(Fault::NotAllowed);
@@ -64,44 +58,38 @@ fn ask_documents(
     segment: &SegmentReader,
     words: &[&str],
     memory: Memory,
-    text: &mut String,
-) -> Result<(), Fault> {
+    text: &mut Listing,
+) -> Done {
     memory.begin(alloc);
     let (max_doc, num_docs) = (segment.max_doc(), segment.num_docs());
     let has_deletes = segment.has_deletes();
     let has_bitset = segment.alive_bitset().is_some();
     end_refusals(alloc);
     match word(words, 0) {
-        "max_doc" => write!(text, "{max_doc}")?,
-        "num_docs" => write!(text, "{num_docs}")?,
-        "has_deletes" => write!(text, "{has_deletes}")?,
-        "alive_bitset" => text.push_str(if has_bitset { "some" } else { "none" })?,
-        "alive" => write_alive(segment, 0, text)?,
+        "max_doc" => write!(text, "{max_doc}"),
+        "num_docs" => write!(text, "{num_docs}"),
+        "has_deletes" => write!(text, "{has_deletes}"),
+        "alive_bitset" => text.word(if has_bitset { "some" } else { "none" }),
+        "alive" => write_alive(segment, 0, text),
         _ => {
             let doc = read_number(word(words, 1))?;
             memory.begin(alloc);
             let is_alive = is_alive(segment, doc);
             end_refusals(alloc);
-            write!(text, "{is_alive}")?;
+            write!(text, "{is_alive}");
         }
     }
     Ok(())
 }
 
 /// Writes the documents of a segment that are alive, by their numbers from `first` on.
-pub fn write_alive(
-    segment: &SegmentReader,
-    first: u64,
-    text: &mut String,
-) -> Result<(), AllocError> {
+pub fn write_alive(segment: &SegmentReader, first: u64, text: &mut Listing) {
     // of the documents before this one those that are alive are written
     for doc in 0..segment.max_doc() {
         if is_alive(segment, doc) {
-            write_space(text)?;
-            write!(text, "{}", first.saturating_add(u64::from(doc)))?;
+            text.add(first.saturating_add(u64::from(doc)));
         }
     }
-    Ok(())
 }
 
 // `length FIELD DOC`, `lengths FIELD`, of how many documents there are lengths, and `is_constant FIELD`.
@@ -110,25 +98,25 @@ fn ask_lengths(
     bench: &Bench,
     words: &[&str],
     memory: Memory,
-    text: &mut String,
-) -> Result<(), Fault> {
+    text: &mut Listing,
+) -> Done {
     let field = read_field(&bench.schema, word(words, 1))?;
     memory.begin(alloc);
     let ids = bench.segment.fieldnorms(field);
     end_refusals(alloc);
     let Some(ids) = ids else {
-        return Ok(text.push_str("none")?);
+        return Ok(text.word("none"));
     };
     match word(words, 0) {
-        "lengths" => return Ok(write!(text, "{}", ids.num_docs())?),
-        "is_constant" => return Ok(write!(text, "{}", ids.is_constant())?),
+        "lengths" => return Ok(write!(text, "{}", ids.num_docs())),
+        "is_constant" => return Ok(write!(text, "{}", ids.is_constant())),
         _ => {}
     }
     let doc = read_number(word(words, 2))?;
     if doc >= ids.num_docs() {
         return Err(Fault::NotAllowed);
     }
-    Ok(write!(text, "{}", ids.fieldnorm_id(doc))?)
+    Ok(write!(text, "{}", ids.fieldnorm_id(doc)))
 }
 
 // `range FIELD FROM TO`: the terms in that range of bytes, each with how many documents hold it; `*` is
@@ -138,8 +126,8 @@ fn write_range(
     bench: &Bench,
     words: &[&str],
     memory: Memory,
-    text: &mut String,
-) -> Result<(), Fault> {
+    text: &mut Listing,
+) -> Done {
     let field = read_field(&bench.schema, word(words, 1))?;
     let from = read_bytes(alloc, word(words, 2))?;
     let to = read_bytes(alloc, word(words, 3))?;
@@ -151,11 +139,10 @@ fn write_range(
     memory.begin(alloc);
     // the terms before this one are written, each with how many documents hold it
     for (term, info) in bench.segment.inverted_index(field).term_range(&from, end) {
-        write_space(text)?;
-        write_bytes(term.serialized_value_bytes(), text)?;
-        write!(text, ":{}", info.doc_freq)?;
+        text.space();
+        write_bytes(term.serialized_value_bytes(), text);
+        write!(text, ":{}", info.doc_freq);
     }
-    end_refusals(alloc);
     Ok(())
 }
 
@@ -166,8 +153,8 @@ fn write_info(
     bench: &Bench,
     words: &[&str],
     memory: Memory,
-    text: &mut String,
-) -> Result<(), Fault> {
+    text: &mut Listing,
+) -> Done {
     let field = read_field(&bench.schema, word(words, 1))?;
     let of = if word(words, 3) == "of" {
         read_field(&bench.schema, word(words, 4))?
@@ -179,8 +166,8 @@ fn write_info(
     let info = bench.segment.inverted_index(field).get_term_info(&term);
     end_refusals(alloc);
     match info {
-        Some(info) => write!(text, "{}", info.doc_freq)?,
-        None => text.push_str("none")?,
+        Some(info) => write!(text, "{}", info.doc_freq),
+        None => text.word("none"),
     }
     Ok(())
 }
@@ -191,8 +178,8 @@ fn ask_postings(
     bench: &Bench,
     words: &[&str],
     memory: Memory,
-    text: &mut String,
-) -> Result<(), Fault> {
+    text: &mut Listing,
+) -> Done {
     let field = read_field(&bench.schema, word(words, 1))?;
     let term = read_term(alloc, field, word(words, 2))?;
     let option = read_option(word(words, 3))?;
@@ -204,10 +191,10 @@ fn ask_postings(
     };
     end_refusals(alloc);
     let Some(postings) = found else {
-        return Ok(text.push_str("none")?);
+        return Ok(text.word("none"));
     };
     match word(words, 0) {
-        "reading" => Ok(text.push_str(reading_name(postings.freq_reading_option()))?),
+        "reading" => Ok(text.word(reading_name(postings.freq_reading_option()))),
         "copy" => write_copy(postings, text),
         "shifted" => write_shifted(alloc, postings, words, memory, text),
         _ => write_postings(alloc, postings, 0, text),
@@ -252,14 +239,14 @@ pub fn reading_name(reading: FreqReadingOption) -> &'static str {
 }
 
 // Writes what a copy counts, and where it and the first one stand then.
-fn write_copy(postings: SegmentPostings<'_>, text: &mut String) -> Result<(), Fault>
+fn write_copy(postings: SegmentPostings<'_>, text: &mut Listing) -> Done
     requires { IsPostings postings }
 {
     let mut copy = postings;
-    write!(text, "{} ", copy.count_including_deleted())?;
-    write_document(copy.doc(), text)?;
-    text.push(' ')?;
-    Ok(write_document(postings.doc(), text)?)
+    write!(text, "{} ", copy.count_including_deleted());
+    text.document(copy.doc());
+    text.word(" ");
+    Ok(text.document(postings.doc()))
 }
 
 // Writes the positions of a document, by postings with an offset: `shifted FIELD WORD OPTION DOC OFFSET`.
@@ -268,8 +255,8 @@ fn write_shifted(
     postings: SegmentPostings<'_>,
     words: &[&str],
     memory: Memory,
-    text: &mut String,
-) -> Result<(), Fault>
+    text: &mut Listing,
+) -> Done
     requires { IsPostings postings }
 {
     let mut postings = postings;
@@ -287,7 +274,7 @@ fn write_shifted(
     memory.begin(alloc);
     shifted.positions(&mut output);
     end_refusals(alloc);
-    Ok(write_numbers(&output, text)?)
+    Ok(write_numbers(&output, text))
 }
 
 /// Writes what postings hold, of documents that are numbered from `first` on.
@@ -295,8 +282,8 @@ pub fn write_postings(
     alloc: Global,
     postings: SegmentPostings<'_>,
     first: u64,
-    text: &mut String,
-) -> Result<(), Fault>
+    text: &mut Listing,
+) -> Done
     requires { IsPostings postings }
 {
     let mut postings = postings;

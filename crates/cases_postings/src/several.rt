@@ -5,11 +5,11 @@ ghost use Rattle.qm_docset.specs.declared.numbers.TheConstants.{TERMINATED};
 ghost use Rattle.qm_term.specs.TermScorer.{IsTermScorer};
 ghost use Rattle.qm_term.specs.WandRun.{IsRun};
 
-use crate::blocks::target_of;
+use crate::blocks::{ROOM, target_of};
 use crate::spelled::{cut, read_number, read_option, read_term, read_weight};
 use cases::{
-    Asker, Fault, Memory, Pruning, Reply, behind, end_refusals, number, replies_of, threshold_of,
-    word, words_of,
+    Asker, Done, Fault, Listing, Memory, Pruning, Reply, behind, end_refusals, number, replies_of,
+    threshold_of, word, words_of,
 };
 use qm_combine::{BoundedBySum, DisjunctionMaxCombiner, SumCombiner};
 use qm_docset::{DocId, DocSet, TERMINATED};
@@ -87,7 +87,7 @@ impl<'b> SeveralRows<'b> {
         way: Way,
         call: &str,
         memory: Memory,
-        text: &mut String,
+        text: &mut Listing,
     ) -> Result<WandCount, Fault> {
         let row = self.scorers(alloc)?;
         match self.tie_breaker {
@@ -124,22 +124,18 @@ impl<'b> SeveralRows<'b> {
         run: &str,
         most: WandCount,
     ) -> Result<bool, Fault> {
-        let mut calls = String::new(alloc);
+        let mut calls = Listing::new(alloc);
+        // no turn takes memory for what its calls say
+        calls.reserve(ROOM);
         let count = self.run(alloc, way, run, Memory::Ample, &mut calls)?;
-        let called = words_of(alloc, calls.as_str())?.len() as u128;
+        let called = words_of(alloc, calls.into_string()?.as_str())?.len() as u128;
         let is_scored = called <= count.ticks && count.ticks <= most.ticks;
         Ok(is_scored && count.ticks <= count.turns && count.turns <= most.turns)
     }
 }
 
 impl<'b> Asker for SeveralRows<'b> {
-    fn ask(
-        &mut self,
-        alloc: Global,
-        call: &str,
-        memory: Memory,
-        text: &mut String,
-    ) -> Result<(), Fault> {
+    fn ask(&mut self, alloc: Global, call: &str, memory: Memory, text: &mut Listing) -> Done {
         let (name, rest) = cut(call);
         match name {
             "wand" => {
@@ -153,11 +149,11 @@ impl<'b> Asker for SeveralRows<'b> {
             }
             "bounded" => {
                 let is_bounded = self.is_bounded(alloc, &[Way::AtOnce, Way::ByTurns], rest)?;
-                write!(text, "{is_bounded}")?;
+                write!(text, "{is_bounded}");
             }
             "bounded_all" => {
                 let is_bounded = self.is_bounded(alloc, &[Way::OverAll], rest)?;
-                write!(text, "{is_bounded}")?;
+                write!(text, "{is_bounded}");
             }
             _ => return Err(Fault::NotUnderstood),
         }
@@ -170,7 +166,9 @@ fn read_tie_breaker(words: &[&str]) -> Result<Option<u32>, Fault> {
     match word(words, 0) {
         "sum" => Ok(None),
         "max" => {
-            let tie_breaker = number(words, 1).ok_or(Fault::NotUnderstood)?;
+            let Some(tie_breaker) = number(words, 1) else {
+                return Err(Fault::NotUnderstood);
+            };
             DisjunctionMaxCombiner::with_tie_breaker(tie_breaker)?;
             Ok(Some(tie_breaker))
         }
@@ -227,7 +225,7 @@ fn run_over<C: BoundedBySum>(
     way: Way,
     call: &str,
     memory: Memory,
-    text: &mut String,
+    text: &mut Listing,
 ) -> Result<WandCount, Fault>
     requires { All IsTermScorer row.items }
 {
@@ -245,7 +243,7 @@ fn run_at_once<C: BoundedBySum>(
     combiner: C,
     call: &str,
     memory: Memory,
-    text: &mut String,
+    text: &mut Listing,
 ) -> Result<WandCount, Fault>
     requires { All IsTermScorer row.items }
 {
@@ -265,7 +263,6 @@ fn run_at_once<C: BoundedBySum>(
         threshold,
         &mut |doc, score| pruning.call(doc, score),
     );
-    end_refusals(alloc);
     Ok(counted?)
 }
 
@@ -275,7 +272,7 @@ fn run_over_all(
     row: Vec<TermScorer<'_>>,
     call: &str,
     memory: Memory,
-    text: &mut String,
+    text: &mut Listing,
 ) -> Result<WandCount, Fault>
     requires { All IsTermScorer row.items }
 {
@@ -292,7 +289,6 @@ fn run_over_all(
     };
     memory.begin(alloc);
     let count = block_wand_all(row, threshold, &mut |doc, score| pruning.call(doc, score));
-    end_refusals(alloc);
     Ok(count)
 }
 
@@ -303,7 +299,7 @@ fn run_by_turns<C: BoundedBySum>(
     combiner: C,
     call: &str,
     memory: Memory,
-    text: &mut String,
+    text: &mut Listing,
 ) -> Result<WandCount, Fault>
     requires { All IsTermScorer row.items }
 {
@@ -323,7 +319,7 @@ fn run_by_turns<C: BoundedBySum>(
     let is_stepwise = take_turns(&mut run, &mut pruning);
     end_refusals(alloc);
     if !is_stepwise {
-        write!(text, " not turn by turn")?;
+        write!(text, " not turn by turn");
     }
     Ok(run.count())
 }

@@ -3,7 +3,7 @@
 ghost use Rattle.std.specs.Prelude.{IfOk, pos, ◌≤ℤ◌};
 ghost use Rattle.std.specs.List.Sorted.{IsNonDecreasing};
 
-use cases::{Fault, read_documents, score};
+use cases::{Fault, Listing, read_documents, score};
 use qm_docset::{DocId, Score};
 use qm_schema::{Field, IndexRecordOption, Schema, Term};
 use qm_term::Bm25Weight;
@@ -33,20 +33,18 @@ pub fn read_numbers(alloc: Global, word: &str) -> Result<Vec<DocId>, Fault> {
 
 /// The text that is spelled: what stands between quotation marks, `w*3` for `www`, else as it is.
 pub fn read_text(alloc: Global, spelled: &str) -> Result<String, AllocError> {
-    let mut text = String::new(alloc);
     if let Some(quoted) = spelled.strip_prefix("\"") {
-        text.push_str(quoted.strip_suffix("\"").unwrap_or(quoted))?;
-        return Ok(text);
+        return String::from_str(alloc, quoted.strip_suffix("\"").unwrap_or(quoted));
     }
     let Some((part, times)) = spelled.split_once('*') else {
-        text.push_str(spelled)?;
-        return Ok(text);
+        return String::from_str(alloc, spelled);
     };
+    let mut text = Listing::new(alloc);
     // the text is the part as often as there were turns
     for _ in 0..times.parse::<u32>().unwrap_or(0) {
-        text.push_str(part)?;
+        text.word(part);
     }
-    Ok(text)
+    text.into_string()
 }
 
 /// The term of a field that a word spells: by its bytes, where it has `\x`, else by its text.
@@ -99,8 +97,12 @@ pub fn read_bytes(alloc: Global, spelled: &str) -> Result<Vec<u8>, Fault> {
         if is_first {
             bytes.extend_from_slice(part.as_bytes())?;
         } else {
-            let (digits, rest) = part.split_at_checked(2).ok_or(Fault::NotUnderstood)?;
-            let byte = u8::from_str_radix(digits, 16).map_err(|_| Fault::NotUnderstood)?;
+            let Some((digits, rest)) = part.split_at_checked(2) else {
+                return Err(Fault::NotUnderstood);
+            };
+            let Ok(byte) = u8::from_str_radix(digits, 16) else {
+                return Err(Fault::NotUnderstood);
+            };
             bytes.push(byte)?;
             bytes.extend_from_slice(rest.as_bytes())?;
         }
@@ -110,19 +112,18 @@ pub fn read_bytes(alloc: Global, spelled: &str) -> Result<Vec<u8>, Fault> {
 }
 
 /// Writes bytes as they are read.
-pub fn write_bytes(bytes: &[u8], text: &mut String) -> Result<(), AllocError> {
+pub fn write_bytes(bytes: &[u8], text: &mut Listing) {
     if bytes.is_empty() {
-        return text.push_str("\"\"");
+        return text.word("\"\"");
     }
     // the bytes before this one are written, each as itself or as `\x` with two digits
     for byte in bytes {
         if byte.is_ascii_graphic() {
-            text.push(char::from(*byte))?;
+            write!(text, "{}", char::from(*byte));
         } else {
-            write!(text, "\\x{byte:02x}")?;
+            write!(text, "\\x{byte:02x}");
         }
     }
-    Ok(())
 }
 
 /// What is asked of postings.
@@ -172,7 +173,10 @@ pub fn read_rising_norms(spelled: &str) -> Result<[u32; 256], Fault>
 
 /// The number that a word spells.
 pub fn read_number(word: &str) -> Result<u32, Fault> {
-    word.parse::<u32>().map_err(|_| Fault::NotUnderstood)
+    match word.parse() {
+        Ok(number) => Ok(number),
+        Err(_) => Err(Fault::NotUnderstood),
+    }
 }
 
 /// The weight and the boost that a word spells: `1000*3`, or `1000` for a boost of 1.

@@ -3,10 +3,10 @@
 use crate::bench::Bench;
 use crate::built_rows::{built_again, row_again};
 use crate::given::alive_of;
-use crate::offered::write_numbers;
+use crate::offered::write_joined;
 use crate::spelled::{cut, read_field, read_number, read_numbers, read_term, write_bytes};
 use cases::{
-    Asker, Block, Fault, Memory, Report, end_refusals, play_asked, word, words_of, write_space,
+    Asker, Block, Done, Fault, Listing, Memory, Report, end_refusals, play_asked, word, words_of,
 };
 use qm_postings::{RowsError, SegmentReader, TermRow, TermRowRef};
 use qm_schema::{Field, QueryError, Schema};
@@ -29,7 +29,7 @@ pub fn play_stored(
     bench: &mut Bench,
     block: Block<'_>,
     report: &mut Report,
-) -> Result<(), Fault> {
+) -> Done {
     let mut maker = StoredMaker {
         schema: &bench.schema,
         block_len: read_number(word(block.words, 1))?,
@@ -58,16 +58,18 @@ fn empty_columns(alloc: Global, count: u32) -> Result<Vec<Vec<u8>>, AllocError> 
 
 impl<'s> StoredMaker<'s> {
     // A column of length ids: `FIELD NUMBERS`, or `more` for one that no field has.
-    fn set_column(&mut self, alloc: Global, spelled: &str) -> Result<(), Fault> {
+    fn set_column(&mut self, alloc: Global, spelled: &str) -> Done {
         let (name, numbers) = cut(spelled);
         let mut ids = Vec::new(alloc);
         // the numbers before this one are there, as length ids
         for number in read_numbers(alloc, numbers)? {
-            ids.push(u8::try_from(number).map_err(|_| Fault::NotUnderstood)?)?;
+            let Ok(id) = u8::try_from(number) else {
+                return Err(Fault::NotUnderstood);
+            };
+            ids.push(id)?;
         }
         if name == "more" {
-            self.lengths.push(ids)?;
-            return Ok(());
+            return Ok(self.lengths.push(ids)?);
         }
         let field = read_field(self.schema, name)?;
         match self.lengths.get_mut(field.field_id() as usize) {
@@ -78,7 +80,7 @@ impl<'s> StoredMaker<'s> {
     }
 
     // A row: `FIELD W DOCUMENTS FREQUENCIES POSITIONS`, of each none where `-` stands.
-    fn add_row(&mut self, alloc: Global, spelled: &str) -> Result<(), Fault> {
+    fn add_row(&mut self, alloc: Global, spelled: &str) -> Done {
         let words = words_of(alloc, spelled)?;
         let field = read_field(self.schema, word(&words, 0))?;
         self.rows.push(TermRow {
@@ -91,7 +93,7 @@ impl<'s> StoredMaker<'s> {
     }
 
     // Makes a segment of copies of the rows.
-    fn make(&mut self, alloc: Global, memory: Memory, text: &mut String) -> Result<(), Fault> {
+    fn make(&mut self, alloc: Global, memory: Memory, text: &mut Listing) -> Done {
         let mut rows = Vec::new(alloc);
         // the rows before this one are copied
         for row in &self.rows {
@@ -114,13 +116,7 @@ impl<'s> StoredMaker<'s> {
 }
 
 impl<'s> Asker for StoredMaker<'s> {
-    fn ask(
-        &mut self,
-        alloc: Global,
-        call: &str,
-        memory: Memory,
-        text: &mut String,
-    ) -> Result<(), Fault> {
+    fn ask(&mut self, alloc: Global, call: &str, memory: Memory, text: &mut Listing) -> Done {
         let (name, rest) = cut(call);
         match name {
             "column" => self.set_column(alloc, rest),
@@ -168,15 +164,15 @@ fn copy_columns(alloc: Global, columns: &[Vec<u8>]) -> Result<Vec<Vec<u8>>, Allo
 // Writes whether rows made a segment, and gives that.
 fn tell(
     made: Result<SegmentReader, RowsError>,
-    text: &mut String,
+    text: &mut Listing,
 ) -> Result<Option<SegmentReader>, Fault> {
     match made {
         Ok(segment) => {
-            text.push_str("made")?;
+            text.word("made");
             Ok(Some(segment))
         }
         Err(RowsError::NotRows) => {
-            text.push_str("not rows")?;
+            text.word("not rows");
             Ok(None)
         }
         Err(RowsError::Memory) => Err(Fault::Refused(QueryError::Memory)),
@@ -189,8 +185,8 @@ pub fn ask_rows(
     bench: &mut Bench,
     words: &[&str],
     memory: Memory,
-    text: &mut String,
-) -> Result<(), Fault> {
+    text: &mut Listing,
+) -> Done {
     match word(words, 0) {
         "rows" => write_rows(alloc, &bench.segment, memory, text),
         "columns" => {
@@ -198,53 +194,35 @@ pub fn ask_rows(
             write_column(alloc, &bench.segment, field, memory, text)
         }
         "shape" => write_shape(alloc, &bench.segment, memory, text),
-        "pieces" => Ok(write!(text, "{}", pieces(alloc, &bench.segment, memory)?)?),
+        "pieces" => Ok(write!(text, "{}", pieces(alloc, &bench.segment, memory)?)),
         "built" => make_built(alloc, bench, memory, text),
-        "copies" => Ok(write!(text, "{}", copies(alloc, &bench.segment, memory)?.len())?),
+        "copies" => Ok(write!(text, "{}", copies(alloc, &bench.segment, memory)?.len())),
         _ => make_again(alloc, bench, memory, text),
     }
 }
 
 // All rows: the field's number, the term's bytes, the documents, the frequencies and the positions of each.
-fn write_rows(
-    alloc: Global,
-    segment: &SegmentReader,
-    memory: Memory,
-    text: &mut String,
-) -> Result<(), Fault> {
+fn write_rows(alloc: Global, segment: &SegmentReader, memory: Memory, text: &mut Listing) -> Done {
     // the rows at the places before this one are written
     for place in 0..segment.row_count() {
         memory.begin(alloc);
         let row = segment.row(place);
         end_refusals(alloc);
-        write_space(text)?;
+        text.space();
         write_row(alloc, row, text)?;
     }
     Ok(())
 }
 
-fn write_row(alloc: Global, row: TermRowRef<'_>, text: &mut String) -> Result<(), Fault> {
-    write!(text, "{}:", row.term().field().field_id())?;
-    write_bytes(row.term().serialized_value_bytes(), text)?;
-    text.push(':')?;
-    write_joined(row.documents(), text)?;
-    text.push(':')?;
-    write_joined(row.copy(alloc)?.frequencies.as_slice(), text)?;
-    text.push(':')?;
-    Ok(write_joined(row.positions(), text)?)
-}
-
-fn write_joined(numbers: &[u32], text: &mut String) -> Result<(), AllocError> {
-    let mut is_first = true;
-    // the numbers before this one are written, with `,` between two
-    for number in numbers {
-        if !is_first {
-            text.push(',')?;
-        }
-        write!(text, "{number}")?;
-        is_first = false;
-    }
-    Ok(())
+fn write_row(alloc: Global, row: TermRowRef<'_>, text: &mut Listing) -> Done {
+    write!(text, "{}:", row.term().field().field_id());
+    write_bytes(row.term().serialized_value_bytes(), text);
+    text.word(":");
+    write_joined(row.documents(), text);
+    text.word(":");
+    write_joined(row.copy(alloc)?.frequencies.as_slice(), text);
+    text.word(":");
+    Ok(write_joined(row.positions(), text))
 }
 
 // The length ids of a field.
@@ -253,30 +231,24 @@ fn write_column(
     segment: &SegmentReader,
     field: Field,
     memory: Memory,
-    text: &mut String,
-) -> Result<(), Fault> {
+    text: &mut Listing,
+) -> Done {
     memory.begin(alloc);
     let ids = segment.length_ids(field);
     end_refusals(alloc);
     // the length ids before this one are written
     for id in ids {
-        write_space(text)?;
-        write!(text, "{id}")?;
+        text.add(id);
     }
     Ok(())
 }
 
 // The length of a block, and how many fields there are.
-fn write_shape(
-    alloc: Global,
-    segment: &SegmentReader,
-    memory: Memory,
-    text: &mut String,
-) -> Result<(), Fault> {
+fn write_shape(alloc: Global, segment: &SegmentReader, memory: Memory, text: &mut Listing) -> Done {
     memory.begin(alloc);
     let (block_len, fields) = (segment.block_len(), segment.schema().field_count());
     end_refusals(alloc);
-    Ok(write!(text, "{block_len} {fields}")?)
+    Ok(write!(text, "{block_len} {fields}"))
 }
 
 // Copies of all rows. Where requests for memory are refused, they are those of these copies.
@@ -302,12 +274,7 @@ fn push_copies(
 }
 
 // The segment made anew of copies of its rows and columns: it stands for the given one from then on.
-fn make_again(
-    alloc: Global,
-    bench: &mut Bench,
-    memory: Memory,
-    text: &mut String,
-) -> Result<(), Fault> {
+fn make_again(alloc: Global, bench: &mut Bench, memory: Memory, text: &mut Listing) -> Done {
     let rows = copies(alloc, &bench.segment, Memory::Ample)?;
     let lengths = all_columns(alloc, &bench.segment)?;
     memory.begin(alloc);
@@ -324,12 +291,7 @@ fn make_again(
 }
 
 // The same, of rows that are put together posting by posting.
-fn make_built(
-    alloc: Global,
-    bench: &mut Bench,
-    memory: Memory,
-    text: &mut String,
-) -> Result<(), Fault> {
+fn make_built(alloc: Global, bench: &mut Bench, memory: Memory, text: &mut Listing) -> Done {
     let lengths = all_columns(alloc, &bench.segment)?;
     memory.begin(alloc);
     let made = built_again(alloc, &bench.segment, lengths);
@@ -342,8 +304,8 @@ fn set_made(
     alloc: Global,
     bench: &mut Bench,
     made: Result<SegmentReader, RowsError>,
-    text: &mut String,
-) -> Result<(), Fault> {
+    text: &mut Listing,
+) -> Done {
     if let Some(segment) = tell(made, text)? {
         bench.alive = alive_of(alloc, &segment)?;
         bench.segment = segment;

@@ -1,11 +1,11 @@
 //! Rows on terms, prefixes and addresses.
 
 use crate::spelled::{cut, read_bytes, read_number, read_text, write_bytes};
-use cases::{Asker, Fault, Memory, end_refusals, word, words_of};
+use cases::{Asker, Done, Fault, Listing, Memory, end_refusals, word, words_of};
 use qm_phrase::prefix_end;
 use qm_postings::DocAddress;
 use qm_schema::{Field, Term};
-use std::alloc::{AllocError, Global};
+use std::alloc::Global;
 use std::cmp::Ordering;
 
 /// The term that the words `FIELD WORD` spell, a field by its number. Some requests for memory are refused
@@ -26,20 +26,14 @@ pub struct TermRows<'t> {
 }
 
 impl<'t> Asker for TermRows<'t> {
-    fn ask(
-        &mut self,
-        alloc: Global,
-        call: &str,
-        memory: Memory,
-        text: &mut String,
-    ) -> Result<(), Fault> {
+    fn ask(&mut self, alloc: Global, call: &str, memory: Memory, text: &mut Listing) -> Done {
         let (name, rest) = cut(call);
         match name {
-            "field" => write!(text, "{}", self.term.field().field_id())?,
-            "bytes" => write_bytes(self.term.serialized_value_bytes(), text)?,
+            "field" => write!(text, "{}", self.term.field().field_id()),
+            "bytes" => write_bytes(self.term.serialized_value_bytes(), text),
             "cmp" => {
                 let other = make_term(alloc, &words_of(alloc, rest)?, Memory::Ample)?;
-                write_order(self.term, &other, text)?;
+                write_order(self.term, &other, text);
             }
             "clone" => write_copy(alloc, self.term, memory, text)?,
             _ => return Err(Fault::NotUnderstood),
@@ -49,13 +43,12 @@ impl<'t> Asker for TermRows<'t> {
 }
 
 // Writes how a term compares, and where its calls do not agree.
-fn write_order(term: &Term, other: &Term, text: &mut String) -> Result<(), AllocError> {
+fn write_order(term: &Term, other: &Term, text: &mut Listing) {
     let order = term.cmp(other);
-    text.push_str(order_name(order))?;
+    text.word(order_name(order));
     if term.partial_cmp(other) != Some(order) || (term == other) != (order == Ordering::Equal) {
-        text.push_str(" by one call alone")?;
+        text.word(" by one call alone");
     }
-    Ok(())
 }
 
 fn order_name(order: Ordering) -> &'static str {
@@ -67,13 +60,13 @@ fn order_name(order: Ordering) -> &'static str {
 }
 
 // Writes the field and the bytes of a copy.
-fn write_copy(alloc: Global, term: &Term, memory: Memory, text: &mut String) -> Result<(), Fault> {
+fn write_copy(alloc: Global, term: &Term, memory: Memory, text: &mut Listing) -> Done {
     memory.begin(alloc);
     let copy = term.clone(alloc);
     end_refusals(alloc);
     let copy = copy?;
-    write!(text, "{} ", copy.field().field_id())?;
-    Ok(write_bytes(copy.serialized_value_bytes(), text)?)
+    write!(text, "{} ", copy.field().field_id());
+    Ok(write_bytes(copy.serialized_value_bytes(), text))
 }
 
 /// Rows on the address of a document.
@@ -89,20 +82,14 @@ pub fn read_address(words: &[&str]) -> Result<DocAddress, Fault> {
 }
 
 impl Asker for AddressRows {
-    fn ask(
-        &mut self,
-        alloc: Global,
-        call: &str,
-        _memory: Memory,
-        text: &mut String,
-    ) -> Result<(), Fault> {
+    fn ask(&mut self, alloc: Global, call: &str, _memory: Memory, text: &mut Listing) -> Done {
         let (name, rest) = cut(call);
         match name {
-            "segment_ord" => write!(text, "{}", self.address.segment_ord)?,
-            "doc_id" => write!(text, "{}", self.address.doc_id)?,
+            "segment_ord" => write!(text, "{}", self.address.segment_ord),
+            "doc_id" => write!(text, "{}", self.address.doc_id),
             "cmp" => {
                 let other = read_address(&words_of(alloc, rest)?)?;
-                text.push_str(order_name(self.address.cmp(&other)))?;
+                text.word(order_name(self.address.cmp(&other)));
             }
             _ => return Err(Fault::NotUnderstood),
         }
@@ -115,13 +102,7 @@ impl Asker for AddressRows {
 pub struct PrefixEndRows;
 
 impl Asker for PrefixEndRows {
-    fn ask(
-        &mut self,
-        alloc: Global,
-        call: &str,
-        memory: Memory,
-        text: &mut String,
-    ) -> Result<(), Fault> {
+    fn ask(&mut self, alloc: Global, call: &str, memory: Memory, text: &mut Listing) -> Done {
         let Some(prefix) = call.strip_prefix("of ") else {
             return Err(Fault::NotUnderstood);
         };
@@ -130,8 +111,8 @@ impl Asker for PrefixEndRows {
         let end = prefix_end(alloc, &prefix);
         end_refusals(alloc);
         match end? {
-            Some(end) => Ok(write_bytes(&end, text)?),
-            None => Ok(text.push_str("none")?),
+            Some(end) => Ok(write_bytes(&end, text)),
+            None => Ok(text.word("none")),
         }
     }
 }

@@ -12,7 +12,7 @@ use crate::offered::ask_postings;
 use crate::own_postings::OwnPostings;
 use crate::segment_rows::{postings_of, reading_name};
 use crate::spelled::{read_field, read_number, read_numbers, read_option, read_term};
-use cases::{Block, Fault, Memory, Report, behind, end_refusals, word};
+use cases::{Block, Done, Fault, Listing, Memory, Report, behind, word};
 use qm_docset::{BitSet, BitSetDocSet, DocSet, TERMINATED};
 use qm_phrase::{BitSetPostingUnion, PostingsWithOffset, SimpleUnion};
 use qm_postings::{Postings, SegmentPostings, TermDocuments};
@@ -20,12 +20,7 @@ use std::alloc::Global;
 
 /// Plays a block of postings: `postings FIELD WORD OPTION`, `shifted FIELD WORD OPTION OFFSET`, `holders FIELD WORD`,
 /// `own MEMBER`, `union MEMBER ..` or `bitsetunion MAX DOCUMENTS MEMBER ..`.
-pub fn play_postings(
-    alloc: Global,
-    bench: &Bench,
-    block: Block<'_>,
-    report: &mut Report,
-) -> Result<(), Fault> {
+pub fn play_postings(alloc: Global, bench: &Bench, block: Block<'_>, report: &mut Report) -> Done {
     match word(block.words, 0) {
         "postings" | "shifted" => play_of_segment(alloc, bench, block, report),
         "holders" => play_holders(alloc, bench, block, report),
@@ -38,19 +33,12 @@ pub fn play_postings(
     }
 }
 
-fn play_of_segment(
-    alloc: Global,
-    bench: &Bench,
-    block: Block<'_>,
-    report: &mut Report,
-) -> Result<(), Fault> {
+fn play_of_segment(alloc: Global, bench: &Bench, block: Block<'_>, report: &mut Report) -> Done {
     let field = read_field(&bench.schema, word(block.words, 1))?;
     let term = read_term(alloc, field, word(block.words, 2))?;
     let option = read_option(word(block.words, 3))?;
     block.memory.begin(alloc);
-    let found = postings_of(&bench.segment, &term, option);
-    end_refusals(alloc);
-    let Some(postings) = found else {
+    let Some(postings) = postings_of(&bench.segment, &term, option) else {
         return Err(Fault::NotAllowed);
     };
     if word(block.words, 0) == "postings" {
@@ -61,48 +49,29 @@ fn play_of_segment(
     play_owned(alloc, &bench.alive, shifted, block.rows, report)
 }
 
-fn play_holders(
-    alloc: Global,
-    bench: &Bench,
-    block: Block<'_>,
-    report: &mut Report,
-) -> Result<(), Fault> {
+fn play_holders(alloc: Global, bench: &Bench, block: Block<'_>, report: &mut Report) -> Done {
     let field = read_field(&bench.schema, word(block.words, 1))?;
     let term = read_term(alloc, field, word(block.words, 2))?;
     block.memory.begin(alloc);
-    let found = bench.segment.inverted_index(field).read_documents(&term);
-    end_refusals(alloc);
-    match found {
+    match bench.segment.inverted_index(field).read_documents(&term) {
         Some(documents) => play_owned(alloc, &bench.alive, documents, block.rows, report),
         None => Err(Fault::NotAllowed),
     }
 }
 
-fn play_union(
-    alloc: Global,
-    bench: &Bench,
-    block: Block<'_>,
-    report: &mut Report,
-) -> Result<(), Fault> {
+fn play_union(alloc: Global, bench: &Bench, block: Block<'_>, report: &mut Report) -> Done {
     let members = read_members(alloc, behind(block.words, 1))?;
     block.memory.begin(alloc);
     let union = SimpleUnion::build(members);
-    end_refusals(alloc);
     play_owned(alloc, &bench.alive, union, block.rows, report)
 }
 
-fn play_bitset_union(
-    alloc: Global,
-    bench: &Bench,
-    block: Block<'_>,
-    report: &mut Report,
-) -> Result<(), Fault> {
+fn play_bitset_union(alloc: Global, bench: &Bench, block: Block<'_>, report: &mut Report) -> Done {
     let max_value = read_number(word(block.words, 1))?;
     let set = read_set(alloc, max_value, word(block.words, 2))?;
     let members = read_members(alloc, behind(block.words, 3))?;
     block.memory.begin(alloc);
     let union = BitSetPostingUnion::build(members, set);
-    end_refusals(alloc);
     play_owned(alloc, &bench.alive, union, block.rows, report)
 }
 
@@ -126,15 +95,9 @@ fn read_set(alloc: Global, max_value: u32, spelled: &str) -> Result<BitSetDocSet
 }
 
 impl<'a> Played for SegmentPostings<'a> {
-    fn ask(
-        &mut self,
-        alloc: Global,
-        call: &str,
-        memory: Memory,
-        text: &mut String,
-    ) -> Result<(), Fault> {
+    fn ask(&mut self, alloc: Global, call: &str, memory: Memory, text: &mut Listing) -> Done {
         if call == "reading" {
-            return Ok(text.push_str(reading_name(self.freq_reading_option()))?);
+            return Ok(text.word(reading_name(self.freq_reading_option())));
         }
         match ask_blocks(alloc, self, call, memory, text) {
             Some(answer) => answer,
@@ -144,50 +107,26 @@ impl<'a> Played for SegmentPostings<'a> {
 }
 
 impl Played for OwnPostings {
-    fn ask(
-        &mut self,
-        alloc: Global,
-        call: &str,
-        memory: Memory,
-        text: &mut String,
-    ) -> Result<(), Fault> {
+    fn ask(&mut self, alloc: Global, call: &str, memory: Memory, text: &mut Listing) -> Done {
         ask_postings(alloc, self, call, memory, text)
     }
 }
 
 impl<D: Postings> Played for SimpleUnion<D> {
-    fn ask(
-        &mut self,
-        alloc: Global,
-        call: &str,
-        memory: Memory,
-        text: &mut String,
-    ) -> Result<(), Fault> {
+    fn ask(&mut self, alloc: Global, call: &str, memory: Memory, text: &mut Listing) -> Done {
         ask_postings(alloc, self, call, memory, text)
     }
 }
 
 impl<D: Postings> Played for BitSetPostingUnion<D> {
-    fn ask(
-        &mut self,
-        alloc: Global,
-        call: &str,
-        memory: Memory,
-        text: &mut String,
-    ) -> Result<(), Fault> {
+    fn ask(&mut self, alloc: Global, call: &str, memory: Memory, text: &mut Listing) -> Done {
         ask_postings(alloc, self, call, memory, text)
     }
 }
 
 /// The documents of a term have no call besides those of every cursor.
 impl<'a> Played for TermDocuments<'a> {
-    fn ask(
-        &mut self,
-        _alloc: Global,
-        _call: &str,
-        _memory: Memory,
-        _text: &mut String,
-    ) -> Result<(), Fault> {
+    fn ask(&mut self, _alloc: Global, _call: &str, _memory: Memory, _text: &mut Listing) -> Done {
         Err(Fault::NotUnderstood)
     }
 }
@@ -195,13 +134,7 @@ impl<'a> Played for TermDocuments<'a> {
 /// Postings with an offset have no call besides those of every cursor but `positions`, which rows `shifted` of
 /// a segment make.
 impl<P: Postings> Played for PostingsWithOffset<P> {
-    fn ask(
-        &mut self,
-        _alloc: Global,
-        _call: &str,
-        _memory: Memory,
-        _text: &mut String,
-    ) -> Result<(), Fault> {
+    fn ask(&mut self, _alloc: Global, _call: &str, _memory: Memory, _text: &mut Listing) -> Done {
         Err(Fault::NotUnderstood)
     }
 }

@@ -2,7 +2,7 @@
 
 use crate::explained::write_explanation;
 use crate::spelled::read_norms;
-use cases::{Asker, Fault, Memory, end_refusals, number, score, word, words_of};
+use cases::{Asker, Done, Fault, Listing, Memory, end_refusals, number, score, word, words_of};
 use qm_term::{Bm25Weight, Norms};
 use std::alloc::Global;
 
@@ -26,11 +26,10 @@ pub fn make_weight(alloc: Global, words: &[&str], memory: Memory) -> Result<Bm25
 
 // The length id and the frequency that stand behind the first word.
 fn read_pair(words: &[&str]) -> Result<(u8, u32), Fault> {
-    let id = word(words, 1)
-        .parse::<u8>()
-        .map_err(|_| Fault::NotUnderstood)?;
-    let frequency = number(words, 2).ok_or(Fault::NotUnderstood)?;
-    Ok((id, frequency))
+    match (word(words, 1).parse(), number(words, 2)) {
+        (Ok(id), Some(frequency)) => Ok((id, frequency)),
+        _ => Err(Fault::NotUnderstood),
+    }
 }
 
 impl<N: Norms> WeightRows<N> {
@@ -50,29 +49,17 @@ impl<N: Norms> WeightRows<N> {
         Ok(boosted?)
     }
 
-    fn explain(
-        &self,
-        alloc: Global,
-        words: &[&str],
-        memory: Memory,
-        text: &mut String,
-    ) -> Result<(), Fault> {
+    fn explain(&self, alloc: Global, words: &[&str], memory: Memory, text: &mut Listing) -> Done {
         let (id, frequency) = read_pair(words)?;
         memory.begin(alloc);
         let explanation = self.weight.explain(alloc, id, frequency);
         end_refusals(alloc);
-        Ok(write_explanation(&explanation?, text)?)
+        Ok(write_explanation(&explanation?, text))
     }
 }
 
 impl<N: Norms> Asker for WeightRows<N> {
-    fn ask(
-        &mut self,
-        alloc: Global,
-        call: &str,
-        memory: Memory,
-        text: &mut String,
-    ) -> Result<(), Fault> {
+    fn ask(&mut self, alloc: Global, call: &str, memory: Memory, text: &mut Listing) -> Done {
         let words = words_of(alloc, call)?;
         match word(&words, 0) {
             "score" => {
@@ -80,18 +67,18 @@ impl<N: Norms> Asker for WeightRows<N> {
                 memory.begin(alloc);
                 let score = self.weight.score(id, frequency);
                 end_refusals(alloc);
-                Ok(write!(text, "{score}")?)
+                Ok(write!(text, "{score}"))
             }
             "max_score" => {
                 memory.begin(alloc);
                 let most = self.weight.max_score();
                 end_refusals(alloc);
-                Ok(write!(text, "{most}")?)
+                Ok(write!(text, "{most}"))
             }
-            "boost" => Ok(write!(text, "{}", self.weight.boost())?),
+            "boost" => Ok(write!(text, "{}", self.weight.boost())),
             "boosted" => {
                 let boosted = self.boosted(alloc, &words, memory)?;
-                Ok(write!(text, "{}", boosted.max_score())?)
+                Ok(write!(text, "{}", boosted.max_score()))
             }
             "boost_by" => {
                 self.weight = self.boosted(alloc, &words, memory)?;
