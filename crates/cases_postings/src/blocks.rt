@@ -15,7 +15,7 @@ use qm_term::{Norms, TermScorer, WandCount, block_wand_single_scorer};
 use std::alloc::Global;
 
 /// How many bytes of what the calls of a run say have room before it.
-pub const ROOM: usize = 65536;
+pub const ROOM: usize = 1 << 20;
 
 /// The target of `seek_block T`.
 pub fn target_of(target: &str) -> Result<DocId, Fault>
