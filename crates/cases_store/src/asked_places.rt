@@ -4,9 +4,9 @@ use crate::asked_segment::write_error;
 use crate::changed_bytes::changed;
 use crate::heard_pieces::{Heard, HeardPieces};
 use crate::written_file::file_of;
-use cases::{Fault, Memory, behind, end_refusals, number, word};
+use cases::{Done, Fault, Listing, Memory, behind, end_refusals, number, word};
 use qm_store::{DocumentPlace, Pieces, StoreError, StoredPlaces};
-use std::alloc::{AllocError, Global};
+use std::alloc::Global;
 
 /// With what a file of places is opened, and which requests for memory are refused in the call that is made.
 #[derive(Clone, Copy)]
@@ -26,8 +26,8 @@ pub fn ask_places(
     bytes: &[u8],
     call: PlacesCall,
     words: &[&str],
-    text: &mut String,
-) -> Result<(), Fault> {
+    text: &mut Listing,
+) -> Done {
     let (bytes, count) = changed(alloc, bytes, words)?;
     let words = behind(words, count);
     match word(words, 0) {
@@ -46,7 +46,7 @@ pub fn ask_places(
             let heard = Heard::new(0);
             ask_heard(alloc, &bytes, &heard, call, behind(words, 1), text)?;
             let (calls, read) = (heard.calls.get(), heard.bytes.get());
-            Ok(write!(text, " calls {calls} bytes {read}")?)
+            Ok(write!(text, " calls {calls} bytes {read}"))
         }
         _ => ask_source(alloc, bytes, call, words, text),
     }
@@ -58,8 +58,8 @@ fn ask_heard(
     heard: &Heard,
     call: PlacesCall,
     words: &[&str],
-    text: &mut String,
-) -> Result<(), Fault> {
+    text: &mut Listing,
+) -> Done {
     ask_source(alloc, HeardPieces { bytes, heard }, call, words, text)
 }
 
@@ -69,15 +69,15 @@ fn ask_source<P: Pieces + Drop>(
     source: P,
     call: PlacesCall,
     words: &[&str],
-    text: &mut String,
-) -> Result<(), Fault> {
+    text: &mut Listing,
+) -> Done {
     match word(words, 0) {
         "open" => {
             call.memory.begin(alloc);
             let opened = StoredPlaces::open(alloc, source, call.key, call.max_doc);
             end_refusals(alloc);
             match opened {
-                Ok(places) => Ok(write!(text, "{} documents", places.max_doc())?),
+                Ok(places) => Ok(write!(text, "{} documents", places.max_doc())),
                 Err(error) => write_error(error, text),
             }
         }
@@ -99,8 +99,8 @@ fn ask_place<P: Pieces + Drop>(
     places: &StoredPlaces<P>,
     doc: u32,
     memory: Memory,
-    text: &mut String,
-) -> Result<(), Fault> {
+    text: &mut Listing,
+) -> Done {
     if doc >= places.max_doc() {
         return Err(Fault::NotAllowed);
     }
@@ -108,12 +108,12 @@ fn ask_place<P: Pieces + Drop>(
     let found: Result<DocumentPlace, StoreError> = places.place(alloc, doc);
     end_refusals(alloc);
     match found {
-        Ok(place) => Ok(write_place(&place, text)?),
+        Ok(place) => Ok(write_place(&place, text)),
         Err(error) => write_error(error, text),
     }
 }
 
-fn write_place(place: &DocumentPlace, text: &mut String) -> Result<(), AllocError> {
-    write!(text, "{} {}", place.file, place.line)?;
-    write!(text, " {} {}", place.first_byte, place.byte_count)
+fn write_place(place: &DocumentPlace, text: &mut Listing) {
+    write!(text, "{} {}", place.file, place.line);
+    write!(text, " {} {}", place.first_byte, place.byte_count);
 }

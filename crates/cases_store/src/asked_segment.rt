@@ -2,7 +2,7 @@
 
 use crate::asked_wanted::{ask_wanted, ask_whole, read_wanted};
 use crate::spelled::{read_text, write_row};
-use cases::{Fault, Memory, behind, end_refusals, number, word};
+use cases::{Done, Fault, Listing, Memory, behind, end_refusals, number, word};
 use qm_schema::{Field, QueryError, Schema, Term};
 use qm_store::{Pieces, StoreError, StoredSegment};
 use std::alloc::Global;
@@ -23,8 +23,8 @@ pub fn ask<P: Pieces + Drop>(
     source: P,
     call: &Call<'_>,
     words: &[&str],
-    text: &mut String,
-) -> Result<(), Fault> {
+    text: &mut Listing,
+) -> Done {
     match word(words, 0) {
         "open" => ask_open(alloc, source, call, text),
         "row" => {
@@ -53,13 +53,13 @@ fn ask_open<P: Pieces + Drop>(
     alloc: Global,
     source: P,
     call: &Call<'_>,
-    text: &mut String,
-) -> Result<(), Fault> {
+    text: &mut Listing,
+) -> Done {
     call.memory.begin(alloc);
     let opened = StoredSegment::open(alloc, source, call.schema, call.key);
     end_refusals(alloc);
     match opened {
-        Ok(segment) => Ok(write!(text, "{} documents", segment.max_doc())?),
+        Ok(segment) => Ok(write!(text, "{} documents", segment.max_doc())),
         Err(error) => write_error(error, text),
     }
 }
@@ -91,20 +91,20 @@ pub fn ask_row<P: Pieces + Drop>(
     segment: &StoredSegment<P>,
     asked: &Asked,
     memory: Memory,
-    text: &mut String,
-) -> Result<(), Fault> {
+    text: &mut Listing,
+) -> Done {
     memory.begin(alloc);
     let found = segment.row(alloc, &asked.term, asked.with_positions);
     end_refusals(alloc);
     match found {
-        Ok(Some(row)) => write_row(&row, text),
-        Ok(None) => Ok(text.push_str("none")?),
+        Ok(Some(row)) => Ok(write_row(&row, text)),
+        Ok(None) => Ok(text.word("none")),
         Err(error) => write_error(error, text),
     }
 }
 
 /// Writes why a stored segment can't be read or written.
-pub fn write_error(error: StoreError, text: &mut String) -> Result<(), Fault> {
+pub fn write_error(error: StoreError, text: &mut Listing) -> Done {
     let spelled = match error {
         StoreError::Memory => return Err(Fault::Refused(QueryError::Memory)),
         StoreError::Failed => "failed",
@@ -112,5 +112,5 @@ pub fn write_error(error: StoreError, text: &mut String) -> Result<(), Fault> {
         StoreError::OtherVersion => "another version",
         StoreError::Damaged => "damaged",
     };
-    Ok(text.push_str(spelled)?)
+    Ok(text.word(spelled))
 }

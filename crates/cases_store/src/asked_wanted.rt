@@ -3,7 +3,7 @@
 use crate::asked_segment::{Call, write_error};
 use crate::merged::write_rows;
 use crate::spelled::read_text;
-use cases::{Asker, Fault, Memory, behind, end_refusals, word, words_of, write_space};
+use cases::{Asker, Done, Fault, Listing, Memory, behind, end_refusals, word, words_of};
 use qm_postings::SegmentReader;
 use qm_schema::{Field, Schema, Term};
 use qm_store::{Pieces, StoreError, StoredSegment, Wanted, wanted_of};
@@ -41,8 +41,8 @@ pub fn ask_wanted<P: Pieces + Drop>(
     call: &Call<'_>,
     terms: Vec<Term>,
     beginnings: Vec<Term>,
-    text: &mut String,
-) -> Result<(), Fault> {
+    text: &mut Listing,
+) -> Done {
     call.memory.begin(alloc);
     let made = segment_of(alloc, segment, call.schema, terms, beginnings);
     end_refusals(alloc);
@@ -65,22 +65,18 @@ pub fn ask_whole<P: Pieces + Drop>(
     alloc: Global,
     segment: &StoredSegment<P>,
     call: &Call<'_>,
-    text: &mut String,
-) -> Result<(), Fault> {
+    text: &mut Listing,
+) -> Done {
     call.memory.begin(alloc);
     let made = segment.whole(alloc, call.schema);
     end_refusals(alloc);
     write_made(alloc, made, text)
 }
 
-fn write_made(
-    alloc: Global,
-    made: Result<SegmentReader, StoreError>,
-    text: &mut String,
-) -> Result<(), Fault> {
+fn write_made(alloc: Global, made: Result<SegmentReader, StoreError>, text: &mut Listing) -> Done {
     match made {
         Ok(made) => {
-            write!(text, "{}", made.max_doc())?;
+            write!(text, "{}", made.max_doc());
             write_rows(alloc, &made, text)
         }
         Err(error) => write_error(error, text),
@@ -92,13 +88,7 @@ fn write_made(
 pub struct WantedLists;
 
 impl Asker for WantedLists {
-    fn ask(
-        &mut self,
-        alloc: Global,
-        call: &str,
-        memory: Memory,
-        text: &mut String,
-    ) -> Result<(), Fault> {
+    fn ask(&mut self, alloc: Global, call: &str, memory: Memory, text: &mut Listing) -> Done {
         let words = words_of(alloc, call)?;
         if word(&words, 0) != "list" {
             return Err(Fault::NotUnderstood);
@@ -108,28 +98,23 @@ impl Asker for WantedLists {
         let made = wanted_of(alloc, terms, beginnings);
         end_refusals(alloc);
         match made {
-            Ok(wanted) => write_list(&wanted, text),
+            Ok(wanted) => Ok(write_list(&wanted, text)),
             Err(error) => write_error(error, text),
         }
     }
 }
 
-fn write_list(wanted: &[Wanted], text: &mut String) -> Result<(), Fault> {
+fn write_list(wanted: &[Wanted], text: &mut Listing) {
     if wanted.is_empty() {
-        return Ok(text.push('-')?);
+        text.word("-");
     }
     // the terms and the beginnings before this one are written
     for one in wanted {
-        write_space(text)?;
-        write!(text, "{}", one.term.field().field_id())?;
-        text.push(':')?;
-        // the bytes of the term before this one are written
-        for byte in one.term.serialized_value_bytes() {
-            text.push(char::from(*byte))?;
-        }
+        text.add(one.term.field().field_id());
+        text.word(":");
+        text.bytes(one.term.serialized_value_bytes());
         if one.is_beginning {
-            text.push('*')?;
+            text.word("*");
         }
     }
-    Ok(())
 }

@@ -1,6 +1,6 @@
 //! Bytes of a case, as they are or changed.
 
-use cases::{Fault, number, word};
+use cases::{Done, Fault, number, word};
 use std::alloc::Global;
 
 /// Bytes with a bit turned, where the words begin with `turned PLACE BIT`, or the first of them, by `first COUNT`; else all
@@ -24,7 +24,7 @@ pub fn changed(alloc: Global, bytes: &[u8], words: &[&str]) -> Result<(Vec<u8>, 
 }
 
 // Turns a bit of a byte.
-fn turn(bytes: &mut [u8], place: Option<u32>, bit: Option<u32>) -> Result<(), Fault> {
+fn turn(bytes: &mut [u8], place: Option<u32>, bit: Option<u32>) -> Done {
     let (Some(place), Some(bit)) = (place, bit) else {
         return Err(Fault::NotUnderstood);
     };

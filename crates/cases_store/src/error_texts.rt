@@ -1,6 +1,6 @@
 //! What the reasons say why a stored segment can't be read or written.
 
-use cases::{Asker, Fault, Memory};
+use cases::{Asker, Done, Fault, Listing, Memory};
 use qm_store::StoreError;
 use std::alloc::Global;
 
@@ -9,13 +9,7 @@ use std::alloc::Global;
 pub struct ErrorTexts;
 
 impl Asker for ErrorTexts {
-    fn ask(
-        &mut self,
-        _alloc: Global,
-        call: &str,
-        _memory: Memory,
-        text: &mut String,
-    ) -> Result<(), Fault> {
+    fn ask(&mut self, _alloc: Global, call: &str, _memory: Memory, text: &mut Listing) -> Done {
         let error = match call {
             "Memory" => StoreError::Memory,
             "Failed" => StoreError::Failed,
@@ -24,6 +18,6 @@ impl Asker for ErrorTexts {
             "Damaged" => StoreError::Damaged,
             _ => return Err(Fault::NotUnderstood),
         };
-        Ok(write!(text, "{error}")?)
+        Ok(write!(text, "{error}"))
     }
 }

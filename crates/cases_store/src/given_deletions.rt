@@ -5,7 +5,7 @@ use crate::changed_bytes::changed;
 use crate::given_part::GivenPart;
 use crate::given_segment::read_key;
 use crate::spelled::{bytes_of, write_bytes, write_numbers};
-use cases::{Asker, Fault, Memory, behind, end_refusals, word, words_of};
+use cases::{Asker, Done, Fault, Listing, Memory, behind, end_refusals, word, words_of};
 use qm_postings::SegmentReader;
 use qm_schema::QueryError;
 use qm_store::{delete_stored, deletions_bytes};
@@ -45,13 +45,7 @@ impl GivenDeletions {
     }
 
     // Which documents are deleted after bytes were read, or why they can't be.
-    fn ask_read(
-        &self,
-        alloc: Global,
-        bytes: &[u8],
-        memory: Memory,
-        text: &mut String,
-    ) -> Result<(), Fault> {
+    fn ask_read(&self, alloc: Global, bytes: &[u8], memory: Memory, text: &mut Listing) -> Done {
         let mut segment = self.whole.segment(alloc)?;
         if segment.has_deletes() {
             return Err(Fault::NotAllowed);
@@ -67,7 +61,7 @@ impl GivenDeletions {
 }
 
 // Writes the numbers of the deleted documents.
-fn write_deleted(alloc: Global, segment: &SegmentReader, text: &mut String) -> Result<(), Fault> {
+fn write_deleted(alloc: Global, segment: &SegmentReader, text: &mut Listing) -> Done {
     let mut numbers = Vec::new(alloc);
     // of the documents before this one those that are deleted are there
     for doc in 0..segment.max_doc() {
@@ -79,24 +73,18 @@ fn write_deleted(alloc: Global, segment: &SegmentReader, text: &mut String) -> R
             numbers.push(doc)?;
         }
     }
-    Ok(write_numbers(&numbers, text)?)
+    Ok(write_numbers(&numbers, text))
 }
 
 impl Asker for GivenDeletions {
     // `deleted NUMBERS`, which documents are deleted from then on; `bytes`, those that tell so; `read BYTES`, which documents
     // are deleted after these were read in a segment of which none was; `again`, the same of its own bytes, which may be
     // changed.
-    fn ask(
-        &mut self,
-        alloc: Global,
-        call: &str,
-        memory: Memory,
-        text: &mut String,
-    ) -> Result<(), Fault> {
+    fn ask(&mut self, alloc: Global, call: &str, memory: Memory, text: &mut Listing) -> Done {
         let words = words_of(alloc, call)?;
         match word(&words, 0) {
             "deleted" => self.part.take(alloc, &words),
-            "bytes" => Ok(write_bytes(&self.bytes(alloc, memory)?, text)?),
+            "bytes" => Ok(write_bytes(&self.bytes(alloc, memory)?, text)),
             "read" => {
                 let bytes = bytes_of(alloc, behind(&words, 1))?;
                 self.ask_read(alloc, &bytes, memory, text)

@@ -6,7 +6,7 @@ use crate::given_segment::read_key;
 use crate::kept::read_named_schema;
 use crate::spelled::{bytes_of, read_text, write_bytes};
 use crate::told_manifest::write_manifest;
-use cases::{Asker, Fault, Memory, behind, end_refusals, number, word, words_of};
+use cases::{Asker, Done, Fault, Listing, Memory, behind, end_refusals, number, word, words_of};
 use qm_postings::Searcher;
 use qm_schema::{Field, QueryError, Term};
 use qm_store::{KeptSegment, manifest_bytes, read_manifest};
@@ -48,7 +48,7 @@ impl GivenManifest {
     }
 
     // `weight FIELD TEXT N`, what a term weighs from then on.
-    fn set_weight(&mut self, alloc: Global, words: &[&str]) -> Result<(), Fault> {
+    fn set_weight(&mut self, alloc: Global, words: &[&str]) -> Done {
         let (Some(field), Ok(weight)) = (number(words, 1), word(words, 3).parse::<i64>()) else {
             return Err(Fault::NotUnderstood);
         };
@@ -61,7 +61,7 @@ impl GivenManifest {
     }
 
     // `segment KEY DELETIONS DELETED`, one segment more.
-    fn add_segment(&mut self, words: &[&str]) -> Result<(), Fault> {
+    fn add_segment(&mut self, words: &[&str]) -> Done {
         let Some(deleted) = number(words, 3) else {
             return Err(Fault::NotUnderstood);
         };
@@ -103,12 +103,12 @@ fn norms_of(first: u32, step: u32) -> [u32; 256] {
 }
 
 // What bytes tell, or why they can't be read.
-fn ask_read(alloc: Global, bytes: &[u8], memory: Memory, text: &mut String) -> Result<(), Fault> {
+fn ask_read(alloc: Global, bytes: &[u8], memory: Memory, text: &mut Listing) -> Done {
     memory.begin(alloc);
     let read = read_manifest(alloc, bytes);
     end_refusals(alloc);
     match read {
-        Ok(manifest) => write_manifest(&manifest, text),
+        Ok(manifest) => Ok(write_manifest(&manifest, text)),
         Err(error) => write_error(error, text),
     }
 }
@@ -116,13 +116,7 @@ fn ask_read(alloc: Global, bytes: &[u8], memory: Memory, text: &mut String) -> R
 impl Asker for GivenManifest {
     // `weight FIELD TEXT N`, `segment KEY DELETIONS DELETED` and `note BYTES`, what is written from then on; `bytes`, those that tell
     // so; `read BYTES`, what these tell; `again`, the same of its own bytes, which may be changed.
-    fn ask(
-        &mut self,
-        alloc: Global,
-        call: &str,
-        memory: Memory,
-        text: &mut String,
-    ) -> Result<(), Fault> {
+    fn ask(&mut self, alloc: Global, call: &str, memory: Memory, text: &mut Listing) -> Done {
         let words = words_of(alloc, call)?;
         match word(&words, 0) {
             "weight" => self.set_weight(alloc, &words),
@@ -131,7 +125,7 @@ impl Asker for GivenManifest {
                 self.note = bytes_of(alloc, behind(&words, 1))?;
                 Ok(())
             }
-            "bytes" => Ok(write_bytes(&self.bytes(alloc, memory)?, text)?),
+            "bytes" => Ok(write_bytes(&self.bytes(alloc, memory)?, text)),
             "read" => {
                 let bytes = bytes_of(alloc, behind(&words, 1))?;
                 ask_read(alloc, &bytes, memory, text)

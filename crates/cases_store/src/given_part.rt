@@ -1,7 +1,7 @@
 //! A segment that is given by its rows.
 
 use crate::spelled::read_numbers;
-use cases::{Fault, word};
+use cases::{Done, Fault, word};
 use qm_postings::{SegmentReader, TermRow};
 use qm_schema::{Field, IndexRecordOption, Schema, Term};
 use std::alloc::{AllocError, Global};
@@ -41,7 +41,7 @@ impl GivenPart {
 
     /// Takes what words say: `field KEPT`, `field KEPT IDS`, `blocks N`, `documents N`, `row FIELD TEXT DOCUMENTS
     /// FREQUENCIES POSITIONS` and `deleted DOCUMENTS`.
-    pub fn take(&mut self, alloc: Global, words: &[&str]) -> Result<(), Fault> {
+    pub fn take(&mut self, alloc: Global, words: &[&str]) -> Done {
         match word(words, 0) {
             "field" => self.add_field(alloc, words),
             "blocks" => {
@@ -61,7 +61,7 @@ impl GivenPart {
         }
     }
 
-    fn add_field(&mut self, alloc: Global, words: &[&str]) -> Result<(), Fault> {
+    fn add_field(&mut self, alloc: Global, words: &[&str]) -> Done {
         let spelled = word(words, 2);
         let mut ids = Vec::new(alloc);
         // the length ids before this one are there
@@ -76,7 +76,7 @@ impl GivenPart {
         Ok(())
     }
 
-    fn add_row(&mut self, alloc: Global, words: &[&str]) -> Result<(), Fault> {
+    fn add_row(&mut self, alloc: Global, words: &[&str]) -> Done {
         let field = Field::from_field_id(read_number(word(words, 1))?);
         self.rows.push(TermRow {
             term: Term::from_field_text(alloc, field, word(words, 2))?,

@@ -5,7 +5,7 @@ use crate::asked_segment::write_error;
 use crate::given_segment::read_key;
 use crate::spelled::bytes_of;
 use crate::writes::{Writes, ask_written};
-use cases::{Asker, Fault, Memory, behind, number, word, words_of};
+use cases::{Asker, Done, Fault, Listing, Memory, behind, number, word, words_of};
 use qm_store::{DocumentPlace, StoreError, places_bytes, write_places};
 use std::alloc::Global;
 use std::io::Write;
@@ -40,13 +40,7 @@ impl<'r> PlacedBytes<'r> {
 
 impl<'r> Asker for PlacedBytes<'r> {
     // What is asked of a file of places, of these bytes.
-    fn ask(
-        &mut self,
-        alloc: Global,
-        call: &str,
-        memory: Memory,
-        text: &mut String,
-    ) -> Result<(), Fault> {
+    fn ask(&mut self, alloc: Global, call: &str, memory: Memory, text: &mut Listing) -> Done {
         let words = words_of(alloc, call)?;
         let call = PlacesCall {
             key: self.key,
@@ -80,7 +74,7 @@ impl<'r> GivenPlaces<'r> {
     }
 
     // One more, by the words `add FILE LINE FIRST_BYTE BYTE_COUNT`.
-    fn add(&mut self, words: &[&str]) -> Result<(), Fault> {
+    fn add(&mut self, words: &[&str]) -> Done {
         let (Some(file), Some(line), Some(first_byte), Some(byte_count)) = (
             number(words, 1),
             number(words, 2),
@@ -100,7 +94,7 @@ impl<'r> GivenPlaces<'r> {
     }
 
     // So many more, of which each tells what number it has, by the words `numbered COUNT`.
-    fn add_numbered(&mut self, words: &[&str]) -> Result<(), Fault> {
+    fn add_numbered(&mut self, words: &[&str]) -> Done {
         let Some(count) = number(words, 1) else {
             return Err(Fault::NotUnderstood);
         };
@@ -117,13 +111,7 @@ impl<'r> GivenPlaces<'r> {
     }
 
     // What is asked of a file of places, of the bytes of these.
-    fn ask_own(
-        &self,
-        alloc: Global,
-        words: &[&str],
-        memory: Memory,
-        text: &mut String,
-    ) -> Result<(), Fault> {
+    fn ask_own(&self, alloc: Global, words: &[&str], memory: Memory, text: &mut Listing) -> Done {
         let Ok(max_doc) = u32::try_from(self.places.len()) else {
             return Err(Fault::NotAllowed);
         };
@@ -158,13 +146,7 @@ impl<'a> Writes for WrittenPlaces<'a> {
 impl<'r> Asker for GivenPlaces<'r> {
     // `add FILE LINE FIRST_BYTE BYTE_COUNT`, one place more, and `numbered COUNT`, so many; what is asked of how they are
     // written, and of a file of places, of their bytes.
-    fn ask(
-        &mut self,
-        alloc: Global,
-        call: &str,
-        memory: Memory,
-        text: &mut String,
-    ) -> Result<(), Fault> {
+    fn ask(&mut self, alloc: Global, call: &str, memory: Memory, text: &mut Listing) -> Done {
         let words = words_of(alloc, call)?;
         match word(&words, 0) {
             "add" => self.add(&words),
@@ -173,10 +155,10 @@ impl<'r> Asker for GivenPlaces<'r> {
                 let written = WrittenPlaces {
                     places: &self.places,
                 };
-                if ask_written(alloc, &written, self.key, memory, &words, text)? {
-                    return Ok(());
+                match ask_written(alloc, &written, self.key, memory, &words, text) {
+                    Some(answer) => answer,
+                    None => self.ask_own(alloc, &words, memory, text),
                 }
-                self.ask_own(alloc, &words, memory, text)
             }
         }
     }

@@ -1,7 +1,7 @@
 //! A row that is given by hand.
 
 use crate::spelled::{keeps_positions, read_numbers, write_bytes, write_read};
-use cases::{Asker, Fault, Memory, end_refusals, word};
+use cases::{Asker, Done, Fault, Listing, Memory, end_refusals, word};
 use qm_postings::{SegmentReader, TermRow};
 use qm_schema::{Field, IndexRecordOption, QueryError, Schema, Term};
 use qm_store::{push_row, read_row};
@@ -79,16 +79,10 @@ fn schema_of(alloc: Global, has_positions: bool) -> Result<Schema, QueryError> {
 
 impl Asker for GivenRow {
     // `bytes`, those of the row behind one of 255, and `again`, the row that they are.
-    fn ask(
-        &mut self,
-        alloc: Global,
-        call: &str,
-        memory: Memory,
-        text: &mut String,
-    ) -> Result<(), Fault> {
+    fn ask(&mut self, alloc: Global, call: &str, memory: Memory, text: &mut Listing) -> Done {
         let bytes = self.bytes(alloc, memory)?;
         match call {
-            "bytes" => Ok(write_bytes(&bytes, text)?),
+            "bytes" => Ok(write_bytes(&bytes, text)),
             "again" => {
                 let term = Term::from_field_text(alloc, Field::from_field_id(0), "")?;
                 let read = read_row(

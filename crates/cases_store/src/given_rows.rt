@@ -5,7 +5,7 @@ use crate::given_segment::read_key;
 use crate::kept::read_schema;
 use crate::spelled::{read_numbers, read_text};
 use crate::written_segment::ask_segment;
-use cases::{Asker, Fault, Memory, number, word, words_of};
+use cases::{Asker, Done, Fault, Listing, Memory, number, word, words_of};
 use qm_postings::{RowsError, SegmentReader, TermRow};
 use qm_schema::{Field, Schema, Term};
 use std::alloc::Global;
@@ -46,11 +46,14 @@ impl GivenRows {
     }
 
     // The length ids of a field, by the words `column FIELD NUMBERS`.
-    fn set_column(&mut self, alloc: Global, words: &[&str]) -> Result<(), Fault> {
+    fn set_column(&mut self, alloc: Global, words: &[&str]) -> Done {
         let mut ids = Vec::new(alloc);
         // the length ids before this one are there
         for id in read_numbers(alloc, word(words, 2))? {
-            ids.push(u8::try_from(id).map_err(|_| Fault::NotUnderstood)?)?;
+            let Ok(id) = u8::try_from(id) else {
+                return Err(Fault::NotUnderstood);
+            };
+            ids.push(id)?;
         }
         let Some(field) = number(words, 1) else {
             return Err(Fault::NotUnderstood);
@@ -65,7 +68,7 @@ impl GivenRows {
     }
 
     // A row, by the words `add FIELD TEXT DOCUMENTS FREQUENCIES POSITIONS`.
-    fn add(&mut self, alloc: Global, words: &[&str]) -> Result<(), Fault> {
+    fn add(&mut self, alloc: Global, words: &[&str]) -> Done {
         let Some(field) = number(words, 1) else {
             return Err(Fault::NotUnderstood);
         };
@@ -80,7 +83,7 @@ impl GivenRows {
     }
 
     // Makes the segment of the rows and length ids, of which none are left.
-    fn make_segment(&mut self, alloc: Global, text: &mut String) -> Result<(), Fault> {
+    fn make_segment(&mut self, alloc: Global, text: &mut Listing) -> Done {
         let rows = std::mem::replace(&mut self.rows, Vec::new(alloc));
         let lengths = std::mem::replace(&mut self.lengths, Vec::new(alloc));
         let made = SegmentReader::from_rows(
@@ -94,9 +97,9 @@ impl GivenRows {
         match made {
             Ok(segment) => {
                 self.made = Some(segment);
-                Ok(text.push_str("made")?)
+                Ok(text.word("made"))
             }
-            Err(RowsError::NotRows) => Ok(text.push_str("not rows")?),
+            Err(RowsError::NotRows) => Ok(text.word("not rows")),
             Err(RowsError::Memory) => Err(Fault::Memory),
         }
     }
@@ -105,13 +108,7 @@ impl GivenRows {
 impl Asker for GivenRows {
     // `column` and `add`, which give the segment, `make`, `delete DOCUMENT`, and what is asked of the bytes that are
     // written.
-    fn ask(
-        &mut self,
-        alloc: Global,
-        call: &str,
-        memory: Memory,
-        text: &mut String,
-    ) -> Result<(), Fault> {
+    fn ask(&mut self, alloc: Global, call: &str, memory: Memory, text: &mut Listing) -> Done {
         let words = words_of(alloc, call)?;
         match word(&words, 0) {
             "column" => self.set_column(alloc, &words),
@@ -135,7 +132,7 @@ impl Asker for GivenRows {
     }
 }
 
-fn delete(alloc: Global, segment: &mut SegmentReader, words: &[&str]) -> Result<(), Fault> {
+fn delete(alloc: Global, segment: &mut SegmentReader, words: &[&str]) -> Done {
     let Some(document) = number(words, 1) else {
         return Err(Fault::NotUnderstood);
     };

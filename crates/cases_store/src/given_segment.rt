@@ -6,7 +6,7 @@ use crate::heard_pieces::{Heard, HeardPieces};
 use crate::kept::read_schema;
 use crate::spelled::bytes_of;
 use crate::written_file::file_of;
-use cases::{Asker, Fault, Memory, behind, number, word, words_of};
+use cases::{Asker, Done, Fault, Listing, Memory, behind, number, word, words_of};
 use qm_schema::Schema;
 use std::alloc::Global;
 
@@ -50,13 +50,7 @@ impl<'r> Asker for GivenSegment<'r> {
     // `open` and `row FIELD TEXT`, of the bytes as they are or changed; `failing N CALL`, the same where the N-th call of
     // what has the bytes is refused, and `counted CALL`, behind whose answer stands how many such calls there were, and
     // how many bytes they read; `shortened N CALL`, the same of a file of which the first N bytes are left once it is open.
-    fn ask(
-        &mut self,
-        alloc: Global,
-        call: &str,
-        memory: Memory,
-        text: &mut String,
-    ) -> Result<(), Fault> {
+    fn ask(&mut self, alloc: Global, call: &str, memory: Memory, text: &mut Listing) -> Done {
         let words = words_of(alloc, call)?;
         let (bytes, count) = changed(alloc, &self.bytes, &words)?;
         let words = behind(&words, count);
@@ -89,8 +83,8 @@ fn ask_failing(
     bytes: &[u8],
     call: &Call<'_>,
     words: &[&str],
-    text: &mut String,
-) -> Result<(), Fault> {
+    text: &mut Listing,
+) -> Done {
     let Some(refused) = number(words, 1) else {
         return Err(Fault::NotUnderstood);
     };
@@ -107,8 +101,8 @@ fn ask_counted(
     bytes: &[u8],
     call: &Call<'_>,
     words: &[&str],
-    text: &mut String,
-) -> Result<(), Fault> {
+    text: &mut Listing,
+) -> Done {
     let heard = Heard::new(0);
     let pieces = HeardPieces {
         bytes,
@@ -116,5 +110,5 @@ fn ask_counted(
     };
     ask(alloc, pieces, call, words, text)?;
     let (calls, read) = (heard.calls.get(), heard.bytes.get());
-    Ok(write!(text, " calls {calls} bytes {read}")?)
+    Ok(write!(text, " calls {calls} bytes {read}"))
 }

@@ -1,7 +1,7 @@
 //! A term that is given by hand, and terms that are read of bytes.
 
 use crate::spelled::{bytes_of, read_text, write_bytes};
-use cases::{Asker, Fault, Memory, behind, end_refusals, number, word};
+use cases::{Asker, Done, Fault, Listing, Memory, behind, end_refusals, number, word};
 use qm_schema::{Field, QueryError, Term};
 use qm_store::{push_term, read_term};
 use std::alloc::Global;
@@ -26,13 +26,7 @@ impl GivenTerm {
 
 impl Asker for GivenTerm {
     // `bytes`, those of the term behind one of 255.
-    fn ask(
-        &mut self,
-        alloc: Global,
-        call: &str,
-        memory: Memory,
-        text: &mut String,
-    ) -> Result<(), Fault> {
+    fn ask(&mut self, alloc: Global, call: &str, memory: Memory, text: &mut Listing) -> Done {
         if call != "bytes" {
             return Err(Fault::NotUnderstood);
         }
@@ -42,7 +36,7 @@ impl Asker for GivenTerm {
         let pushed = push_term(&mut bytes, &self.term);
         end_refusals(alloc);
         match pushed {
-            Ok(()) => Ok(write_bytes(&bytes, text)?),
+            Ok(()) => Ok(write_bytes(&bytes, text)),
             Err(_) => Err(Fault::Refused(QueryError::Memory)),
         }
     }
@@ -64,13 +58,7 @@ impl GivenBytes {
 
 impl Asker for GivenBytes {
     // `term`, the one that they begin with: its field, the bytes of its text, and those that are left.
-    fn ask(
-        &mut self,
-        alloc: Global,
-        call: &str,
-        memory: Memory,
-        text: &mut String,
-    ) -> Result<(), Fault> {
+    fn ask(&mut self, alloc: Global, call: &str, memory: Memory, text: &mut Listing) -> Done {
         if call != "term" {
             return Err(Fault::NotUnderstood);
         }
@@ -78,12 +66,11 @@ impl Asker for GivenBytes {
         let read = read_term(&self.bytes);
         end_refusals(alloc);
         let Some((field, spelled, rest)) = read else {
-            return Ok(text.push_str("none")?);
+            return Ok(text.word("none"));
         };
-        write!(text, "{}", field.field_id())?;
-        text.push_str(" text")?;
-        write_bytes(spelled, text)?;
-        text.push_str(" left")?;
-        Ok(write_bytes(rest, text)?)
+        write!(text, "{} text", field.field_id());
+        write_bytes(spelled, text);
+        text.word(" left");
+        Ok(write_bytes(rest, text))
     }
 }

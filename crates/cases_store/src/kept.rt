@@ -2,7 +2,7 @@
 
 ghost use Rattle.std.specs.Prelude.{◌≤◌, length};
 
-use cases::Fault;
+use cases::{Done, Fault};
 use qm_schema::{IndexRecordOption, Schema, SchemaBuilder};
 use std::alloc::Global;
 
@@ -52,13 +52,13 @@ impl SchemaMaker {
     }
 
     // Adds a field, which is named by its number.
-    fn add(&mut self, alloc: Global, spelled: &str) -> Result<(), Fault> {
+    fn add(&mut self, alloc: Global, spelled: &str) -> Done {
         let name = format!(in alloc; "{}", self.count)?;
         self.add_named(name.as_str(), spelled)
     }
 
     // Adds a field of a name.
-    fn add_named(&mut self, name: &str, spelled: &str) -> Result<(), Fault> {
+    fn add_named(&mut self, name: &str, spelled: &str) -> Done {
         let (kept, has_lengths) = match spelled.strip_suffix("+lengths") {
             Some(kept) => (kept, true),
             None => (spelled, false),

@@ -33,7 +33,7 @@ use std::process::ExitCode;
 
 fn main(rt: HostRuntime) -> io::Result<ExitCode> {
     let text = io::read_to_string(rt.alloc(), rt.reader())?;
-    let mut report = Report::new(rt.alloc())?;
+    let mut report = Report::new(rt.alloc());
     let status = match play_cases(
         rt.alloc(),
         &mut Store { rt: &rt },

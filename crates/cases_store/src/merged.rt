@@ -2,7 +2,7 @@
 
 use crate::given_part::GivenPart;
 use crate::spelled::write_numbers;
-use cases::{Asker, Fault, Memory, behind, end_refusals, number, word, words_of, write_space};
+use cases::{Asker, Done, Fault, Listing, Memory, behind, end_refusals, number, word, words_of};
 use qm_merge::{MergeError, leave_out_deleted, merge};
 use qm_postings::{SegmentReader, TermRowRef};
 use qm_schema::{Field, QueryError};
@@ -27,7 +27,7 @@ impl Merged {
     }
 
     // Merges both.
-    fn merge(&mut self, alloc: Global, memory: Memory, text: &mut String) -> Result<(), Fault> {
+    fn merge(&mut self, alloc: Global, memory: Memory, text: &mut Listing) -> Done {
         let first = self.first.segment(alloc)?;
         let second = self.second.segment(alloc)?;
         memory.begin(alloc);
@@ -38,7 +38,7 @@ impl Merged {
     }
 
     // Leaves out the deleted documents of what was made last, or of the first where nothing was.
-    fn leave_out(&mut self, alloc: Global, memory: Memory, text: &mut String) -> Result<(), Fault> {
+    fn leave_out(&mut self, alloc: Global, memory: Memory, text: &mut Listing) -> Done {
         let segment = match self.made.take() {
             Some(made) => made,
             None => self.first.segment(alloc)?,
@@ -49,7 +49,7 @@ impl Merged {
         match left {
             Ok(left) => {
                 self.made = Some(left);
-                Ok(text.push_str("made")?)
+                Ok(text.word("made"))
             }
             Err(error) => {
                 self.made = Some(segment);
@@ -60,13 +60,7 @@ impl Merged {
 }
 
 impl Asker for Merged {
-    fn ask(
-        &mut self,
-        alloc: Global,
-        call: &str,
-        memory: Memory,
-        text: &mut String,
-    ) -> Result<(), Fault> {
+    fn ask(&mut self, alloc: Global, call: &str, memory: Memory, text: &mut Listing) -> Done {
         let words = words_of(alloc, call)?;
         match word(&words, 0) {
             "first" => self.first.take(alloc, behind(&words, 1)),
@@ -88,19 +82,19 @@ impl Asker for Merged {
 // Writes what a merge answered, and gives the segment that it made.
 fn told(
     merged: Result<SegmentReader, MergeError>,
-    text: &mut String,
+    text: &mut Listing,
 ) -> Result<Option<SegmentReader>, Fault> {
     match merged {
         Ok(segment) => {
-            text.push_str("made")?;
+            text.word("made");
             Ok(Some(segment))
         }
         Err(MergeError::Unlike) => {
-            text.push_str("unlike")?;
+            text.word("unlike");
             Ok(None)
         }
         Err(MergeError::TooMany) => {
-            text.push_str("too many")?;
+            text.word("too many");
             Ok(None)
         }
         Err(MergeError::Memory) => Err(Fault::Refused(QueryError::Memory)),
@@ -108,67 +102,54 @@ fn told(
 }
 
 // `rows`, `columns FIELD`, `alive` and `shape` of a segment.
-fn ask_made(
-    alloc: Global,
-    made: &SegmentReader,
-    words: &[&str],
-    text: &mut String,
-) -> Result<(), Fault> {
+fn ask_made(alloc: Global, made: &SegmentReader, words: &[&str], text: &mut Listing) -> Done {
     match word(words, 0) {
         "rows" => write_rows(alloc, made, text),
         "columns" => match number(words, 1) {
-            Some(field) => write_column(made, Field::from_field_id(field), text),
+            Some(field) => Ok(write_column(made, Field::from_field_id(field), text)),
             None => Err(Fault::NotUnderstood),
         },
-        "alive" => write_alive(made, text),
+        "alive" => Ok(write_alive(made, text)),
         "shape" => {
-            write!(text, "{}", made.block_len())?;
-            write_space(text)?;
-            write!(text, "{}", made.schema().field_count())?;
-            write_space(text)?;
-            Ok(write!(text, "{}", made.max_doc())?)
+            text.add(made.block_len());
+            text.add(made.schema().field_count());
+            Ok(text.add(made.max_doc()))
         }
         _ => Err(Fault::NotUnderstood),
     }
 }
 
 /// Writes all rows: the field's number, the term's text, the documents, the frequencies and the positions of each.
-pub fn write_rows(alloc: Global, made: &SegmentReader, text: &mut String) -> Result<(), Fault> {
+pub fn write_rows(alloc: Global, made: &SegmentReader, text: &mut Listing) -> Done {
     // the rows at the places before this one are written
     for place in 0..made.row_count() {
-        write_space(text)?;
+        text.space();
         write_row(alloc, made.row(place), text)?;
     }
     Ok(())
 }
 
-fn write_row(alloc: Global, row: TermRowRef<'_>, text: &mut String) -> Result<(), Fault> {
-    write!(text, "{}", row.term().field().field_id())?;
-    text.push(':')?;
-    // the bytes of the term before this one are written
-    for byte in row.term().serialized_value_bytes() {
-        text.push(char::from(*byte))?;
-    }
-    text.push(':')?;
-    write_numbers(row.documents(), text)?;
-    text.push(':')?;
-    write_numbers(&row.copy(alloc)?.frequencies, text)?;
-    text.push(':')?;
-    Ok(write_numbers(row.positions(), text)?)
+fn write_row(alloc: Global, row: TermRowRef<'_>, text: &mut Listing) -> Done {
+    write!(text, "{}:", row.term().field().field_id());
+    text.bytes(row.term().serialized_value_bytes());
+    text.word(":");
+    write_numbers(row.documents(), text);
+    text.word(":");
+    write_numbers(&row.copy(alloc)?.frequencies, text);
+    text.word(":");
+    Ok(write_numbers(row.positions(), text))
 }
 
 // The length ids of a field.
-fn write_column(made: &SegmentReader, field: Field, text: &mut String) -> Result<(), Fault> {
+fn write_column(made: &SegmentReader, field: Field, text: &mut Listing) {
     // the length ids before this one are written
     for id in made.length_ids(field) {
-        write_space(text)?;
-        write!(text, "{id}")?;
+        text.add(id);
     }
-    Ok(())
 }
 
 // The documents that were not deleted.
-fn write_alive(made: &SegmentReader, text: &mut String) -> Result<(), Fault> {
+fn write_alive(made: &SegmentReader, text: &mut Listing) {
     // of the documents before this one those that were not deleted are written
     for doc in 0..made.max_doc() {
         let is_alive = match made.alive_bitset() {
@@ -176,9 +157,7 @@ fn write_alive(made: &SegmentReader, text: &mut String) -> Result<(), Fault> {
             None => true,
         };
         if is_alive {
-            write_space(text)?;
-            write!(text, "{doc}")?;
+            text.add(doc);
         }
     }
-    Ok(())
 }

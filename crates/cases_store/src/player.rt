@@ -11,7 +11,9 @@ use crate::given_segment::GivenSegment;
 use crate::given_term::{GivenBytes, GivenTerm};
 use crate::merged::Merged;
 use crate::spelled::{keeps_positions, read_bytes, write_read};
-use cases::{Asker, Block, Fault, Memory, Player, Report, end_refusals, play_asked, word};
+use cases::{
+    Asker, Block, Done, Fault, Listing, Memory, Player, Report, end_refusals, play_asked, word,
+};
 use qm_schema::{Field, Term};
 use qm_store::read_row;
 use std::alloc::Global;
@@ -24,7 +26,7 @@ pub struct Store<'r> {
 }
 
 impl<'r> Player for Store<'r> {
-    fn play(&mut self, alloc: Global, block: Block<'_>, report: &mut Report) -> Result<(), Fault> {
+    fn play(&mut self, alloc: Global, block: Block<'_>, report: &mut Report) -> Done {
         match word(block.words, 0) {
             "row" => {
                 let mut row = GivenRow::make(alloc, block.words)?;
@@ -81,13 +83,7 @@ struct ReadRows {
 }
 
 impl Asker for ReadRows {
-    fn ask(
-        &mut self,
-        alloc: Global,
-        call: &str,
-        memory: Memory,
-        text: &mut String,
-    ) -> Result<(), Fault> {
+    fn ask(&mut self, alloc: Global, call: &str, memory: Memory, text: &mut Listing) -> Done {
         let bytes = read_bytes(alloc, call)?;
         let term = Term::from_field_text(alloc, Field::from_field_id(0), "")?;
         memory.begin(alloc);

@@ -1,6 +1,6 @@
 //! What words of a case spell.
 
-use cases::{Fault, read_documents, write_space};
+use cases::{Done, Fault, Listing, read_documents};
 use qm_postings::TermRow;
 use qm_schema::QueryError;
 use std::alloc::{AllocError, Global};
@@ -49,56 +49,51 @@ pub fn bytes_of(alloc: Global, words: &[&str]) -> Result<Vec<u8>, Fault> {
     }
     // the bytes of the words before this one are there
     for digits in words {
-        let byte = u8::from_str_radix(digits, 16).map_err(|_| Fault::NotUnderstood)?;
+        let Ok(byte) = u8::from_str_radix(digits, 16) else {
+            return Err(Fault::NotUnderstood);
+        };
         bytes.push(byte)?;
     }
     Ok(bytes)
 }
 
 /// Writes bytes as they are read.
-pub fn write_bytes(bytes: &[u8], text: &mut String) -> Result<(), AllocError> {
+pub fn write_bytes(bytes: &[u8], text: &mut Listing) {
     // the bytes before this one are written, each as two digits
     for byte in bytes {
-        write_space(text)?;
-        write!(text, "{byte:02x}")?;
+        text.space();
+        write!(text, "{byte:02x}");
     }
-    Ok(())
 }
 
 /// Writes what was read: a row, or `none`.
-pub fn write_read(
-    read: Result<Option<TermRow>, AllocError>,
-    text: &mut String,
-) -> Result<(), Fault> {
+pub fn write_read(read: Result<Option<TermRow>, AllocError>, text: &mut Listing) -> Done {
     match read {
         Err(_) => Err(Fault::Refused(QueryError::Memory)),
-        Ok(None) => Ok(text.push_str("none")?),
-        Ok(Some(row)) => write_row(&row, text),
+        Ok(None) => Ok(text.word("none")),
+        Ok(Some(row)) => Ok(write_row(&row, text)),
     }
 }
 
 /// Writes the documents, the frequencies and the positions of a row.
-pub fn write_row(row: &TermRow, text: &mut String) -> Result<(), Fault> {
-    write_numbers(&row.documents, text)?;
-    text.push(' ')?;
-    write_numbers(&row.frequencies, text)?;
-    text.push(' ')?;
-    Ok(write_numbers(&row.positions, text)?)
+pub fn write_row(row: &TermRow, text: &mut Listing) {
+    write_numbers(&row.documents, text);
+    text.word(" ");
+    write_numbers(&row.frequencies, text);
+    text.word(" ");
+    write_numbers(&row.positions, text);
 }
 
 /// Writes numbers as they are read.
-pub fn write_numbers(numbers: &[u32], text: &mut String) -> Result<(), AllocError> {
+pub fn write_numbers(numbers: &[u32], text: &mut Listing) {
     if numbers.is_empty() {
-        return text.push('-');
+        text.word("-");
     }
-    let mut is_first = true;
     // the numbers before this one are written, with `,` between two
-    for number in numbers {
-        if !is_first {
-            text.push(',')?;
+    for (place, number) in numbers.iter().enumerate() {
+        if place > 0 {
+            text.word(",");
         }
-        write!(text, "{number}")?;
-        is_first = false;
+        write!(text, "{number}");
     }
-    Ok(())
 }

@@ -2,7 +2,7 @@
 
 use crate::asked_segment::{Call, ask, write_error};
 use crate::writes::{Writes, ask_written};
-use cases::Fault;
+use cases::{Done, Listing};
 use qm_postings::SegmentReader;
 use qm_store::{StoreError, segment_bytes, write_segment};
 use std::alloc::Global;
@@ -30,11 +30,11 @@ pub fn ask_segment(
     segment: &SegmentReader,
     call: &Call<'_>,
     words: &[&str],
-    text: &mut String,
-) -> Result<(), Fault> {
+    text: &mut Listing,
+) -> Done {
     let written = WrittenSegment { segment };
-    if ask_written(alloc, &written, call.key, call.memory, words, text)? {
-        return Ok(());
+    if let Some(answer) = ask_written(alloc, &written, call.key, call.memory, words, text) {
+        return answer;
     }
     match segment_bytes(alloc, segment, call.key) {
         Ok(bytes) => ask(alloc, bytes, call, words, text),
