@@ -6,7 +6,7 @@ use qm_docset::DocId;
 use std::alloc::Global;
 
 /// What a row asks of a weight.
-#[derive(Clone, Copy, Debug, PartialEq, Eq)]
+#[derive(Clone, Copy, PartialEq, Eq)]
 pub enum Asked {
     Each,
     /// the documents of `for_each` alone

@@ -5,7 +5,7 @@ ghost use Rattle.std.specs.Prelude.{◌<◌, IfOk, length};
 use crate::given::{first_word, row_of};
 use crate::terms::read_field;
 use crate::weight_calls::read_number;
-use cases::{Fault, Report, Row, behind, number, word, words_of};
+use cases::{Done, Fault, Listing, Report, Row, behind, number, word, words_of};
 use qm_docset::DocId;
 use qm_postings::{PlainDoc, SegmentBuilder, SegmentReader};
 use qm_schema::{Field, Schema};
@@ -58,7 +58,7 @@ fn fill_segment(
     schema: &Schema,
     segment: &mut SegmentBuilder,
     rows: &[Row<'_>],
-) -> Result<(), Fault> {
+) -> Done {
     // the segment has the documents of the rows before this one
     for row in rows {
         match first_word(row.call) {
@@ -77,19 +77,14 @@ fn add_row(
     segment: &mut SegmentBuilder,
     row: &Row<'_>,
     rows: &[Row<'_>],
-) -> Result<(), Fault> {
+) -> Done {
     let words = words_of(alloc, row.call)?;
     let document = read_document(alloc, schema, behind(&words, 1))?;
     add_document(alloc, segment, document, rows)
 }
 
 // Reports rows `delete N` of documents that there are not.
-fn check_deletions(
-    alloc: Global,
-    max_doc: DocId,
-    rows: &[Row<'_>],
-    report: &mut Report,
-) -> Result<(), Fault> {
+fn check_deletions(alloc: Global, max_doc: DocId, rows: &[Row<'_>], report: &mut Report) -> Done {
     // the rows before this one that delete a document that is not there are reported
     for row in rows {
         if first_word(row.call) == "delete" {
@@ -99,7 +94,7 @@ fn check_deletions(
                 None => false,
             };
             if !is_there {
-                report.wrong(row.line, "no such document")?;
+                report.wrong(row.line, "no such document");
             }
         }
     }
@@ -112,7 +107,7 @@ fn add_document(
     segment: &mut SegmentBuilder,
     document: PlainDoc,
     rows: &[Row<'_>],
-) -> Result<(), Fault> {
+) -> Done {
     let doc = put_document(segment, document)?;
     if is_deleted(alloc, doc, rows)? {
         segment.delete(doc)?;
@@ -155,12 +150,7 @@ fn read_text(alloc: Global, field: Field, words: &[&str]) -> Result<PlainDoc, Fa
 }
 
 // Adds the texts of `NAME: WORDS ; NAME: WORDS`.
-fn add_texts(
-    alloc: Global,
-    schema: &Schema,
-    document: &mut PlainDoc,
-    words: &[&str],
-) -> Result<(), Fault> {
+fn add_texts(alloc: Global, schema: &Schema, document: &mut PlainDoc, words: &[&str]) -> Done {
     // the document has the texts of the parts before this one
     for part in words.split(|word| *word == ";") {
         let Some(name) = word(part, 0).strip_suffix(':') else {
@@ -172,19 +162,13 @@ fn add_texts(
     Ok(())
 }
 
-fn add_text(
-    alloc: Global,
-    document: &mut PlainDoc,
-    field: Field,
-    words: &[&str],
-) -> Result<(), Fault> {
-    let mut text = String::new(alloc);
+fn add_text(alloc: Global, document: &mut PlainDoc, field: Field, words: &[&str]) -> Done {
+    let mut text = Listing::new(alloc);
     // the text has the words before this one, with a space behind each
     for word in words {
-        text.push_str(word)?;
-        text.push(' ')?;
+        write!(text, "{word} ");
     }
-    Ok(document.add_text(field, text.as_str())?)
+    Ok(document.add_text(field, text.into_string()?.as_str())?)
 }
 
 // Adds the documents of `docs N WORDS`, where a word `W/K` stands in those alone whose number is a
@@ -194,9 +178,11 @@ fn add_documents(
     segment: &mut SegmentBuilder,
     row: &Row<'_>,
     rows: &[Row<'_>],
-) -> Result<(), Fault> {
+) -> Done {
     let words = words_of(alloc, row.call)?;
-    let count = number(&words, 1).ok_or(Fault::NotUnderstood)?;
+    let Some(count) = number(&words, 1) else {
+        return Err(Fault::NotUnderstood);
+    };
     // the documents of the numbers before this one are in the segment
     for doc in 0..count {
         let document = document_at(alloc, behind(&words, 2), doc)?;

@@ -1,6 +1,6 @@
 //! Explanations, of which a row has the values.
 
-use cases::{Fault, Memory, end_refusals, write_space};
+use cases::{Done, Fault, Listing, Memory, end_refusals};
 use qm_docset::DocId;
 use qm_postings::SegmentReader;
 use qm_term::Explanation;
@@ -15,12 +15,12 @@ pub fn explain<W: Weight>(
     doc: DocId,
     are_details: bool,
     memory: Memory,
-    text: &mut String,
-) -> Result<(), Fault> {
+    text: &mut Listing,
+) -> Done {
     memory.begin(alloc);
     let explained = weight.explain(alloc, segment, doc);
     end_refusals(alloc);
-    write_values(&explained?, are_details, text)
+    Ok(write_values(&explained?, are_details, text))
 }
 
 /// Whether the text behind `prints DOC` stands in what is printed of a weight's explanation.
@@ -30,28 +30,26 @@ pub fn print<W: Weight>(
     weight: &W,
     doc: DocId,
     call: &str,
-    text: &mut String,
-) -> Result<(), Fault> {
-    let (_, words) = call.split_once(' ').ok_or(Fault::NotUnderstood)?;
-    let (_, wanted) = words.split_once(' ').ok_or(Fault::NotUnderstood)?;
+    text: &mut Listing,
+) -> Done {
+    let Some((_, wanted)) = call
+        .split_once(' ')
+        .and_then(|(_, rest)| rest.split_once(' '))
+    else {
+        return Err(Fault::NotUnderstood);
+    };
     let explanation = weight.explain(alloc, segment, doc)?;
     let printed = format!(in alloc; "{explanation:?}")?;
-    Ok(write!(text, "{}", printed.contains(wanted))?)
+    Ok(write!(text, "{}", printed.contains(wanted)))
 }
 
 /// Writes the value of an explanation, or those of its details.
-pub fn write_values(
-    explanation: &Explanation,
-    are_details: bool,
-    text: &mut String,
-) -> Result<(), Fault> {
+pub fn write_values(explanation: &Explanation, are_details: bool, text: &mut Listing) {
     if !are_details {
-        return Ok(write!(text, "{}", explanation.value())?);
+        return text.add(explanation.value());
     }
     // the values of the details before this one are written
     for detail in explanation.details() {
-        write_space(text)?;
-        write!(text, "{}", detail.value())?;
+        text.add(detail.value());
     }
-    Ok(())
 }

@@ -7,7 +7,7 @@ use crate::documents::read_segments;
 use crate::schema_rows::read_schema;
 use crate::terms::read_term;
 use crate::world::{Manner, World};
-use cases::{Fault, Report, Row, number, score, word, words_of};
+use cases::{Done, Fault, Report, Row, number, score, word, words_of};
 use qm_docset::Score;
 use qm_postings::Searcher;
 use qm_schema::{Schema, Term};
@@ -19,7 +19,7 @@ const WEIGHT: Score = 1000;
 
 /// What the rows of `given` make.
 pub fn read_world(alloc: Global, rows: &[Row<'_>], report: &mut Report) -> Result<World, Fault> {
-    check_names(rows, report)?;
+    check_names(rows, report);
     let manner = read_manner(alloc, rows)?;
     let searcher = read_searcher(alloc, rows, report)?;
     match read_alive(alloc, rows, searcher.segment_readers()) {
@@ -33,14 +33,13 @@ pub fn read_world(alloc: Global, rows: &[Row<'_>], report: &mut Report) -> Resul
 }
 
 // Reports rows that say nothing.
-fn check_names(rows: &[Row<'_>], report: &mut Report) -> Result<(), Fault> {
+fn check_names(rows: &[Row<'_>], report: &mut Report) {
     // the rows before this one that say nothing are reported
     for row in rows {
         if !is_name(first_word(row.call)) || !row.wanted.is_empty() {
-            report.wrong(row.line, "not understood")?;
+            report.wrong(row.line, "not understood");
         }
     }
-    Ok(())
 }
 
 fn is_name(word: &str) -> bool {
@@ -124,7 +123,7 @@ fn add_weight(
     schema: &Schema,
     row: &Row<'_>,
     weights: &mut Vec<(Term, Score)>,
-) -> Result<(), Fault>
+) -> Done
     requires { All (λ w. pos 0 ≤ℤ w.1) weights.old.items }
     ensures { All (λ w. pos 0 ≤ℤ w.1) weights.new.items }
 {

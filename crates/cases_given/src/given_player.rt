@@ -2,7 +2,7 @@
 
 use crate::given::read_world;
 use crate::world::World;
-use cases::{Block, Fault, Player, Report, word};
+use cases::{Block, Done, Fault, Player, Report, word};
 use std::alloc::Global;
 
 /// Blocks that stand on what is given.
@@ -14,7 +14,7 @@ pub trait GivenBlocks: Drop {
         world: &World,
         block: Block<'_>,
         report: &mut Report,
-    ) -> Result<(), Fault>;
+    ) -> Done;
 }
 
 /// Plays blocks `given`, each of which makes anew what the blocks behind it stand on, and these.
@@ -27,7 +27,7 @@ pub struct GivenPlayer<B: GivenBlocks> {
 impl<B: GivenBlocks> GivenPlayer<B> {
     /// Nothing is given yet: one field, and no segment.
     pub fn new(alloc: Global, blocks: B) -> Result<GivenPlayer<B>, Fault> {
-        let mut report = Report::new(alloc)?;
+        let mut report = Report::new(alloc);
         match read_world(alloc, &[], &mut report) {
             Ok(world) => Ok(GivenPlayer { blocks, world }),
             Err(fault) => Err(fault),
@@ -36,7 +36,7 @@ impl<B: GivenBlocks> GivenPlayer<B> {
 }
 
 impl<B: GivenBlocks> Player for GivenPlayer<B> {
-    fn play(&mut self, alloc: Global, block: Block<'_>, report: &mut Report) -> Result<(), Fault> {
+    fn play(&mut self, alloc: Global, block: Block<'_>, report: &mut Report) -> Done {
         if word(block.words, 0) == "given" {
             self.world = read_world(alloc, block.rows, report)?;
             return Ok(());

@@ -3,7 +3,7 @@
 ghost use Rattle.qm_docset.specs.Lists.{IsPlaced};
 
 use crate::kinds::kind_of_scorer;
-use cases::{Fault, Memory, end_refusals, write_score};
+use cases::{Done, Fault, Listing, Memory, end_refusals};
 use qm_combine::EmptyScorer;
 use qm_docset::{DocSet, TERMINATED};
 use qm_phrase::{PhrasePrefixScorer, PhraseScorer};
@@ -18,16 +18,15 @@ pub fn write_kind<W: Weight>(
     segment: &SegmentReader,
     weight: &W,
     memory: Memory,
-    text: &mut String,
-) -> Result<(), Fault> {
+    text: &mut Listing,
+) -> Done {
     memory.begin(alloc);
     let made = weight.scorer::<EmptyScorer>(alloc, segment, 1);
     end_refusals(alloc);
-    let kind = match made {
-        Ok(scorer) => Ok(kind_of_scorer(&scorer)),
+    match made {
+        Ok(scorer) => Ok(text.word(kind_of_scorer(&scorer))),
         Err(error) => Err(Fault::Refused(error)),
-    };
-    Ok(text.push_str(kind?)?)
+    }
 }
 
 /// The documents where a phrase stands, each with how often it does.
@@ -35,20 +34,17 @@ pub fn write_counts<W: Weight>(
     alloc: Global,
     segment: &SegmentReader,
     weight: &W,
-    text: &mut String,
-) -> Result<(), Fault> {
+    text: &mut Listing,
+) -> Done {
     match weight.scorer::<EmptyScorer>(alloc, segment, 1) {
-        Ok(AnyScorer::Phrase(mut phrase)) => count_phrase(&mut phrase, text),
-        Ok(AnyScorer::PhrasePrefix(mut phrase)) => count_prefix(&mut phrase, text),
+        Ok(AnyScorer::Phrase(mut phrase)) => Ok(count_phrase(&mut phrase, text)),
+        Ok(AnyScorer::PhrasePrefix(mut phrase)) => Ok(count_prefix(&mut phrase, text)),
         Ok(_) => Err(Fault::NotAllowed),
         Err(error) => Err(Fault::Refused(error)),
     }
 }
 
-fn count_phrase<'a>(
-    phrase: &mut PhraseScorer<'a, SegmentPostings<'a>>,
-    text: &mut String,
-) -> Result<(), Fault>
+fn count_phrase<'a>(phrase: &mut PhraseScorer<'a, SegmentPostings<'a>>, text: &mut Listing)
     requires { IsPlaced ⟦<PhraseScorer<'a, SegmentPostings<'a>> as DocSet>⟧ phrase.old }
 {
     // the phrase is placed, and lists fewer documents than these
@@ -57,16 +53,12 @@ fn count_phrase<'a>(
         if doc >= TERMINATED {
             break;
         }
-        write_score(text, doc, i64::from(phrase.phrase_count()))?;
+        text.score(doc, i64::from(phrase.phrase_count()));
         phrase.advance();
     }
-    Ok(())
 }
 
-fn count_prefix<'a>(
-    phrase: &mut PhrasePrefixScorer<'a, SegmentPostings<'a>>,
-    text: &mut String,
-) -> Result<(), Fault>
+fn count_prefix<'a>(phrase: &mut PhrasePrefixScorer<'a, SegmentPostings<'a>>, text: &mut Listing)
     requires { IsPlaced ⟦<PhrasePrefixScorer<'a, SegmentPostings<'a>> as DocSet>⟧ phrase.old }
 {
     // the phrase is placed, and lists fewer documents than these
@@ -75,8 +67,7 @@ fn count_prefix<'a>(
         if doc >= TERMINATED {
             break;
         }
-        write_score(text, doc, i64::from(phrase.phrase_count()))?;
+        text.score(doc, i64::from(phrase.phrase_count()));
         phrase.advance();
     }
-    Ok(())
 }

@@ -1,7 +1,6 @@
 //! The runs of a weight, with some requests for memory refused in the one call.
 
-use crate::listing::Listing;
-use cases::{Fault, Memory, Pruning, end_refusals};
+use cases::{Done, Fault, Listing, Memory, Pruning, end_refusals};
 use qm_docset::Score;
 use qm_postings::SegmentReader;
 use qm_weight::Weight;
@@ -13,16 +12,10 @@ pub fn run_each<W: Weight>(
     segment: &SegmentReader,
     weight: &W,
     memory: Memory,
-    text: &mut String,
-) -> Result<(), Fault> {
-    let mut listing = Listing { text };
+    text: &mut Listing,
+) -> Done {
     memory.begin(alloc);
-    let run = weight.for_each(
-        alloc,
-        segment,
-        &mut |doc, score| listing.add_score(doc, score),
-    );
-    end_refusals(alloc);
+    let run = weight.for_each(alloc, segment, &mut |doc, score| text.score(doc, score));
     Ok(run?)
 }
 
@@ -32,12 +25,10 @@ pub fn run_called<W: Weight>(
     segment: &SegmentReader,
     weight: &W,
     memory: Memory,
-    text: &mut String,
-) -> Result<(), Fault> {
-    let mut listing = Listing { text };
+    text: &mut Listing,
+) -> Done {
     memory.begin(alloc);
-    let run = weight.for_each(alloc, segment, &mut |doc, _score| listing.add_document(doc));
-    end_refusals(alloc);
+    let run = weight.for_each(alloc, segment, &mut |doc, _score| text.next(doc));
     Ok(run?)
 }
 
@@ -47,12 +38,10 @@ pub fn run_slices<W: Weight>(
     segment: &SegmentReader,
     weight: &W,
     memory: Memory,
-    text: &mut String,
-) -> Result<(), Fault> {
-    let mut listing = Listing { text };
+    text: &mut Listing,
+) -> Done {
     memory.begin(alloc);
-    let run = weight.for_each_no_score(alloc, segment, &mut |docs| listing.add_len(docs));
-    end_refusals(alloc);
+    let run = weight.for_each_no_score(alloc, segment, &mut |docs| text.add(docs.len()));
     Ok(run?)
 }
 
@@ -62,12 +51,10 @@ pub fn run_documents<W: Weight>(
     segment: &SegmentReader,
     weight: &W,
     memory: Memory,
-    text: &mut String,
-) -> Result<(), Fault> {
-    let mut listing = Listing { text };
+    text: &mut Listing,
+) -> Done {
     memory.begin(alloc);
-    let run = weight.for_each_no_score(alloc, segment, &mut |docs| listing.add_documents(docs));
-    end_refusals(alloc);
+    let run = weight.for_each_no_score(alloc, segment, &mut |docs| text.documents(docs));
     Ok(run?)
 }
 
@@ -79,7 +66,7 @@ pub fn run_pruning<W: Weight>(
     threshold: Score,
     memory: Memory,
     mut pruning: Pruning<'_>,
-) -> Result<(), Fault> {
+) -> Done {
     memory.begin(alloc);
     let run = weight.for_each_pruning(
         alloc,
@@ -87,7 +74,6 @@ pub fn run_pruning<W: Weight>(
         segment,
         &mut |doc, score| pruning.call(doc, score),
     );
-    end_refusals(alloc);
     Ok(run?)
 }
 

@@ -3,7 +3,7 @@
 ghost use Rattle.std.specs.Prelude.{◌≡◌, ◌<◌, ◌+◌, OnOk, length};
 
 use crate::given::first_word;
-use cases::{Fault, Row, word, words_of};
+use cases::{Done, Fault, Row, word, words_of};
 use qm_schema::{IndexRecordOption, Schema, SchemaBuilder};
 use std::alloc::Global;
 
@@ -32,7 +32,7 @@ pub fn read_schema(alloc: Global, rows: &[Row<'_>]) -> Result<Schema, Fault> {
     Ok(schema.build())
 }
 
-fn add_field(schema: &mut SchemaBuilder, words: &[&str]) -> Result<(), Fault>
+fn add_field(schema: &mut SchemaBuilder, words: &[&str]) -> Done
     requires room { length schema.old < u32.MAX }
     ensures added { OnOk result (length schema.new ≡ length schema.old + 1) }
 {

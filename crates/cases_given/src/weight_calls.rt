@@ -4,7 +4,7 @@ use crate::asked::{Asked, read_asked};
 use crate::explained::{explain, print};
 use crate::phrase_counts::{write_counts, write_kind};
 use crate::runs::{run_called, run_counted, run_documents, run_each, run_pruning, run_slices};
-use cases::{Fault, Memory, Pruning, Reply, end_refusals, replies_of, threshold_of};
+use cases::{Done, Fault, Listing, Memory, Pruning, Reply, end_refusals, replies_of, threshold_of};
 use qm_docset::Score;
 use qm_postings::SegmentReader;
 use qm_weight::Weight;
@@ -25,8 +25,8 @@ pub fn ask_weight<W: Weight>(
     weight: &W,
     call: &str,
     memory: Memory,
-    text: &mut String,
-) -> Result<(), Fault> {
+    text: &mut Listing,
+) -> Done {
     if let Some(boost) = call.strip_prefix("fits ") {
         return write_fits(weight, boost, text);
     }
@@ -48,14 +48,14 @@ pub fn ask_weight<W: Weight>(
 }
 
 // Whether a weight fits at the boost that a text spells.
-fn write_fits<W: Weight>(weight: &W, boost: &str, text: &mut String) -> Result<(), Fault> {
+fn write_fits<W: Weight>(weight: &W, boost: &str, text: &mut Listing) -> Done {
     let Ok(boost) = boost.parse::<Score>() else {
         return Err(Fault::NotUnderstood);
     };
     if boost < 0 {
         return Err(Fault::NotAllowed);
     }
-    Ok(write!(text, "{}", weight.fits(boost))?)
+    Ok(write!(text, "{}", weight.fits(boost)))
 }
 
 fn prune<W: Weight>(
@@ -65,8 +65,8 @@ fn prune<W: Weight>(
     call: &str,
     has_scores: bool,
     memory: Memory,
-    text: &mut String,
-) -> Result<(), Fault> {
+    text: &mut Listing,
+) -> Done {
     let threshold = threshold_of(alloc, call)?;
     let replies = replies_of(alloc, call)?;
     let pruning = Pruning {
@@ -86,11 +86,11 @@ fn write_scored<W: Weight>(
     weight: &W,
     call: &str,
     memory: Memory,
-    text: &mut String,
-) -> Result<(), Fault> {
+    text: &mut Listing,
+) -> Done {
     let scored = count_scored(alloc, segment, weight, call, memory, text)?;
     text.clear();
-    Ok(write!(text, "{scored}")?)
+    Ok(write!(text, "{scored}"))
 }
 
 fn count_scored<W: Weight>(
@@ -99,7 +99,7 @@ fn count_scored<W: Weight>(
     weight: &W,
     call: &str,
     memory: Memory,
-    text: &mut String,
+    text: &mut Listing,
 ) -> Result<u128, Fault> {
     let threshold = threshold_of(alloc, call)?;
     let replies = replies_of(alloc, call)?;
@@ -117,10 +117,10 @@ fn count<W: Weight>(
     segment: &SegmentReader,
     weight: &W,
     memory: Memory,
-    text: &mut String,
-) -> Result<(), Fault> {
+    text: &mut Listing,
+) -> Done {
     memory.begin(alloc);
     let counted = weight.count(alloc, segment);
     end_refusals(alloc);
-    Ok(write!(text, "{}", counted?)?)
+    Ok(write!(text, "{}", counted?))
 }

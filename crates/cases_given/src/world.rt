@@ -5,7 +5,7 @@ use qm_docset::AliveBitSet;
 use qm_postings::{Searcher, SegmentReader};
 
 /// Who says what terms weigh.
-#[derive(Clone, Copy, Debug)]
+#[derive(Clone, Copy)]
 pub enum Manner {
     /// The searcher itself.
     Searcher,
