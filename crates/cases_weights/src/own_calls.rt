@@ -1,6 +1,6 @@
 //! Calls of a kind of weights itself, and not of the type that is any of them.
 
-use cases::{Fault, Memory};
+use cases::{Done, Listing, Memory};
 use cases_given::ask_weight;
 use qm_postings::SegmentReader;
 use qm_weight::AnyWeight;
@@ -13,8 +13,8 @@ pub fn ask_kind_of_weight(
     weight: &AnyWeight,
     call: &str,
     memory: Memory,
-    text: &mut String,
-) -> Result<(), Fault> {
+    text: &mut Listing,
+) -> Done {
     match weight {
         AnyWeight::All(kind) => ask_weight(alloc, segment, kind, call, memory, text),
         AnyWeight::Empty(kind) => ask_weight(alloc, segment, kind, call, memory, text),

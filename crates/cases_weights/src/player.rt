@@ -5,7 +5,7 @@ use crate::tree::Source;
 use crate::tree_runs::RunAsker;
 use crate::weight::read_weight;
 use crate::weight_rows::WeightAsker;
-use cases::{Block, Fault, Memory, Moves, Report, behind, play_asked, score, word};
+use cases::{Block, Done, Fault, Memory, Moves, Report, behind, play_asked, score, word};
 use cases_given::{GivenBlocks, World};
 use std::alloc::Global;
 
@@ -20,7 +20,7 @@ impl GivenBlocks for WeightBlocks {
         world: &World,
         block: Block<'_>,
         report: &mut Report,
-    ) -> Result<(), Fault> {
+    ) -> Done {
         let words = behind(block.words, 1);
         match word(block.words, 0) {
             "tree" => play_tree(alloc, world, block, words, report),
@@ -40,7 +40,7 @@ fn play_runs(
     block: Block<'_>,
     words: &[&str],
     report: &mut Report,
-) -> Result<(), Fault> {
+) -> Done {
     let moves = Moves::new();
     let source = Source {
         world,
@@ -58,7 +58,7 @@ fn play_weight(
     block: Block<'_>,
     words: &[&str],
     report: &mut Report,
-) -> Result<(), Fault> {
+) -> Done {
     let weight = read_weight(alloc, &world.searcher, words)?;
     let mut asker = WeightAsker {
         world,
@@ -75,7 +75,7 @@ fn play_scorer(
     block: Block<'_>,
     words: &[&str],
     report: &mut Report,
-) -> Result<(), Fault> {
+) -> Done {
     let boost = score(words, 0).ok_or(Fault::NotUnderstood)?;
     if word(words, 1) != "weight" {
         return Err(Fault::NotUnderstood);

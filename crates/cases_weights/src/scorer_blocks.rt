@@ -6,9 +6,7 @@ ghost use Rattle.qm_weight.specs.TermScorers.{IsOfTerm};
 
 use crate::similarity::read_similarity;
 use crate::tree::{Source, Tree, read_tree};
-use cases::{
-    Block, Desk, Fault, Leaf, Moves, Report, Row, end_refusals, number, play_scores, word,
-};
+use cases::{Block, Desk, Done, Fault, Leaf, Moves, Report, Row, number, play_scores, word};
 use cases_given::{World, play_segment_scorer, read_term};
 use qm_combine::AllScorer;
 use qm_docset::{DocSet, Score, TERMINATED};
@@ -26,7 +24,7 @@ pub fn play_tree(
     block: Block<'_>,
     words: &[&str],
     report: &mut Report,
-) -> Result<(), Fault> {
+) -> Done {
     let moves = Moves::new();
     let source = Source {
         world,
@@ -46,14 +44,14 @@ fn play_made<'a>(
     mut tree: Tree<'a>,
     rows: &[Row<'_>],
     report: &mut Report,
-) -> Result<(), Fault>
+) -> Done
     requires { IsPlaced ⟦<AnyScorer<'a, Leaf<'a>> as DocSet>⟧ tree }
 {
     let desk = Desk {
         alive: &source.world.alive,
         moves: source.moves,
     };
-    Ok(play_scores(alloc, &desk, &mut tree, rows, report)?)
+    play_scores(alloc, &desk, &mut tree, rows, report)
 }
 
 /// Plays rows on the scorer of a weight.
@@ -64,14 +62,12 @@ pub fn play_weight_scorer(
     boost: Score,
     block: Block<'_>,
     report: &mut Report,
-) -> Result<(), Fault>
+) -> Done
     requires { pos 0 ≤ℤ boost }
 {
     let segment = world.segment(0)?;
     block.memory.begin(alloc);
-    let made = weight.scorer(alloc, segment, boost);
-    end_refusals(alloc);
-    match made {
+    match weight.scorer(alloc, segment, boost) {
         Ok(scorer) => play_segment_scorer(alloc, world, scorer, block.rows, report),
         Err(error) => Err(Fault::Refused(error)),
     }
@@ -84,7 +80,7 @@ pub fn play_found(
     block: Block<'_>,
     words: &[&str],
     report: &mut Report,
-) -> Result<(), Fault> {
+) -> Done {
     match word(words, 0) {
         "none" => play_term(
             alloc,
@@ -131,7 +127,7 @@ fn play_term(
     found: TermOrEmptyOrAllScorer<'_>,
     rows: &[Row<'_>],
     report: &mut Report,
-) -> Result<(), Fault>
+) -> Done
     requires { IsOfTerm found }
 {
     let scorer = found.into_boxed_scorer();

@@ -3,8 +3,11 @@
 ghost use Rattle.qm_docset.specs.Lists.{IsPlaced};
 
 use crate::tree::{Source, Tree, read_tree};
-use cases::{Asker, Fault, Leaf, Memory, Pruning, Reply, end_refusals, replies_of, threshold_of};
-use cases_given::{Asked, Listing, read_asked};
+use cases::{
+    Asker, Done, Fault, Leaf, Listing, Memory, Pruning, Reply, end_refusals, replies_of,
+    threshold_of,
+};
+use cases_given::{Asked, read_asked};
 use qm_docset::{COLLECT_BLOCK_BUFFER_LEN, DocId, DocSet, Score};
 use qm_scorer::AnyScorer;
 use qm_weight::{for_each_docset_buffered, for_each_pruning_scorer, for_each_scorer};
@@ -18,13 +21,7 @@ pub struct RunAsker<'a, 'b, 'c> {
 }
 
 impl<'a, 'b, 'c> Asker for RunAsker<'a, 'b, 'c> {
-    fn ask(
-        &mut self,
-        alloc: Global,
-        call: &str,
-        memory: Memory,
-        text: &mut String,
-    ) -> Result<(), Fault> {
+    fn ask(&mut self, alloc: Global, call: &str, memory: Memory, text: &mut Listing) -> Done {
         let asked = read_asked(alloc, call)?;
         if asked == Asked::Prune {
             let threshold = threshold_of(alloc, call)?;
@@ -37,28 +34,21 @@ impl<'a, 'b, 'c> Asker for RunAsker<'a, 'b, 'c> {
             };
             return prune(alloc, self.source, self.words, threshold, memory, pruning);
         }
-        let listing = Listing { text };
         match read_tree(alloc, self.source, self.words) {
-            Ok(tree) => run(alloc, tree, asked, memory, listing),
+            Ok(tree) => run(alloc, tree, asked, memory, text),
             Err(fault) => Err(fault),
         }
     }
 }
 
-fn run<'a>(
-    alloc: Global,
-    tree: Tree<'a>,
-    asked: Asked,
-    memory: Memory,
-    listing: Listing<'_>,
-) -> Result<(), Fault>
+fn run<'a>(alloc: Global, tree: Tree<'a>, asked: Asked, memory: Memory, text: &mut Listing) -> Done
     requires { IsPlaced ⟦<AnyScorer<'a, Leaf<'a>> as DocSet>⟧ tree }
 {
     memory.begin(alloc);
     let is_known = match asked {
-        Asked::Each => run_each(tree, listing),
-        Asked::Slices => run_slices(tree, listing),
-        Asked::Docs => run_documents(tree, listing),
+        Asked::Each => run_each(tree, text),
+        Asked::Slices => run_slices(tree, text),
+        Asked::Docs => run_documents(tree, text),
         _ => false,
     };
     end_refusals(alloc);
@@ -69,14 +59,14 @@ fn run<'a>(
     }
 }
 
-fn run_each<'a>(mut tree: Tree<'a>, mut listing: Listing<'_>) -> bool
+fn run_each<'a>(mut tree: Tree<'a>, text: &mut Listing) -> bool
     requires { IsPlaced ⟦<AnyScorer<'a, Leaf<'a>> as DocSet>⟧ tree }
 {
-    for_each_scorer(&mut tree, &mut |doc, score| listing.add_score(doc, score));
+    for_each_scorer(&mut tree, &mut |doc, score| text.score(doc, score));
     true
 }
 
-fn run_slices<'a>(mut tree: Tree<'a>, mut listing: Listing<'_>) -> bool
+fn run_slices<'a>(mut tree: Tree<'a>, text: &mut Listing) -> bool
     requires { IsPlaced ⟦<AnyScorer<'a, Leaf<'a>> as DocSet>⟧ tree }
 {
     // what stands in the buffer is of no consequence
@@ -84,12 +74,12 @@ fn run_slices<'a>(mut tree: Tree<'a>, mut listing: Listing<'_>) -> bool
     for_each_docset_buffered(
         &mut tree,
         &mut buffer,
-        &mut |docs: &[DocId]| listing.add_len(docs),
+        &mut |docs: &[DocId]| text.add(docs.len()),
     );
     true
 }
 
-fn run_documents<'a>(mut tree: Tree<'a>, mut listing: Listing<'_>) -> bool
+fn run_documents<'a>(mut tree: Tree<'a>, text: &mut Listing) -> bool
     requires { IsPlaced ⟦<AnyScorer<'a, Leaf<'a>> as DocSet>⟧ tree }
 {
     // what stands in the buffer is of no consequence
@@ -97,7 +87,7 @@ fn run_documents<'a>(mut tree: Tree<'a>, mut listing: Listing<'_>) -> bool
     for_each_docset_buffered(
         &mut tree,
         &mut buffer,
-        &mut |docs: &[DocId]| listing.add_documents(docs),
+        &mut |docs: &[DocId]| text.documents(docs),
     );
     true
 }
@@ -109,7 +99,7 @@ fn prune(
     threshold: Score,
     memory: Memory,
     pruning: Pruning<'_>,
-) -> Result<(), Fault> {
+) -> Done {
     match read_tree(alloc, source, words) {
         Ok(tree) => run_pruning(alloc, tree, threshold, memory, pruning),
         Err(fault) => Err(fault),
@@ -122,7 +112,7 @@ fn run_pruning<'a>(
     threshold: Score,
     memory: Memory,
     mut pruning: Pruning<'_>,
-) -> Result<(), Fault>
+) -> Done
     requires { IsPlaced ⟦<AnyScorer<'a, Leaf<'a>> as DocSet>⟧ tree }
 {
     memory.begin(alloc);

@@ -1,7 +1,7 @@
 //! Rows on a weight.
 
 use crate::own_calls::ask_kind_of_weight;
-use cases::{Asker, Fault, Memory};
+use cases::{Asker, Done, Listing, Memory};
 use cases_given::{World, ask_weight, read_number};
 use qm_weight::AnyWeight;
 use std::alloc::Global;
@@ -16,13 +16,7 @@ pub struct WeightAsker<'a> {
 }
 
 impl<'a> Asker for WeightAsker<'a> {
-    fn ask(
-        &mut self,
-        alloc: Global,
-        call: &str,
-        memory: Memory,
-        text: &mut String,
-    ) -> Result<(), Fault> {
+    fn ask(&mut self, alloc: Global, call: &str, memory: Memory, text: &mut Listing) -> Done {
         if let Some(number) = call.strip_prefix("segment ") {
             self.segment = read_number(number)?;
             return Ok(());
