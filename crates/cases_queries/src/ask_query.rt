@@ -6,7 +6,7 @@ use crate::kinds::kind_of_weight;
 use crate::own_calls::{Through, ask_kind_of_query, box_clone_of_kind, read_through};
 use crate::top::{write_top, write_top_scored};
 use crate::weigh::{Scales, specialize, weigh};
-use cases::{Asker, Fault, Memory, end_refusals, number, words_of};
+use cases::{Asker, Done, Fault, Listing, Memory, end_refusals, number, words_of};
 use cases_given::{World, ask_weight, first_word, read_number, run_each, write_values};
 use qm_postings::DocAddress;
 use qm_query::{AnyQuery, Query, QueryClone};
@@ -36,13 +36,7 @@ pub struct Question<'a> {
 }
 
 impl<'a> Asker for QueryAsker<'a> {
-    fn ask(
-        &mut self,
-        alloc: Global,
-        call: &str,
-        memory: Memory,
-        text: &mut String,
-    ) -> Result<(), Fault> {
+    fn ask(&mut self, alloc: Global, call: &str, memory: Memory, text: &mut Listing) -> Done {
         match first_word(call) {
             "own" | "boxed" => self.ask_of_type(alloc, call, memory, text),
             "segment" => {
@@ -56,7 +50,7 @@ impl<'a> Asker for QueryAsker<'a> {
             "minimum" | "signs" | "field" | "term" | "phrase_terms" => {
                 get(alloc, &self.query, call, memory, text)
             }
-            "asked" => Ok(write!(text, "{}", self.scales.asked.get())?),
+            "asked" => Ok(write!(text, "{}", self.scales.asked.get())),
             "specialized" => self.ask_specialized(alloc, memory, text),
             _ => self.ask_through(alloc, Through::Any, call, memory, text),
         }
@@ -70,8 +64,8 @@ impl<'a> QueryAsker<'a> {
         alloc: Global,
         call: &str,
         memory: Memory,
-        text: &mut String,
-    ) -> Result<(), Fault> {
+        text: &mut Listing,
+    ) -> Done {
         let (through, call) = read_through(call);
         match call {
             "clone" | "box_clone" => self.clone_query(alloc, through, call, memory),
@@ -86,8 +80,8 @@ impl<'a> QueryAsker<'a> {
         through: Through,
         call: &str,
         memory: Memory,
-        text: &mut String,
-    ) -> Result<(), Fault> {
+        text: &mut Listing,
+    ) -> Done {
         let asked = Question {
             scales: self.scales,
             segment: self.segment,
@@ -102,25 +96,14 @@ impl<'a> QueryAsker<'a> {
     }
 
     // Writes what the specialized weight of a term finds.
-    fn ask_specialized(
-        &self,
-        alloc: Global,
-        memory: Memory,
-        text: &mut String,
-    ) -> Result<(), Fault> {
+    fn ask_specialized(&self, alloc: Global, memory: Memory, text: &mut Listing) -> Done {
         let segment = self.scales.world.segment(self.segment)?;
         let weight = specialize(alloc, self.scales, &self.query, memory)?;
         run_each(alloc, segment, &*weight, Memory::Ample, text)
     }
 
     // From now on the rows are on a clone of the query.
-    fn clone_query(
-        &mut self,
-        alloc: Global,
-        through: Through,
-        call: &str,
-        memory: Memory,
-    ) -> Result<(), Fault> {
+    fn clone_query(&mut self, alloc: Global, through: Through, call: &str, memory: Memory) -> Done {
         let copy = match (call, through) {
             ("clone", Through::Any) => clone_of(alloc, &self.query, memory)?,
             ("box_clone", Through::Any) => box_clone_of(alloc, &*self.query, memory)?,
@@ -133,7 +116,7 @@ impl<'a> QueryAsker<'a> {
     }
 
     // From now on the rows are on what the query is a clone of, and the clone is kept.
-    fn swap_original(&mut self) -> Result<(), Fault> {
+    fn swap_original(&mut self) -> Done {
         match self.original.as_mut() {
             Some(original) => {
                 mem::swap(original, &mut self.query);
@@ -144,7 +127,7 @@ impl<'a> QueryAsker<'a> {
     }
 
     // Whether the query and its original are printed alike.
-    fn compare(&self, alloc: Global, text: &mut String) -> Result<(), Fault> {
+    fn compare(&self, alloc: Global, text: &mut Listing) -> Done {
         let Some(original) = &self.original else {
             return Err(Fault::NotAllowed);
         };
@@ -152,7 +135,7 @@ impl<'a> QueryAsker<'a> {
         let first = format!(in alloc; "{query:?}")?;
         let second = format!(in alloc; "{original:?}")?;
         let is_same = first.as_str() == second.as_str();
-        Ok(write!(text, "{is_same}")?)
+        Ok(write!(text, "{is_same}"))
     }
 }
 
@@ -171,9 +154,7 @@ pub fn box_clone_of<Q: QueryClone>(
     memory: Memory,
 ) -> Result<Box<AnyQuery>, Fault> {
     memory.begin(alloc);
-    let copy = query.box_clone(alloc);
-    end_refusals(alloc);
-    Ok(copy?)
+    Ok(query.box_clone(alloc)?)
 }
 
 /// Writes what a query answers to a call, by itself or by its weight.
@@ -181,8 +162,8 @@ pub fn ask_query<Q: Query>(
     alloc: Global,
     asked: Question<'_>,
     query: &Q,
-    text: &mut String,
-) -> Result<(), Fault> {
+    text: &mut Listing,
+) -> Done {
     let (scales, call, memory) = (asked.scales, asked.call, asked.memory);
     if call == "terms" {
         return Ok(write_named(alloc, query, memory, text));
@@ -211,10 +192,10 @@ fn ask_weighed(
     asked: Question<'_>,
     is_kind: bool,
     weight: &AnyWeight,
-    text: &mut String,
-) -> Result<(), Fault> {
+    text: &mut Listing,
+) -> Done {
     if is_kind {
-        return Ok(text.push_str(kind_of_weight(weight))?);
+        return Ok(text.word(kind_of_weight(weight)));
     }
     let segment = asked.scales.world.segment(asked.segment)?;
     ask_weight(alloc, segment, weight, asked.call, asked.memory, text)
@@ -234,12 +215,12 @@ fn count_all<Q: Query>(
     world: &World,
     query: &Q,
     memory: Memory,
-    text: &mut String,
-) -> Result<(), Fault> {
+    text: &mut Listing,
+) -> Done {
     memory.begin(alloc);
     let counted = query.count(alloc, &world.searcher);
     end_refusals(alloc);
-    Ok(write!(text, "{}", counted?)?)
+    Ok(write!(text, "{}", counted?))
 }
 
 // The value of a query's explanation.
@@ -249,10 +230,10 @@ fn explain_at<Q: Query>(
     query: &Q,
     address: DocAddress,
     memory: Memory,
-    text: &mut String,
-) -> Result<(), Fault> {
+    text: &mut Listing,
+) -> Done {
     memory.begin(alloc);
     let explained = query.explain(alloc, &world.searcher, address);
     end_refusals(alloc);
-    write_values(&explained?, false, text)
+    Ok(write_values(&explained?, false, text))
 }

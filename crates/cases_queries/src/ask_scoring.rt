@@ -1,6 +1,6 @@
 //! Rows on what queries are weighed under.
 
-use cases::{Asker, Fault, Memory, end_refusals};
+use cases::{Asker, Done, Fault, Listing, Memory, end_refusals};
 use qm_postings::Searcher;
 use qm_query::EnableScoring;
 use std::alloc::Global;
@@ -26,18 +26,12 @@ pub fn scoring_of<'a>(
 }
 
 impl<'a> Asker for ScoringAsker<'a> {
-    fn ask(
-        &mut self,
-        alloc: Global,
-        call: &str,
-        memory: Memory,
-        text: &mut String,
-    ) -> Result<(), Fault> {
+    fn ask(&mut self, alloc: Global, call: &str, memory: Memory, text: &mut Listing) -> Done {
         memory.begin(alloc);
         let answer = answer(self.scoring, call);
         end_refusals(alloc);
         match answer {
-            Some(answer) => Ok(write!(text, "{answer}")?),
+            Some(answer) => Ok(write!(text, "{answer}")),
             None => Err(Fault::NotUnderstood),
         }
     }

@@ -1,11 +1,11 @@
 //! Setters of queries.
 
-use cases::Fault;
+use cases::{Done, Fault};
 use cases_given::read_number;
 use qm_query::AnyQuery;
 
 /// Makes the change that a call names: `set_minimum N`, `set_slop N` or `set_max_expansions N`.
-pub fn change(query: &mut AnyQuery, call: &str) -> Result<(), Fault> {
+pub fn change(query: &mut AnyQuery, call: &str) -> Done {
     let Some((name, number)) = call.split_once(' ') else {
         return Err(Fault::NotUnderstood);
     };

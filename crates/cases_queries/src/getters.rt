@@ -1,7 +1,6 @@
 //! What queries say of themselves.
 
-use cases::{Fault, Memory, end_refusals, write_space};
-use cases_given::{Listing, write_term};
+use cases::{Done, Fault, Listing, Memory, end_refusals};
 use qm_query::{AnyQuery, BooleanQuery, Query};
 use qm_schema::{Occur, QueryError, Term};
 use std::alloc::Global;
@@ -12,64 +11,56 @@ pub fn get(
     query: &AnyQuery,
     call: &str,
     memory: Memory,
-    text: &mut String,
-) -> Result<(), Fault> {
+    text: &mut Listing,
+) -> Done {
     match (query, call) {
         (AnyQuery::Boolean(query), "minimum") => {
-            let minimum = query.get_minimum_number_should_match();
-            Ok(write!(text, "{minimum}")?)
+            Ok(text.add(query.get_minimum_number_should_match()))
         }
-        (AnyQuery::Boolean(query), "signs") => write_signs(query, text),
-        (AnyQuery::Term(query), "term") => Ok(write_term(text, query.term())?),
-        (AnyQuery::Phrase(query), "field") => {
-            let field = query.field().field_id();
-            Ok(write!(text, "{field}")?)
-        }
-        (AnyQuery::PhrasePrefix(query), "field") => {
-            let field = query.field().field_id();
-            Ok(write!(text, "{field}")?)
-        }
+        (AnyQuery::Boolean(query), "signs") => Ok(write_signs(query, text)),
+        (AnyQuery::Term(query), "term") => Ok(write_term(query.term(), text)),
+        (AnyQuery::Phrase(query), "field") => Ok(text.add(query.field().field_id())),
+        (AnyQuery::PhrasePrefix(query), "field") => Ok(text.add(query.field().field_id())),
         (_, "phrase_terms") => write_phrase_terms(alloc, query, memory, text),
         _ => Err(Fault::NotUnderstood),
     }
 }
 
 /// The terms that the query names, each with whether its positions are wanted.
-pub fn write_named<Q: Query>(alloc: Global, query: &Q, memory: Memory, text: &mut String) {
-    let mut listing = Listing { text };
+pub fn write_named<Q: Query>(alloc: Global, query: &Q, memory: Memory, text: &mut Listing) {
     memory.begin(alloc);
     query.query_terms(&mut |term: &Term, positions_wanted: bool| {
-        listing.add_term(term, positions_wanted)
+        write_term(term, text);
+        write!(text, ":{positions_wanted}")
     });
     end_refusals(alloc);
 }
 
-fn write_signs(query: &BooleanQuery, text: &mut String) -> Result<(), Fault> {
+fn write_signs(query: &BooleanQuery, text: &mut Listing) {
     // the signs of the clauses before this one are written
     for clause in query.clauses() {
-        write_space(text)?;
-        text.push(match clause.0 {
+        text.add(match clause.0 {
             Occur::Must => '+',
             Occur::Should => '?',
             Occur::MustNot => '-',
-        })?;
+        });
     }
-    Ok(())
 }
 
-fn write_phrase_terms(
-    alloc: Global,
-    query: &AnyQuery,
-    memory: Memory,
-    text: &mut String,
-) -> Result<(), Fault> {
+fn write_phrase_terms(alloc: Global, query: &AnyQuery, memory: Memory, text: &mut Listing) -> Done {
     memory.begin(alloc);
     let terms = phrase_terms(alloc, query);
     end_refusals(alloc);
     match terms {
         None => Err(Fault::NotUnderstood),
         Some(Err(error)) => Err(Fault::Refused(error)),
-        Some(Ok(terms)) => write_terms(terms.as_slice(), text),
+        Some(Ok(terms)) => {
+            // the terms before this one are written
+            for term in &terms {
+                write_term(term, text);
+            }
+            Ok(())
+        }
     }
 }
 
@@ -81,10 +72,8 @@ fn phrase_terms(alloc: Global, query: &AnyQuery) -> Option<Result<Vec<Term>, Que
     }
 }
 
-fn write_terms(terms: &[Term], text: &mut String) -> Result<(), Fault> {
-    // the terms before this one are written
-    for term in terms {
-        write_term(text, term)?;
-    }
-    Ok(())
+// Writes the text of a term behind what stands there.
+fn write_term(term: &Term, text: &mut Listing) {
+    text.space();
+    text.bytes(term.serialized_value_bytes());
 }

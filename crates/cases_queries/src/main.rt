@@ -24,7 +24,7 @@ use std::process::ExitCode;
 
 fn main(rt: HostRuntime) -> io::Result<ExitCode> {
     let text = io::read_to_string(rt.alloc(), rt.reader())?;
-    let mut report = Report::new(rt.alloc())?;
+    let mut report = Report::new(rt.alloc());
     let played = match GivenPlayer::new(rt.alloc(), QueryBlocks) {
         Ok(mut player) => play_cases(rt.alloc(), &mut player, text.as_str(), &mut report),
         Err(fault) => Err(fault),

@@ -1,7 +1,7 @@
 //! Calls of a kind of queries itself, and not of the type that is any of them.
 
 use crate::ask_query::{Question, ask_query, box_clone_of};
-use cases::{Fault, Memory};
+use cases::{Done, Fault, Listing, Memory};
 use qm_query::AnyQuery;
 use std::alloc::Global;
 
@@ -32,8 +32,8 @@ pub fn ask_kind_of_query(
     alloc: Global,
     asked: Question<'_>,
     query: &AnyQuery,
-    text: &mut String,
-) -> Result<(), Fault> {
+    text: &mut Listing,
+) -> Done {
     match query {
         AnyQuery::All(kind) => ask_query(alloc, asked, kind, text),
         AnyQuery::Empty(kind) => ask_query(alloc, asked, kind, text),

@@ -5,7 +5,7 @@ use crate::ask_scoring::{ScoringAsker, scoring_of};
 use crate::query::read_query;
 use crate::query_scorers::play_query_scorer;
 use crate::weigh::Scales;
-use cases::{Block, Fault, Memory, Report, behind, play_asked, score, word};
+use cases::{Block, Done, Fault, Memory, Report, behind, play_asked, score, word};
 use cases_given::{GivenBlocks, World};
 use std::alloc::Global;
 use std::cell::Cell;
@@ -21,7 +21,7 @@ impl GivenBlocks for QueryBlocks {
         world: &World,
         block: Block<'_>,
         report: &mut Report,
-    ) -> Result<(), Fault> {
+    ) -> Done {
         let words = behind(block.words, 1);
         match word(block.words, 0) {
             "query" => play_query(alloc, world, block, true, words, report),
@@ -45,7 +45,7 @@ fn play_query(
     is_scored: bool,
     words: &[&str],
     report: &mut Report,
-) -> Result<(), Fault> {
+) -> Done {
     let asked = Cell::new(0);
     let scales = Scales {
         world,
@@ -69,7 +69,7 @@ fn play_scorer(
     block: Block<'_>,
     words: &[&str],
     report: &mut Report,
-) -> Result<(), Fault> {
+) -> Done {
     let boost = score(words, 0).ok_or(Fault::NotUnderstood)?;
     let is_scored = word(words, 1) == "query";
     if !is_scored && word(words, 1) != "unscored" {

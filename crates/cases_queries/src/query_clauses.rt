@@ -66,8 +66,12 @@ pub fn build_best(
     clauses: &mut Vec<Clause<AnyQuery>>,
 ) -> Result<AnyQuery, Fault> {
     let is_given = form.name == "max";
-    let count = number(form.words, if is_given { 1 } else { 0 }).ok_or(Fault::NotUnderstood)?;
-    let tie_breaker = number(form.words, 0).ok_or(Fault::NotUnderstood)?;
+    let (Some(tie_breaker), Some(count)) = (
+        number(form.words, 0),
+        number(form.words, if is_given { 1 } else { 0 }),
+    ) else {
+        return Err(Fault::NotUnderstood);
+    };
     let queries = take_queries(alloc, clauses, count)?;
     if is_given {
         let made = DisjunctionMaxQuery::with_tie_breaker(queries, tie_breaker)?;

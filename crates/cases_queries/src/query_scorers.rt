@@ -3,7 +3,7 @@
 ghost use Rattle.std.specs.Prelude.{◌≤ℤ◌, pos};
 
 use crate::weigh::Scales;
-use cases::{Block, Fault, Report, end_refusals};
+use cases::{Block, Done, Fault, Report};
 use cases_given::{Manner, World, play_segment_scorer};
 use qm_docset::Score;
 use qm_postings::{Bm25StatisticsProvider, Searcher};
@@ -18,7 +18,7 @@ pub fn play_query_scorer(
     boost: Score,
     block: Block<'_>,
     report: &mut Report,
-) -> Result<(), Fault>
+) -> Done
     requires { pos 0 ≤ℤ boost }
 {
     let world = scales.world;
@@ -48,14 +48,12 @@ fn play_under<P: Bm25StatisticsProvider>(
     boost: Score,
     block: Block<'_>,
     report: &mut Report,
-) -> Result<(), Fault>
+) -> Done
     requires { pos 0 ≤ℤ boost }
 {
     let segment = world.segment(0)?;
     block.memory.begin(alloc);
-    let made = query_scorer(query, alloc, scoring, segment, boost);
-    end_refusals(alloc);
-    match made {
+    match query_scorer(query, alloc, scoring, segment, boost) {
         Ok(scorer) => play_segment_scorer(alloc, world, scorer, block.rows, report),
         Err(error) => Err(Fault::Refused(error)),
     }

@@ -1,6 +1,6 @@
 //! The best documents of all segments.
 
-use cases::{Fault, Memory, end_refusals, write_space};
+use cases::{Done, Fault, Listing, Memory, end_refusals};
 use cases_given::World;
 use qm_docset::Score;
 use qm_postings::DocAddress;
@@ -15,15 +15,15 @@ pub fn write_top<Q: Query>(
     query: &Q,
     limit: &str,
     memory: Memory,
-    text: &mut String,
-) -> Result<(), Fault> {
+    text: &mut Listing,
+) -> Done {
     let Ok(limit) = limit.parse() else {
         return Err(Fault::NotUnderstood);
     };
     memory.begin(alloc);
     let found = TopDocs::with_limit(limit).search(alloc, query, &world.searcher);
     end_refusals(alloc);
-    write_found(&found?, text)
+    Ok(write_found(&found?, text))
 }
 
 /// Writes how many documents the search for at most so many scores, by the weights that the searcher gives.
@@ -33,8 +33,8 @@ pub fn write_top_scored<Q: Query>(
     query: &Q,
     limit: &str,
     memory: Memory,
-    text: &mut String,
-) -> Result<(), Fault> {
+    text: &mut Listing,
+) -> Done {
     let Ok(limit) = limit.parse() else {
         return Err(Fault::NotUnderstood);
     };
@@ -42,14 +42,13 @@ pub fn write_top_scored<Q: Query>(
     memory.begin(alloc);
     let found = TopDocs::with_limit(limit).search_counted(alloc, query, searcher, searcher);
     end_refusals(alloc);
-    Ok(write!(text, "{}", found?.scored)?)
+    Ok(write!(text, "{}", found?.scored))
 }
 
-fn write_found(found: &[(Score, DocAddress)], text: &mut String) -> Result<(), Fault> {
+fn write_found(found: &[(Score, DocAddress)], text: &mut Listing) {
     // the documents before this one are written, each with its segment and its score
     for (score, address) in found {
-        write_space(text)?;
-        write!(text, "{}/{}:{score}", address.segment_ord, address.doc_id)?;
+        text.space();
+        write!(text, "{}/{}:{score}", address.segment_ord, address.doc_id);
     }
-    Ok(())
 }
