@@ -2,21 +2,16 @@
 
 use crate::script::Script;
 use crate::trial::Outcome;
-use cases::{Block, Fault, Report};
+use cases::{Block, Report};
 
 /// Compares what each line was answered with what its row says. Of a run that ended before its script did,
 /// that is left to a row `written`.
-pub fn compare_answers(
-    block: Block<'_>,
-    script: &Script,
-    outcome: &Outcome,
-    report: &mut Report,
-) -> Result<(), Fault> {
+pub fn compare_answers(block: Block<'_>, script: &Script, outcome: &Outcome, report: &mut Report) {
     if !outcome.ending.is_well() {
-        return Ok(());
+        return;
     }
     let Ok(got) = str::from_utf8(&outcome.text) else {
-        return Ok(report.wrong(block.line, "a text that is no UTF-8")?);
+        return report.wrong(block.line, "a text that is no UTF-8");
     };
     let wanted = script.text.as_str();
     // the answers before this one are compared
@@ -26,12 +21,11 @@ pub fn compare_answers(
         .zip(wanted.split('\n'))
         .zip(got.split('\n'))
     {
-        report.compare(answered.row, shown(wanted), shown(got))?;
+        report.compare(answered.row, shown(wanted), shown(got));
     }
     if wanted.split('\n').count() != got.split('\n').count() {
-        report.compare(block.line, "a line for each answer", "more or fewer lines")?;
+        report.compare(block.line, "a line for each answer", "more or fewer lines");
     }
-    Ok(())
 }
 
 // The answer as a row has it.

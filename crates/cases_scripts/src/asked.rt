@@ -5,8 +5,8 @@ use crate::each_cut::ask_each_cut;
 use crate::each_request::ask_each_request;
 use crate::spelled::show_bytes;
 use crate::trial::{Call, Outcome, Trial};
-use cases::{Asker, Fault, Memory};
-use std::alloc::{AllocError, Global};
+use cases::{Asker, Done, Fault, Listing, Memory};
+use std::alloc::Global;
 
 /// A run, and what came of it.
 #[derive(Drop)]
@@ -16,19 +16,13 @@ pub struct AskedRun<'a> {
 }
 
 impl<'a> Asker for AskedRun<'a> {
-    fn ask(
-        &mut self,
-        alloc: Global,
-        call: &str,
-        memory: Memory,
-        text: &mut String,
-    ) -> Result<(), Fault> {
+    fn ask(&mut self, alloc: Global, call: &str, memory: Memory, text: &mut Listing) -> Done {
         if memory != Memory::Ample {
             return Err(Fault::NotUnderstood);
         }
         match call {
-            "status" => Ok(self.outcome.ending.write(text)?),
-            "written" => Ok(show_bytes(&self.outcome.text, text)?),
+            "status" => Ok(self.outcome.ending.write(text)),
+            "written" => Ok(show_bytes(&self.outcome.text, text)),
             "each request fails" => ask_each_request(alloc, self.trial, text),
             "cut at each byte" => ask_each_cut(alloc, self.trial, text),
             // these are of an input and an output
@@ -41,25 +35,25 @@ impl<'a> Asker for AskedRun<'a> {
     }
 }
 
-fn answer(outcome: &Outcome, call: &str, text: &mut String) -> Result<(), Fault> {
+fn answer(outcome: &Outcome, call: &str, text: &mut Listing) -> Done {
     match call {
-        "reads" => write!(text, "{}", outcome.reads)?,
-        "writes" => write!(text, "{}", outcome.writes)?,
-        "flushes" => write!(text, "{}", outcome.flushes)?,
-        "calls behind the error" => write!(text, "{}", outcome.calls_behind)?,
+        "reads" => write!(text, "{}", outcome.reads),
+        "writes" => write!(text, "{}", outcome.writes),
+        "flushes" => write!(text, "{}", outcome.flushes),
+        "calls behind the error" => write!(text, "{}", outcome.calls_behind),
         "flushed" => {
             let flushed = outcome.flushed.min(outcome.text.len());
-            show_bytes(&outcome.text[..flushed], text)?;
+            show_bytes(&outcome.text[..flushed], text);
         }
-        "answered before each read" => write_early(outcome.early, text)?,
+        "answered before each read" => write_early(outcome.early, text),
         _ => return Err(Fault::NotUnderstood),
     }
     Ok(())
 }
 
-fn write_early(early: u64, text: &mut String) -> Result<(), AllocError> {
+fn write_early(early: u64, text: &mut Listing) {
     if early == 0 {
-        text.push_str("all")
+        text.word("all")
     } else {
         write!(text, "not before read {early}")
     }

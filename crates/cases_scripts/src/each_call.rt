@@ -4,7 +4,7 @@ use crate::ending::Ending;
 use crate::script::Script;
 use crate::setting::Manner;
 use crate::trial::{Outcome, Trial};
-use cases::Fault;
+use cases::{Done, Fault, Listing};
 use std::alloc::Global;
 
 // how many calls of a kind a run may make
@@ -20,29 +20,24 @@ pub enum Kind {
 
 /// Makes the run again and again, with the first of such calls failing, then the second, until none does, and
 /// writes how all of these runs end; or what is wrong in the first that is not as it must be.
-pub fn ask_each_call(
-    alloc: Global,
-    trial: Trial<'_>,
-    kind: Kind,
-    text: &mut String,
-) -> Result<(), Fault> {
+pub fn ask_each_call(alloc: Global, trial: Trial<'_>, kind: Kind, text: &mut Listing) -> Done {
     let mut ending = Ending::Text;
     // each call before this one has failed, and such runs end alike
     for number in 1..MOST_CALLS {
         let failed = run_failing(alloc, trial, kind, number)?;
         if failed.calls < number {
-            return Ok(ending.write(text)?);
+            return Ok(ending.write(text));
         }
         if number > 1 && failed.ending != ending {
-            write!(text, "{number}: ")?;
-            return Ok(failed.ending.write(text)?);
+            write!(text, "{number}: ");
+            return Ok(failed.ending.write(text));
         }
         if let Some(fault) = failed.fault {
-            return Ok(write!(text, "{number}: {fault}")?);
+            return Ok(write!(text, "{number}: {fault}"));
         }
         ending = failed.ending;
     }
-    Ok(text.push_str("calls without an end")?)
+    Ok(text.word("calls without an end"))
 }
 
 // What came of a run in which a call fails.

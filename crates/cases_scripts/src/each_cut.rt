@@ -1,19 +1,19 @@
 //! Runs of the beginnings of a script.
 
 use crate::trial::{Outcome, Trial};
-use cases::Fault;
+use cases::{Done, Fault, Listing};
 use std::alloc::Global;
 
 /// Runs each beginning of the script, cut at every byte, and writes `answered` where each is answered as it
 /// must be; or what is wrong in the first that is not.
-pub fn ask_each_cut(alloc: Global, trial: Trial<'_>, text: &mut String) -> Result<(), Fault> {
+pub fn ask_each_cut(alloc: Global, trial: Trial<'_>, text: &mut Listing) -> Done {
     // all beginnings shorter than this one are answered
     for length in 0..trial.script.len() {
         if let Some(fault) = run_cut(alloc, Trial { length, ..trial })? {
-            return Ok(write!(text, "{length}: {fault}")?);
+            return Ok(write!(text, "{length}: {fault}"));
         }
     }
-    Ok(text.push_str("answered")?)
+    Ok(text.word("answered"))
 }
 
 // Makes the run of a beginning, and answers what is wrong in it.

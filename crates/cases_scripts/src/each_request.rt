@@ -3,7 +3,7 @@
 use crate::ending::Ending;
 use crate::script::Script;
 use crate::trial::{Outcome, Trial};
-use cases::{Fault, Memory, is_awaited, is_heard};
+use cases::{Done, Fault, Listing, Memory, is_awaited, is_heard};
 use qm_script::RunError;
 use std::alloc::{AllocError, Global};
 
@@ -13,9 +13,9 @@ const MOST_REQUESTS: u32 = 100_000;
 /// Makes the run again and again, with the first of its requests for memory refused, then the second, until none
 /// is. Each time the run must end behind answers of whole lines, or answer one line `refused 13` and all others
 /// as ever. Writes which of these came; or what is wrong in the first that is not so.
-pub fn ask_each_request(alloc: Global, trial: Trial<'_>, text: &mut String) -> Result<(), Fault> {
+pub fn ask_each_request(alloc: Global, trial: Trial<'_>, text: &mut Listing) -> Done {
     if !is_heard(alloc) {
-        return Ok(text.push_str("unheard")?);
+        return Ok(text.word("unheard"));
     }
     let mut seen = Seen::new(alloc);
     // each request before this one was refused, and what came is seen
@@ -25,17 +25,17 @@ pub fn ask_each_request(alloc: Global, trial: Trial<'_>, text: &mut String) -> R
             Came::Refusal => {}
             Came::Answers => {
                 return if is_awaited(alloc) {
-                    Ok(seen.write(text)?)
+                    Ok(seen.write(text))
                 } else {
-                    Ok(write!(text, "{number}: goes on behind a refusal")?)
+                    Ok(write!(text, "{number}: goes on behind a refusal"))
                 };
             }
             Came::Neither => {
-                return Ok(write!(text, "{number}: neither answers, nor one refusal")?);
+                return Ok(write!(text, "{number}: neither answers, nor one refusal"));
             }
         }
     }
-    Ok(text.push_str("requests without an end")?)
+    Ok(text.word("requests without an end"))
 }
 
 // What came of a run.
@@ -114,27 +114,25 @@ impl Seen {
         Ok(is_status && outcome.is_flushed())
     }
 
-    fn write(&self, text: &mut String) -> Result<(), AllocError> {
-        write_part(self.has_memory, "refused Memory", text)?;
-        write_part(self.has_write, "refused Write", text)?;
-        write_part(!self.lines.is_empty(), "refused 13 in lines", text)?;
+    fn write(&self, text: &mut Listing) {
+        write_part(self.has_memory, "refused Memory", text);
+        write_part(self.has_write, "refused Write", text);
+        write_part(!self.lines.is_empty(), "refused 13 in lines", text);
         // the numbers of the refused lines before this one are written
         for line in &self.lines {
-            write!(text, " {line}")?;
+            write!(text, " {line}");
         }
-        Ok(())
     }
 }
 
 // Writes what came behind a text, if it did.
-fn write_part(came: bool, what: &str, text: &mut String) -> Result<(), AllocError> {
+fn write_part(came: bool, what: &str, text: &mut Listing) {
     if came {
         if !text.as_str().is_empty() {
-            text.push_str(", ")?;
+            text.word(", ");
         }
-        text.push_str(what)?;
+        text.word(what);
     }
-    Ok(())
 }
 
 // The number of the line that was refused for want of memory, where all others were answered as is wanted.

@@ -1,7 +1,7 @@
 //! How a run ended.
 
+use cases::Listing;
 use qm_script::RunError;
-use std::alloc::AllocError;
 
 /// How a run ended.
 #[derive(Clone, Copy, PartialEq, Eq)]
@@ -16,10 +16,10 @@ pub enum Ending {
 
 impl Ending {
     /// Writes it behind a text.
-    pub fn write(self, text: &mut String) -> Result<(), AllocError> {
+    pub fn write(self, text: &mut Listing) {
         match self {
             Ending::Status(status) => write!(text, "{status}"),
-            Ending::Text => text.push_str("none"),
+            Ending::Text => text.word("none"),
             Ending::Refused(error) => write!(text, "refused {error:?}"),
         }
     }

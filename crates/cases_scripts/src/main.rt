@@ -24,7 +24,7 @@ use std::process::ExitCode;
 
 fn main(rt: HostRuntime) -> io::Result<ExitCode> {
     let text = io::read_to_string(rt.alloc(), rt.reader())?;
-    let mut report = Report::new(rt.alloc())?;
+    let mut report = Report::new(rt.alloc());
     let status = match play_cases(rt.alloc(), &mut Scripts, text.as_str(), &mut report) {
         Ok(()) => u8::from(!report.is_right()),
         Err(_) => 2,

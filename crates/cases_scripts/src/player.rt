@@ -5,7 +5,7 @@ use crate::asked::AskedRun;
 use crate::script::Script;
 use crate::setting::{Manner, take_setting};
 use crate::trial::{Call, Trial};
-use cases::{Block, Fault, Memory, Player, Report, play_asked, word};
+use cases::{Block, Done, Fault, Memory, Player, Report, play_asked, word};
 use std::alloc::Global;
 
 /// What plays blocks of runs; nothing is kept from one to the next.
@@ -13,7 +13,7 @@ use std::alloc::Global;
 pub struct Scripts;
 
 impl Player for Scripts {
-    fn play(&mut self, alloc: Global, block: Block<'_>, report: &mut Report) -> Result<(), Fault> {
+    fn play(&mut self, alloc: Global, block: Block<'_>, report: &mut Report) -> Done {
         let Some(call) = read_call(block.words) else {
             return Err(Fault::NotUnderstood);
         };
@@ -35,12 +35,7 @@ impl Player for Scripts {
 }
 
 // Makes a run, and plays the rows that ask what came of it.
-fn play_trial(
-    alloc: Global,
-    trial: Trial<'_>,
-    block: Block<'_>,
-    report: &mut Report,
-) -> Result<(), Fault> {
+fn play_trial(alloc: Global, trial: Trial<'_>, block: Block<'_>, report: &mut Report) -> Done {
     // how a run ended is always told
     match block.rows.first() {
         Some(row) if row.call == "status" => {}
@@ -56,8 +51,8 @@ fn play_outcome(
     asked: &mut AskedRun<'_>,
     block: Block<'_>,
     report: &mut Report,
-) -> Result<(), Fault> {
-    compare_answers(block, asked.trial.script, &asked.outcome, report)?;
+) -> Done {
+    compare_answers(block, asked.trial.script, &asked.outcome, report);
     play_asked(alloc, asked, block.rows, report)
 }
 

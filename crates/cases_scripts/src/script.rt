@@ -1,7 +1,7 @@
 //! A script that rows spell, each line with its answer.
 
 use crate::spelled::read_bytes;
-use cases::{Fault, Row};
+use cases::{Done, Fault, Row};
 use std::alloc::{AllocError, Global};
 
 /// A script, and what its lines are to be answered.
@@ -74,7 +74,7 @@ impl Script {
     }
 
     /// Takes a row `line ..`, `words ..` or `text ..`, by the words behind the first.
-    pub fn take(&mut self, row: &Row<'_>, name: &str, spelled: &str) -> Result<(), Fault> {
+    pub fn take(&mut self, row: &Row<'_>, name: &str, spelled: &str) -> Done {
         if self.is_ended || (name == "words" && !row.wanted.is_empty()) {
             return Err(Fault::NotUnderstood);
         }

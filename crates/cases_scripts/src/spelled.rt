@@ -1,7 +1,6 @@
 //! Bytes as rows spell and show them.
 
-use cases::Fault;
-use std::alloc::AllocError;
+use cases::{Done, Fault, Listing};
 
 /// The first word of a row, and what stands behind the space after it.
 pub fn cut<'a>(text: &'a str) -> (&'a str, &'a str) {
@@ -13,14 +12,16 @@ pub fn cut<'a>(text: &'a str) -> (&'a str, &'a str) {
 
 /// Puts the bytes that a row spells behind others: each `\x` with two digits is a byte. No end of a line may
 /// be among them.
-pub fn read_bytes(spelled: &str, bytes: &mut Vec<u8>) -> Result<(), Fault> {
+pub fn read_bytes(spelled: &str, bytes: &mut Vec<u8>) -> Done {
     let mut is_first = true;
     // the bytes of the parts before this one are there
     for part in spelled.split("\\x") {
         let rest = if is_first {
             part
         } else {
-            let (digits, rest) = part.split_at_checked(2).ok_or(Fault::NotUnderstood)?;
+            let Some((digits, rest)) = part.split_at_checked(2) else {
+                return Err(Fault::NotUnderstood);
+            };
             match u8::from_str_radix(digits, 16) {
                 Ok(byte) if byte != b'\n' => bytes.push(byte)?,
                 _ => return Err(Fault::NotUnderstood),
@@ -34,19 +35,18 @@ pub fn read_bytes(spelled: &str, bytes: &mut Vec<u8>) -> Result<(), Fault> {
 }
 
 /// Writes bytes behind a text, each end of a line as `\n`, and `nothing` where there are none.
-pub fn show_bytes(bytes: &[u8], text: &mut String) -> Result<(), AllocError> {
+pub fn show_bytes(bytes: &[u8], text: &mut Listing) {
     if bytes.is_empty() {
-        return text.push_str("nothing");
+        return text.word("nothing");
     }
     // the bytes before this one are written, each end of a line as `\n`
     for byte in bytes {
         if *byte == b'\n' {
-            text.push_str("\\n")?;
+            text.word("\\n");
         } else if *byte == b' ' || byte.is_ascii_graphic() {
-            text.push(char::from(*byte))?;
+            write!(text, "{}", char::from(*byte));
         } else {
-            write!(text, "\\x{byte:02x}")?;
+            write!(text, "\\x{byte:02x}");
         }
     }
-    Ok(())
 }

@@ -1,6 +1,6 @@
 //! How the calls of one kind go: the reads of an input, the writes or the flushes of an output.
 
-use cases::{Fault, word};
+use cases::{Done, Fault, word};
 use std::io::ErrorKind;
 
 /// How the calls of one kind go, and how many were made.
@@ -32,18 +32,20 @@ impl Turns {
     }
 
     /// Takes what a row says: `at most N`, `interrupted`, or `fails N` and a kind of error.
-    pub fn take(&mut self, words: &[&str]) -> Result<(), Fault> {
+    pub fn take(&mut self, words: &[&str]) -> Done {
         match word(words, 0) {
             "interrupted" => self.is_interrupted = true,
-            "at" => {
-                let most = word(words, 2).parse().ok();
-                self.most = most.ok_or(Fault::NotUnderstood)?;
-            }
-            "fails" => {
-                let failing = word(words, 1).parse().ok();
-                self.failing = failing.ok_or(Fault::NotUnderstood)?;
-                self.kind = read_kind(word(words, 2)).ok_or(Fault::NotUnderstood)?;
-            }
+            "at" => match word(words, 2).parse() {
+                Ok(most) => self.most = most,
+                Err(_) => return Err(Fault::NotUnderstood),
+            },
+            "fails" => match (word(words, 1).parse(), read_kind(word(words, 2))) {
+                (Ok(failing), Some(kind)) => {
+                    self.failing = failing;
+                    self.kind = kind;
+                }
+                _ => return Err(Fault::NotUnderstood),
+            },
             _ => return Err(Fault::NotUnderstood),
         }
         Ok(())
