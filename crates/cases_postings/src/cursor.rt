@@ -3,7 +3,7 @@
 ghost use Rattle.std.specs.Prelude.{IsTrue};
 ghost use Rattle.qm_docset.specs.Lists.{IsPlaced};
 
-use crate::moved::{Moved, make_move, read_move};
+use crate::moved::{make_move, read_move};
 use cases::{Done, Fault, Listing, Memory, Report, Row, end_refusals, is_awaited};
 use qm_docset::{AliveBitSet, COLLECT_BLOCK_BUFFER_LEN, DocSet};
 use qm_schema::QueryError;
