@@ -18,7 +18,7 @@ use qm_combine::{AllScorer, ConstScorer, ScoreCombiner, Scorer};
 use qm_docset::{DocId, Score, TERMINATED};
 
 /// Which documents a group lists, what it makes of their scores, and the bound on that.
-#[derive(Clone, Copy, Debug)]
+#[derive(Clone, Copy)]
 pub(crate) struct Shape {
     pub(crate) minimum: usize,
     pub(crate) combiner: AnyCombiner,
