@@ -214,11 +214,11 @@ impl<'a, 'o> Asked<'a, 'o> {
 
     // Writes all results but the first, which are skipped.
     fn list<W: Write>(&self, hits: Vec<Hit>, out: &mut W) -> Result<(), Stop> {
-        let marker = Marker::new(self.rt.alloc(), self.options.reading.accents, self.clauses)?;
+        let mut marker = Marker::new(self.rt.alloc(), self.options.reading.accents, self.clauses)?;
         // the documents before this one are written, but for those to be skipped
         for (before, hit) in hits.into_iter().enumerate() {
             if before >= self.options.skipped {
-                self.write(&marker, before.saturating_add(1), hit, out)?;
+                self.write(&mut marker, before.saturating_add(1), hit, out)?;
             }
         }
         Ok(())
@@ -227,7 +227,7 @@ impl<'a, 'o> Asked<'a, 'o> {
     // Writes one result.
     fn write<W: Write>(
         &self,
-        marker: &Marker<'_>,
+        marker: &mut Marker<'_>,
         number: usize,
         hit: Hit,
         out: &mut W,
@@ -244,7 +244,7 @@ impl<'a, 'o> Asked<'a, 'o> {
     }
 
     // A result with its text.
-    fn shown(&self, marker: &Marker<'_>, hit: Hit) -> Result<Option<Shown<'a>>, Stop> {
+    fn shown(&self, marker: &mut Marker<'_>, hit: Hit) -> Result<Option<Shown<'a>>, Stop> {
         let Hit {
             score,
             place,
@@ -321,8 +321,8 @@ impl<'a, 'o> Asked<'a, 'o> {
             index: self.index,
             address: hit.address,
         };
-        let marker = Marker::new(alloc, self.options.reading.accents, self.clauses)?;
-        self.write(&marker, number, hit, out)?;
+        let mut marker = Marker::new(alloc, self.options.reading.accents, self.clauses)?;
+        self.write(&mut marker, number, hit, out)?;
         let Searched { query, statistics } = self.searched;
         let explanation = explained.explanation(query, statistics)?;
         explained.write_weights(out, self.tree)?;

@@ -4,7 +4,7 @@
 //! others.
 
 /// Whether a letter with an accent is the letter without it.
-#[derive(Clone, Copy, Debug, PartialEq, Eq)]
+#[derive(Clone, Copy, PartialEq, Eq)]
 pub enum Accents {
     /// It is: `cafe` is `café`.
     Folded,

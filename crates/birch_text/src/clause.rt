@@ -3,7 +3,7 @@
 //! Field and boosts are carried down to the words, so a query is as deep as its parentheses alone.
 
 /// Where words are asked for.
-#[derive(Debug, Drop)]
+#[derive(Drop)]
 pub enum Scope {
     /// In the text of a document.
     Text,
@@ -14,7 +14,7 @@ pub enum Scope {
 }
 
 /// Words that stand together, in the order in which they were written: one word, or a phrase.
-#[derive(Debug, Drop)]
+#[derive(Drop)]
 pub struct Clause {
     /// Where they stand.
     pub scope: Scope,

@@ -14,7 +14,7 @@ pub fn is_steering(letter: char) -> bool {
 }
 
 /// A text as it is printed in a line: a space stands for a tab, and a `?` for each other letter that may steer a terminal.
-#[derive(Clone, Copy, Debug)]
+#[derive(Clone, Copy)]
 pub struct Cleaned<'a>(pub &'a str);
 
 impl<'a> fmt::Display for Cleaned<'a> {
@@ -34,7 +34,7 @@ impl<'a> fmt::Display for Cleaned<'a> {
 
 /// A line of JSON in which each letter that may steer a terminal is written by its number. JSON has such letters within
 /// texts alone, where that is the same letter.
-#[derive(Clone, Copy, Debug)]
+#[derive(Clone, Copy)]
 pub struct EscapedJson<'a>(pub &'a str);
 
 impl<'a> fmt::Display for EscapedJson<'a> {

@@ -2,7 +2,6 @@
 
 use crate::passage::{Passages, Place};
 use anyhow::Result;
-use memchr::memchr;
 
 /// Hands over each line that isn't empty, without its end.
 ///
@@ -11,11 +10,7 @@ pub fn add_lines<P: Passages>(text: &str, passages: &mut P) -> Result<()> {
     let mut start: usize = 0;
     let mut line: u32 = 1;
     // the lines before this one are added
-    for _ in 0..u64::MAX {
-        let whole = line_at(text, start);
-        if whole.is_empty() {
-            break;
-        }
+    for whole in text.split_inclusive('\n') {
         let words = whole.trim_end();
         if !words.is_empty() {
             let len = words.len();
@@ -25,15 +20,6 @@ pub fn add_lines<P: Passages>(text: &str, passages: &mut P) -> Result<()> {
         line = line.saturating_add(1);
     }
     Ok(())
-}
-
-/// The line that begins at a byte, with its end; empty behind the last one.
-pub(crate) fn line_at(text: &str, start: usize) -> &str {
-    let rest = text.get(start..).unwrap_or("");
-    match memchr(b'\n', rest.as_bytes()) {
-        Some(end) => rest.get(..end.saturating_add(1)).unwrap_or(rest),
-        None => rest,
-    }
 }
 
 // The lines of a paragraph so far.
@@ -52,11 +38,7 @@ pub fn add_paragraphs<P: Passages>(text: &str, passages: &mut P) -> Result<()> {
     let mut start: usize = 0;
     let mut line: u32 = 1;
     // the paragraphs that ended before this line are added, and the one that it goes on with is open
-    for _ in 0..u64::MAX {
-        let whole = line_at(text, start);
-        if whole.is_empty() {
-            break;
-        }
+    for whole in text.split_inclusive('\n') {
         let words = whole.trim_end();
         if words.is_empty() {
             close(text, open, passages)?;

@@ -7,7 +7,7 @@ use std::alloc::{AllocError, Global};
 use unicode_segmentation::UnicodeSegmentation;
 
 /// A word that was asked for, by the bytes of the text where it stands.
-#[derive(Clone, Copy, Debug, PartialEq, Eq)]
+#[derive(Clone, Copy, PartialEq, Eq)]
 pub struct Mark {
     /// Its first byte.
     pub start: usize,
@@ -18,7 +18,9 @@ pub struct Mark {
 /// Finds the words that a query asks for.
 #[derive(Drop)]
 pub struct Marker<'a> {
-    accents: Accents,
+    reader: WordReader,
+    // room for a word that is folded
+    folded: String,
     // in order
     words: Vec<&'a str>,
     // in order, and none begins with another
@@ -36,7 +38,8 @@ impl<'a> Marker<'a> {
         clauses: &[&'a Clause],
     ) -> Result<Marker<'a>, AllocError> {
         let mut marker = Marker {
-            accents,
+            reader: WordReader::new(alloc, accents),
+            folded: String::new(alloc),
             words: Vec::new(alloc),
             beginnings: Vec::new(alloc),
         };
@@ -83,18 +86,16 @@ impl<'a> Marker<'a> {
     /// were.
     ///
     /// Refused for want of memory alone.
-    pub fn marks(&self, alloc: Global, text: &str) -> Result<Vec<Mark>, AllocError> {
+    pub fn marks(&mut self, alloc: Global, text: &str) -> Result<Vec<Mark>, AllocError> {
         let mut marks = Vec::new(alloc);
-        let mut reader = WordReader::new(alloc, self.accents);
-        let mut folded = String::new(alloc);
         // what is wanted of the words before this one is marked
         for (first, word) in text.unicode_word_indices() {
             let mut start = first;
             // and of the pieces of the word that end before `start`
             for part in word.split_inclusive(is_between) {
                 let piece = part.trim_end_matches(is_between);
-                reader.fold(&mut folded, piece)?;
-                if self.is_wanted(folded.as_str()) {
+                self.reader.fold(&mut self.folded, piece)?;
+                if self.is_wanted(self.folded.as_str()) {
                     let end = start.saturating_add(piece.len());
                     marks.push(Mark { start, end })?;
                 }

@@ -46,11 +46,8 @@ pub fn split_named(named: &str) -> Option<(&str, &str)> {
 fn push_name(named: &mut String, name: &str) -> Result<(), AllocError> {
     // the letters before this one are there, with a `_` for those that a name can't have
     for letter in name.chars() {
-        if letter.is_whitespace() || letter == BEHIND_NAME {
-            named.push('_')?;
-        } else {
-            named.push(letter)?;
-        }
+        let is_kept = !letter.is_whitespace() && letter != BEHIND_NAME;
+        named.push(if is_kept { letter } else { '_' })?;
     }
     named.push(BEHIND_NAME)
 }

@@ -2,7 +2,8 @@
 //!
 //! The tree of a query has no places. They are found again here, without the grammar, in a text that has a tree.
 
-use std::alloc::{AllocError, Global};
+use std::mem;
+use std::str::Chars;
 
 // What the next character of a query belongs to.
 #[derive(Clone, Copy)]
@@ -17,61 +18,65 @@ enum Within {
     Boost,
 }
 
-// Goes through a query.
+/// Tells the places of a query's words, phrases, stars and names of fields, in the order in which they stand: of each
+/// the first byte. Of a text that is no query they mean nothing.
 #[derive(Drop)]
-struct PlaceReader<'a> {
+pub(crate) struct PartPlaces<'a> {
     query: &'a str,
+    // what isn't read yet
+    letters: Chars<'a>,
     within: Within,
-    places: Vec<usize>,
 }
 
-/// The places of a query's words, phrases, stars and names of fields, in the order in which they stand:
-/// of each the first byte. Of a text that is no query they mean nothing.
-///
-/// Refused for want of memory alone.
-pub(crate) fn part_places(alloc: Global, query: &str) -> Result<Vec<usize>, AllocError> {
-    let mut reader = PlaceReader {
-        query,
-        within: Within::Gap,
-        places: Vec::new(alloc),
-    };
-    let mut is_escaped = false;
-    // the letters before this one are read, and a `\` right before it is known
-    for (place, letter) in query.char_indices() {
-        if is_escaped {
-            is_escaped = false;
-        } else if letter == '\\' {
-            is_escaped = true;
-            reader.take_letter(place);
-        } else {
-            reader.take(place, letter)?;
+impl<'a> PartPlaces<'a> {
+    /// Of this query, from its beginning on.
+    pub(crate) fn new(query: &'a str) -> PartPlaces<'a> {
+        PartPlaces {
+            query,
+            letters: query.chars(),
+            within: Within::Gap,
         }
     }
-    reader.end_part(query.len())?;
-    Ok(reader.places)
-}
 
-impl<'a> PlaceReader<'a> {
-    // Goes past a character before which no `\` stands.
-    fn take(&mut self, place: usize, letter: char) -> Result<(), AllocError> {
+    /// The next place, or the end of the query.
+    pub(crate) fn next_place(&mut self) -> usize {
+        // each part that ends before this letter was told
+        for _ in 0..self.query.len() {
+            let left = self.letters.as_str().len();
+            let place = self.query.len().saturating_sub(left);
+            let ended = match self.letters.next() {
+                None => break,
+                Some('\\') => {
+                    self.letters.next();
+                    self.take_letter(place);
+                    None
+                }
+                Some(letter) => self.take(place, letter),
+            };
+            if let Some(begin) = ended {
+                return begin;
+            }
+        }
+        let len = self.query.len();
+        self.end_part(len, Within::Gap).unwrap_or(len)
+    }
+
+    // Goes past a character before which no `\` stands, and tells where the part began that it ends.
+    fn take(&mut self, place: usize, letter: char) -> Option<usize> {
         match (self.within, letter) {
             (Within::Quotes(begin), '"') => self.within = Within::Part(begin),
-            (Within::Quotes(_), _) => {}
+            (Within::Quotes(_), _) | (Within::Gap, '+' | '-') => {}
             (_, '"') => self.within = Within::Quotes(place),
-            (_, '(' | ')') => self.end_part(place)?,
-            (Within::Gap, '+' | '-') => {}
+            (_, '(' | ')') => return self.end_part(place, Within::Gap),
             (Within::Part(begin), ':') => {
-                self.places.push(begin)?;
                 self.within = Within::Gap;
+                return Some(begin);
             }
-            (_, '^') => {
-                self.end_part(place)?;
-                self.within = Within::Boost;
-            }
-            _ if letter.is_whitespace() => self.end_part(place)?,
+            (_, '^') => return self.end_part(place, Within::Boost),
+            _ if letter.is_whitespace() => return self.end_part(place, Within::Gap),
             _ => self.take_letter(place),
         }
-        Ok(())
+        None
     }
 
     // Goes past a letter, with which a part may begin.
@@ -81,15 +86,14 @@ impl<'a> PlaceReader<'a> {
         }
     }
 
-    // Ends what stands before this place.
-    fn end_part(&mut self, place: usize) -> Result<(), AllocError> {
-        if let Within::Part(begin) = self.within {
-            let part = self.query.get(begin..place).unwrap_or("");
-            if !matches!(part, "AND" | "OR" | "NOT") {
-                self.places.push(begin)?;
-            }
+    // Ends what stands before this place, and tells where it began, if it is a part.
+    fn end_part(&mut self, place: usize, within: Within) -> Option<usize> {
+        let Within::Part(begin) = mem::replace(&mut self.within, within) else {
+            return None;
+        };
+        match self.query.get(begin..place) {
+            Some("AND" | "OR" | "NOT") => None,
+            _ => Some(begin),
         }
-        self.within = Within::Gap;
-        Ok(())
     }
 }

@@ -1,14 +1,15 @@
 //! Documents as they stand in a file.
 
+use crate::csv_rows::{add_csv, add_csv_rows, csv_row_text, csv_text};
+use crate::json_lines::{add_json, json_text};
 use crate::lines::{add_lines, add_paragraphs};
 use crate::query::QueryFields;
-use crate::rows::{Row, add_csv_rows, add_json_rows, csv_row_text, json_row_text};
-use crate::tables::{add_csv, add_json, csv_text, json_text};
+use crate::row::Row;
 use anyhow::Result;
 use std::alloc::{AllocError, Global};
 
 /// What of a file is a document.
-#[derive(Clone, Copy, Debug)]
+#[derive(Clone, Copy)]
 pub enum Form<'a> {
     /// Lines that stand together, up to an empty one.
     Paragraphs,
@@ -35,7 +36,7 @@ impl<'a> Form<'a> {
 }
 
 /// Where a document stands in its file.
-#[derive(Clone, Copy, Debug, PartialEq, Eq)]
+#[derive(Clone, Copy, PartialEq, Eq)]
 pub struct Place {
     /// The number of its first line, from 1 up.
     pub line: u32,
@@ -70,9 +71,9 @@ pub fn add_passages<P: Passages>(
         Form::Paragraphs => add_paragraphs(text, passages),
         Form::Lines => add_lines(text, passages),
         Form::Csv(column) => add_csv(alloc, column, text, passages),
-        Form::Json(key) => add_json(alloc, key, text, passages),
+        Form::Json(key) => add_json(alloc, Some(key), text, passages),
         Form::CsvFields => add_csv_rows(alloc, text, passages),
-        Form::JsonFields => add_json_rows(alloc, text, passages),
+        Form::JsonFields => add_json(alloc, None, text, passages),
     }
 }
 
@@ -89,8 +90,8 @@ pub fn text_at(
     match form {
         Form::Paragraphs | Form::Lines => String::from_str(alloc, piece),
         Form::Csv(_) => csv_text(alloc, column, piece),
-        Form::Json(key) => json_text(alloc, key, piece),
+        Form::Json(key) => json_text(alloc, Some(key), piece),
         Form::CsvFields => csv_row_text(alloc, piece),
-        Form::JsonFields => json_row_text(alloc, piece),
+        Form::JsonFields => json_text(alloc, None, piece),
     }
 }

@@ -7,7 +7,7 @@ use std::alloc::{AllocError, AllocFailed, Global};
 const MOST_PATTERNS: usize = 1000;
 
 /// What a pattern says of what it fits.
-#[derive(Clone, Copy, Debug, PartialEq, Eq)]
+#[derive(Clone, Copy, PartialEq, Eq)]
 pub enum Sense {
     /// It has no `!` in front.
     Plain,
@@ -33,7 +33,7 @@ pub struct PathRules {
 }
 
 /// Why a pattern is not taken.
-#[derive(Clone, Copy, Debug, PartialEq, Eq)]
+#[derive(Clone, Copy, PartialEq, Eq)]
 pub enum PatternError {
     /// Its braces stand for too many patterns.
     TooMany,
@@ -97,9 +97,9 @@ impl PathRules {
                 return Ok(());
             };
             match first_braces(next.as_str()) {
-                Some(braces) => push_alternatives(alloc, &mut open, next.as_str(), braces)?,
-                None => self.add_plain(alloc, next.as_str())?,
-            }
+                Some(braces) => push_alternatives(alloc, &mut open, next.as_str(), braces),
+                None => self.add_plain(alloc, next.as_str()),
+            }?;
         }
         if open.is_empty() {
             return Ok(());
@@ -110,23 +110,19 @@ impl PathRules {
     // Adds a pattern: a `!` in front turns it, a `/` in front or within makes it one of whole paths, and one behind one
     // of folders.
     fn add_plain(&mut self, alloc: Global, pattern: &str) -> Result<(), AllocError> {
-        let (sense, pattern) = match pattern.strip_prefix('!') {
-            Some(rest) => (Sense::Turned, rest),
-            None => (Sense::Plain, pattern),
-        };
-        let (is_of_folders, pattern) = match pattern.strip_suffix('/') {
-            Some(rest) => (true, rest),
-            None => (false, pattern),
-        };
-        let (is_whole, pattern) = match pattern.strip_prefix('/') {
-            Some(rest) => (true, rest),
-            None => (pattern.contains('/'), pattern),
-        };
+        let turned = pattern.strip_prefix('!');
+        let given = turned.unwrap_or(pattern);
+        let path = given.strip_suffix('/').unwrap_or(given);
+        let inner = path.strip_prefix('/').unwrap_or(path);
         self.rules.push(PathRule {
-            pattern: String::from_str(alloc, pattern)?,
-            sense,
-            is_whole,
-            is_of_folders,
+            pattern: String::from_str(alloc, inner)?,
+            sense: if turned.is_some() {
+                Sense::Turned
+            } else {
+                Sense::Plain
+            },
+            is_whole: path.contains('/'),
+            is_of_folders: given.ends_with('/'),
         })?;
         Ok(())
     }
@@ -198,7 +194,7 @@ fn push_alternatives(
         let is_end = at == braces.close || (*byte == b',' && depth == 0);
         if is_end {
             let one = pattern.get(start..at).unwrap_or("");
-            patterns.push(put_together(alloc, before, one, behind)?)?;
+            patterns.push(format!(in alloc; "{before}{one}{behind}")?)?;
             start = at.saturating_add(1);
         }
         depth = depth_behind(depth, *byte);
@@ -213,16 +209,4 @@ fn depth_behind(depth: usize, byte: u8) -> usize {
         b'}' => depth.saturating_sub(1),
         _ => depth,
     }
-}
-
-fn put_together(
-    alloc: Global,
-    before: &str,
-    one: &str,
-    behind: &str,
-) -> Result<String, AllocError> {
-    let mut pattern = String::from_str(alloc, before)?;
-    pattern.push_str(one)?;
-    pattern.push_str(behind)?;
-    Ok(pattern)
 }

@@ -2,12 +2,13 @@
 
 use crate::accents::Accents;
 use crate::clause::{Clause, Scope};
-use crate::part_places::part_places;
+use crate::part_places::PartPlaces;
 use crate::query_fault::{Fault, QueryFault};
 use crate::query_tree::QueryTree;
-use crate::words::{WordReader, push_words};
+use crate::words::WordReader;
 use qm_parser::{ParsedLeaf, ParsedQuery, Sign, parse_query};
 use std::alloc::{AllocError, Global};
+use std::mem;
 
 /// The name of the field that has the words of a file's own name, where documents have no fields.
 const NAME: &str = "name";
@@ -16,7 +17,7 @@ const NAME: &str = "name";
 const MOST_BOOST: u64 = 2_147_483_647;
 
 /// Which fields a query may name.
-#[derive(Clone, Copy, Debug, PartialEq, Eq)]
+#[derive(Clone, Copy, PartialEq, Eq)]
 pub enum QueryFields {
     /// `name:`, which has the words of a file's own name.
     FileName,
@@ -39,9 +40,9 @@ struct QueryReader<'a> {
     query: &'a str,
     fields: QueryFields,
     words: WordReader,
-    // where its words, phrases, stars and names stand, and how many of these were read
-    places: Vec<usize>,
-    read: usize,
+    // where the next word, phrase, star or name stands, and the places behind it
+    place: usize,
+    places: PartPlaces<'a>,
 }
 
 /// What a query asks for, in the language of [`parse_query`]. The words of each word and phrase are cut
@@ -61,16 +62,17 @@ pub fn read_query(
         query,
         fields,
         words: WordReader::new(alloc, accents),
-        places: part_places(alloc, query)?,
-        read: 0,
+        place: 0,
+        places: PartPlaces::new(query),
     };
+    reader.next_place();
     let around = Around {
         field: None,
         boost: 1,
     };
-    match reader.tree(&parsed, around)? {
-        QueryTree::Nothing => Err(fault(Fault::Nothing, query.len())),
-        tree => Ok(tree),
+    match reader.tree(&parsed, around) {
+        Ok(QueryTree::Nothing) => Err(fault(Fault::Nothing, query.len())),
+        read => read,
     }
 }
 
@@ -80,19 +82,9 @@ fn fault(fault: Fault, place: usize) -> QueryFault {
 }
 
 impl<'a> QueryReader<'a> {
-    // Where the next word, phrase, star or name stands.
-    fn place(&self) -> usize {
-        match self.places.get(self.read) {
-            Some(place) => *place,
-            None => self.query.len(),
-        }
-    }
-
-    // Goes past it.
+    // Where the next word, phrase, star or name stands; goes past it.
     fn next_place(&mut self) -> usize {
-        let place = self.place();
-        self.read = self.read.saturating_add(1);
-        place
+        mem::replace(&mut self.place, self.places.next_place())
     }
 
     // What a part of the query asks for.
@@ -145,7 +137,7 @@ impl<'a> QueryReader<'a> {
         let product = u64::from(around.boost).saturating_mul(u64::from(factor));
         match u32::try_from(product) {
             Ok(boost) if product <= MOST_BOOST => Ok(Around { boost, ..around }),
-            _ => Err(fault(Fault::BoostTooGreat, self.place())),
+            _ => Err(fault(Fault::BoostTooGreat, self.place)),
         }
     }
 
@@ -155,17 +147,20 @@ impl<'a> QueryReader<'a> {
         let (text, is_prefix, slop) = match leaf {
             ParsedLeaf::All => return Ok(QueryTree::All(around.boost)),
             ParsedLeaf::Word(text) => (text, false, 0),
-            ParsedLeaf::Prefix(text) => (text, true, 0),
-            ParsedLeaf::Phrase { text, slop } => (self.unstarred(text, place)?, false, *slop),
-            ParsedLeaf::PhrasePrefix(text) => (self.unstarred(text, place)?, true, 0),
+            ParsedLeaf::Phrase { text, slop } => (text, false, *slop),
+            ParsedLeaf::Prefix(text) | ParsedLeaf::PhrasePrefix(text) => (text, true, 0),
         };
-        let mut words = Vec::new(self.alloc);
-        push_words(self.alloc, &mut self.words, &mut words, text.as_str())?;
+        let is_phrase = !matches!(leaf, ParsedLeaf::Word(_) | ParsedLeaf::Prefix(_));
+        if is_phrase && text.as_str().ends_with('*') {
+            return Err(self.star_in_phrase(place));
+        }
+        let scope = self.scope_of(around)?;
+        let words = self.words.words_of(self.alloc, text.as_str())?;
         if words.is_empty() {
             return Err(fault(Fault::NoWord, place));
         }
         Ok(QueryTree::Clause(Clause {
-            scope: self.scope_of(around)?,
+            scope,
             words,
             is_prefix,
             slop,
@@ -182,14 +177,10 @@ impl<'a> QueryReader<'a> {
         }
     }
 
-    // The text of a phrase that stands at a place, where it doesn't end in a `*`: one there would be taken
-    // for the beginning of a word, but is none.
-    fn unstarred<'b>(&self, text: &'b String, place: usize) -> Result<&'b String, QueryFault> {
-        if !text.as_str().ends_with('*') {
-            return Ok(text);
-        }
+    // The error that a phrase at a place ends in a `*`: that would be taken for the beginning of a word, but is none.
+    fn star_in_phrase(&self, place: usize) -> QueryFault {
         let phrase = self.query.get(place..).unwrap_or("");
         let before = phrase.find("*\"").unwrap_or(0);
-        Err(fault(Fault::StarInPhrase, place.saturating_add(before)))
+        fault(Fault::StarInPhrase, place.saturating_add(before))
     }
 }

@@ -23,20 +23,19 @@ pub enum Fault {
 
 impl fmt::Display for Fault {
     fn fmt<W: fmt::Write>(&self, f: &mut fmt::Formatter<W>) -> fmt::Result {
-        match self {
-            Fault::Refused(kind) => write!(f, "{kind}"),
-            Fault::Nothing => f.write_str("there is nothing to search for: a word may stand here"),
-            Fault::NoWord => f.write_str("no word stands here: a word, or a phrase in \"..\", may"),
-            Fault::NoField => f.write_str(
-                "no field has this name: name: may stand here, or \\: for what is no field",
-            ),
+        let text = match self {
+            Fault::Refused(kind) => return write!(f, "{kind}"),
+            Fault::Nothing => "there is nothing to search for: a word may stand here",
+            Fault::NoWord => "no word stands here: a word, or a phrase in \"..\", may",
+            Fault::NoField => {
+                "no field has this name: name: may stand here, or \\: for what is no field"
+            }
             Fault::StarInPhrase => {
-                f.write_str("a * stands behind the quotes: \"old app\"* finds \"old apple\"")
+                "a * stands behind the quotes: \"old app\"* finds \"old apple\""
             }
-            Fault::BoostTooGreat => {
-                f.write_str("the numbers behind ^ multiply to more than 2147483647 here")
-            }
-        }
+            Fault::BoostTooGreat => "the numbers behind ^ multiply to more than 2147483647 here",
+        };
+        f.write_str(text)
     }
 }
 

@@ -7,7 +7,7 @@ use qm_parser::Sign;
 use std::alloc::{AllocError, Global};
 
 /// What a query asks for.
-#[derive(Debug, Drop)]
+#[derive(Drop)]
 pub enum QueryTree {
     /// No document.
     Nothing,

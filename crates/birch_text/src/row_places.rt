@@ -1,7 +1,6 @@
 //! Where the rows of a table stand.
 
 use crate::passage::Place;
-use anyhow::Result;
 
 /// Tells where the rows of a table stand, one after another.
 #[derive(Clone, Copy)]
@@ -24,11 +23,11 @@ impl<'a> RowPlaces<'a> {
 
     /// Where a row stands that was read from one byte up to another: it begins behind the end of the row before it and
     /// empty lines.
-    pub(crate) fn next_place(&mut self, from: u64, end: u64) -> Result<Place> {
-        let start = row_start(self.text, usize::try_from(from)?);
+    pub(crate) fn next_place(&mut self, from: u64, end: u64) -> Place {
+        let start = row_start(self.text, from as usize);
         let line = self.line_at(start);
-        let len = usize::try_from(end)?.saturating_sub(start);
-        Ok(Place { line, start, len })
+        let len = (end as usize).saturating_sub(start);
+        Place { line, start, len }
     }
 
     // The number of the line at a later byte.

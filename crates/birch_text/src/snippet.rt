@@ -3,7 +3,7 @@
 use crate::marks::Mark;
 
 /// A part of a text, by its bytes, and the marks in it, by their numbers.
-#[derive(Clone, Copy, Debug, PartialEq, Eq)]
+#[derive(Clone, Copy, PartialEq, Eq)]
 pub struct Snippet {
     /// Its first byte.
     pub start: usize,

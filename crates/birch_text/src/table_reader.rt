@@ -2,24 +2,31 @@
 //!
 //! An error of the table's own is told apart at once, so that nobody who reads rows has one to let go of.
 
-use csv::{Error, ErrorKind, Reader, ReaderBuilder, StringRecord};
+use crate::passage::Place;
+use crate::row_places::RowPlaces;
+use csv::{ErrorKind, Reader, ReaderBuilder, StringRecord};
 use std::alloc::{AllocError, Global};
 
 /// What comes next in a table.
 #[derive(Clone, Copy)]
 pub(crate) enum NextRow {
     /// A row, which was read.
-    Read,
+    Read(Place),
     /// A row that can't be read.
-    Unreadable,
+    Unreadable(Place),
     /// No row any more.
     None,
+    /// There is no memory to read it.
+    NoMemory,
 }
 
 /// Reads a table whose rows may have different numbers of fields.
 #[derive(Drop)]
 pub(crate) struct TableReader<'a> {
     reader: Reader<&'a [u8]>,
+    // room for each row
+    row: StringRecord,
+    places: RowPlaces<'a>,
 }
 
 impl<'a> TableReader<'a> {
@@ -29,28 +36,43 @@ impl<'a> TableReader<'a> {
             .flexible(true)
             .has_headers(false)
             .from_reader(alloc, text.as_bytes());
-        TableReader { reader }
-    }
-
-    /// Reads the next row, in place of the one that stands there.
-    ///
-    /// Refused for want of memory alone.
-    pub(crate) fn read(&mut self, row: &mut StringRecord) -> Result<NextRow, AllocError> {
-        match self.reader.read_record(row) {
-            Ok(true) => Ok(NextRow::Read),
-            Ok(false) => Ok(NextRow::None),
-            Err(error) if is_memory(&error) => Err(AllocError),
-            Err(_) => Ok(NextRow::Unreadable),
+        TableReader {
+            reader,
+            row: StringRecord::new(alloc),
+            places: RowPlaces::new(text),
         }
     }
 
-    /// How many bytes are read.
-    pub(crate) fn read_bytes(&self) -> u64 {
-        self.reader.position().byte()
+    /// Reads the next row, and tells where it stands.
+    pub(crate) fn next_row(&mut self) -> NextRow {
+        let from = self.reader.position().byte();
+        let read = self.reader.read_record(&mut self.row);
+        let end = self.reader.position().byte();
+        let place = self.places.next_place(from, end);
+        match read {
+            Ok(true) => NextRow::Read(place),
+            Ok(false) => NextRow::None,
+            Err(error) => match error.kind() {
+                ErrorKind::OutOfMemory => NextRow::NoMemory,
+                _ => NextRow::Unreadable(place),
+            },
+        }
+    }
+
+    /// The row that was read last.
+    pub(crate) fn row(&self) -> &StringRecord {
+        &self.row
     }
 }
 
-// Whether a table can't be read for want of memory.
-fn is_memory(error: &Error) -> bool {
-    matches!(error.kind(), ErrorKind::OutOfMemory)
+/// The first row of a table, without a field where there is no row; none where it can't be read.
+///
+/// Refused for want of memory alone.
+pub(crate) fn first_row(alloc: Global, text: &str) -> Result<Option<StringRecord>, AllocError> {
+    let mut table = TableReader::new(alloc, text);
+    match table.next_row() {
+        NextRow::Read(_) | NextRow::None => Ok(Some(table.row)),
+        NextRow::Unreadable(_) => Ok(None),
+        NextRow::NoMemory => Err(AllocError),
+    }
 }

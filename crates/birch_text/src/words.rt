@@ -123,43 +123,30 @@ impl WordReader {
     // marks are one character.
     fn push_other(&mut self, folded: &mut String, word: &str) -> Result<(), AllocError> {
         self.letters.clear();
-        // the letters before this one are there, folded
-        for letter in word.chars().default_case_fold() {
-            self.letters.push(letter)?;
-        }
+        self.letters.extend(word.chars().default_case_fold())?;
         self.apart.clear();
         extend_nfd(&mut self.apart, self.letters.as_slice())?;
+        if self.accents == Accents::Folded {
+            self.apart.retain(|letter| !is_accent(*letter));
+        }
         self.letters.clear();
-        // the letters before this one are there, without accents that don't count
-        for letter in &self.apart {
-            if self.accents == Accents::Kept || !is_accent(*letter) {
-                self.letters.push(*letter)?;
-            }
-        }
-        self.apart.clear();
-        extend_nfc(&mut self.apart, self.letters.as_slice())?;
-        // the letters before this one are added
-        for letter in &self.apart {
-            folded.push(*letter)?;
-        }
-        Ok(())
+        extend_nfc(&mut self.letters, self.apart.as_slice())?;
+        folded.extend(self.letters.iter())
     }
-}
 
-/// Adds the words of a text, folded, to others.
-///
-/// Refused for want of memory alone; then some may have been added.
-pub(crate) fn push_words(
-    alloc: Global,
-    reader: &mut WordReader,
-    words: &mut Vec<String>,
-    text: &str,
-) -> Result<(), AllocError> {
-    let mut joined = String::new(alloc);
-    reader.add_words(&mut joined, text)?;
-    // the words before this one are added
-    for word in joined.as_str().split_terminator(' ') {
-        words.push(String::from_str(alloc, word)?)?;
+    /// The words of a text, folded.
+    ///
+    /// Refused for want of memory alone.
+    pub(crate) fn words_of(
+        &mut self,
+        alloc: Global,
+        text: &str,
+    ) -> Result<Vec<String>, AllocError> {
+        let mut joined = String::new(alloc);
+        self.add_words(&mut joined, text)?;
+        let words = joined.as_str().split_terminator(' ');
+        words
+            .map(|word| String::from_str(alloc, word))
+            .try_collect(alloc)
     }
-    Ok(())
 }
