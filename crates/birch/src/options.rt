@@ -51,7 +51,7 @@ pub struct Options<'a> {
 }
 
 /// When found words are coloured.
-#[derive(Clone, Copy, Debug, PartialEq, Eq)]
+#[derive(Clone, Copy, PartialEq, Eq)]
 pub enum Color {
     /// Never.
     Never,

@@ -7,7 +7,7 @@ use std::alloc::{AllocError, AllocFailed};
 use std::io;
 
 /// Why a run ends early.
-#[derive(Debug, Drop)]
+#[derive(Drop)]
 pub enum Stop {
     /// Nobody reads what is written.
     Closed,
@@ -20,7 +20,7 @@ pub enum Stop {
 impl From<Trouble> for Stop {
     fn from(trouble: Trouble) -> Stop {
         match trouble {
-            Trouble::Stopped(error) => Stop::Failed(error),
+            Trouble::Stopped(error) => Stop::from(error),
             trouble => Stop::Kept(trouble),
         }
     }

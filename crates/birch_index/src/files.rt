@@ -11,7 +11,7 @@ use std::io::{Read, Seek, SeekFrom};
 use std::{fs, io};
 
 /// A file that is read.
-#[derive(Debug, Drop)]
+#[derive(Drop)]
 pub struct Source {
     /// Its path, as it is shown.
     pub path: String,

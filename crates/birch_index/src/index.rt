@@ -12,7 +12,7 @@ use qm_store::DocumentPlace;
 use std::alloc::Global;
 
 /// How much was read.
-#[derive(Clone, Copy, Debug)]
+#[derive(Clone, Copy)]
 pub struct Tally {
     /// Documents.
     pub documents: u64,
@@ -23,7 +23,7 @@ pub struct Tally {
 }
 
 /// The fields of a document.
-#[derive(Clone, Copy, Debug)]
+#[derive(Clone, Copy)]
 pub struct Fields {
     /// Its text.
     pub text: Field,

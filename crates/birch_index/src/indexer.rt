@@ -6,7 +6,6 @@ use crate::left_out::LeftOut;
 use crate::lengths::length_id;
 use crate::reading::Reading;
 use crate::walk::{Found, find_files, own_name};
-use anyhow::Result;
 use birch_text::{
     Accents, FIELD_END, Form, Passages, Place, Row, WordReader, add_named_words, add_passages,
     column_in,
@@ -14,7 +13,7 @@ use birch_text::{
 use qm_postings::{PlainDoc, SegmentBuilder, SegmentReader};
 use qm_schema::{QueryError, Schema};
 use qm_store::DocumentPlace;
-use std::alloc::Global;
+use std::alloc::{AllocError, Global};
 use std::mem;
 
 /// How many bytes of words a segment takes in at most and, where as many are to come, at least.
@@ -63,24 +62,21 @@ pub struct Indexer {
     // how many rows of a file were left out, and the line of the first
     left_out: u32,
     first_left_out: u32,
+    // what came of the documents so far: once one was refused, none is taken in any more
+    taken: Result<(), QueryError>,
 }
 
 impl Passages for Indexer {
-    fn add(&mut self, text: &str, place: Place) -> Result<()> {
-        let start = self.start();
-        let count = self.reader.add_words(&mut self.words, text)?;
-        self.add_cut(place, start, count)
+    fn add(&mut self, text: &str, place: Place) {
+        if self.taken.is_ok() {
+            self.taken = self.take(text, place);
+        }
     }
 
-    fn add_row(&mut self, row: &Row, place: Place) -> Result<()> {
-        let start = self.start();
-        let mut count: u32 = 0;
-        // the fields before this one are added, with so many words
-        for field in &row.fields {
-            let text = row.text.get(field.start..field.end).unwrap_or("");
-            count = count.saturating_add(self.add_field(field.name.as_str(), text)?);
+    fn add_row(&mut self, row: &Row, place: Place) {
+        if self.taken.is_ok() {
+            self.taken = self.take_row(row, place);
         }
-        self.add_cut(place, start, count)
     }
 
     fn leave_out(&mut self, line: u32) {
@@ -115,6 +111,7 @@ impl Indexer {
             },
             left_out: 0,
             first_left_out: 0,
+            taken: Ok(()),
         })
     }
 
@@ -131,8 +128,27 @@ impl Indexer {
         (self.words.len(), self.named.len())
     }
 
+    // Takes in a document.
+    fn take(&mut self, text: &str, place: Place) -> Result<(), QueryError> {
+        let start = self.start();
+        let count = self.reader.add_words(&mut self.words, text)?;
+        self.add_cut(place, start, count)
+    }
+
+    // Takes in a document of several fields.
+    fn take_row(&mut self, row: &Row, place: Place) -> Result<(), QueryError> {
+        let start = self.start();
+        let mut count: u32 = 0;
+        // the fields before this one are added, with so many words
+        for field in &row.fields {
+            let text = row.text.get(field.start..field.end).unwrap_or("");
+            count = count.saturating_add(self.add_field(field.name.as_str(), text)?);
+        }
+        self.add_cut(place, start, count)
+    }
+
     // Adds the words of a field, where it has some, and answers how many.
-    fn add_field(&mut self, name: &str, text: &str) -> Result<u32> {
+    fn add_field(&mut self, name: &str, text: &str) -> Result<u32, AllocError> {
         let first = self.words.len();
         let count = self.reader.add_words(&mut self.words, text)?;
         if count > 0 {
@@ -144,7 +160,12 @@ impl Indexer {
     }
 
     // Adds a document of so many words, which begin there, where it has some.
-    fn add_cut(&mut self, place: Place, start: (usize, usize), count: u32) -> Result<()> {
+    fn add_cut(
+        &mut self,
+        place: Place,
+        start: (usize, usize),
+        count: u32,
+    ) -> Result<(), QueryError> {
         if count == 0 {
             return Ok(());
         }
@@ -161,7 +182,7 @@ impl Indexer {
         self.tally.documents = self.tally.documents.saturating_add(1);
         self.tally.words = self.tally.words.saturating_add(u64::from(count));
         if self.words.len().saturating_add(self.named.len()) >= self.segment_bytes {
-            self.end_segment()?;
+            return self.end_segment();
         }
         Ok(())
     }
@@ -196,7 +217,7 @@ impl Indexer {
         reading: &Reading<'_>,
         path: String,
         text: Text,
-    ) -> Result<Gain> {
+    ) -> Result<Gain, QueryError> {
         let alloc = self.alloc;
         let Text {
             text,
@@ -220,7 +241,8 @@ impl Indexer {
             stamp,
         })?;
         self.left_out = 0;
-        add_passages(alloc, reading.form, text.as_str(), self)?;
+        add_passages(alloc, reading.form, column, text.as_str(), self)?;
+        self.taken?;
         let left_out = self.note_left_out(rt, reading);
         if stamp.is_none() {
             self.keep(text);
@@ -335,7 +357,7 @@ impl Indexer {
 }
 
 /// What a file gave when it was read.
-#[derive(Clone, Copy, Debug)]
+#[derive(Clone, Copy)]
 pub struct Gain {
     /// Whether it was taken in, and not left out.
     pub is_taken: bool,
@@ -378,7 +400,7 @@ impl Readings {
 }
 
 // Which column of a table is read, and of another file the first; none where its first row has no such column.
-fn column_of(alloc: Global, form: Form<'_>, text: &str) -> Result<Option<usize>> {
+fn column_of(alloc: Global, form: Form<'_>, text: &str) -> Result<Option<usize>, AllocError> {
     match form {
         Form::Csv(name) => column_in(alloc, text, name),
         _ => Ok(Some(0)),
@@ -399,12 +421,11 @@ fn left_out(rt: &HostRuntime, reading: &Reading<'_>, path: &str, why: LeftOut) -
 }
 
 /// Reads all files of the paths.
-pub fn read_all(rt: &HostRuntime, reading: &Reading<'_>) -> Result<Index> {
+pub fn read_all(rt: &HostRuntime, reading: &Reading<'_>) -> Result<Index, QueryError> {
     let files = find_files(rt, reading, &reading.paths)?;
     let mut indexer = Indexer::new(rt.alloc(), reading.accents)?;
     read_files(rt, reading, &mut indexer, files)?;
-    let readings = indexer.finish()?;
-    Ok(readings.into_index(rt.alloc())?)
+    indexer.finish()?.into_index(rt.alloc())
 }
 
 /// Takes in these files, and gives what each of them gave; none where it can't be read, which is noted.
@@ -413,7 +434,7 @@ pub fn read_files(
     reading: &Reading<'_>,
     indexer: &mut Indexer,
     files: Vec<Found>,
-) -> Result<Vec<Option<Gain>>> {
+) -> Result<Vec<Option<Gain>>, QueryError> {
     let mut gains = Vec::with_capacity(rt.alloc(), files.len())?;
     let mut left: u64 = files
         .iter()
@@ -437,7 +458,7 @@ fn read_file(
     reading: &Reading<'_>,
     indexer: &mut Indexer,
     file: Found,
-) -> Result<Option<Gain>> {
+) -> Result<Option<Gain>, QueryError> {
     let gain = match read_text(rt, reading, file.path.as_str())? {
         Contents::Text(text) => indexer.add_file(rt, reading, file.path, text)?,
         Contents::LeftOut(why) => left_out(rt, reading, file.path.as_str(), why),

@@ -7,7 +7,7 @@ use std::cell::Cell;
 use std::io;
 
 /// Why a file, or some of its rows, are not searched.
-#[derive(Clone, Copy, Debug, PartialEq, Eq)]
+#[derive(Clone, Copy, PartialEq, Eq)]
 pub enum LeftOut {
     /// It has a zero byte.
     Binary,
@@ -25,7 +25,7 @@ pub enum LeftOut {
 }
 
 /// How much is left out, by the reasons; each file is listed where that is wanted.
-#[derive(Debug, Drop)]
+#[derive(Drop)]
 pub struct Notes {
     is_listed: bool,
     binary: Cell<u64>,

@@ -35,7 +35,7 @@ pub struct Reading<'a> {
 }
 
 /// What becomes of an index that is kept of the paths.
-#[derive(Clone, Copy, Debug, PartialEq, Eq)]
+#[derive(Clone, Copy, PartialEq, Eq)]
 pub enum Keeping {
     /// It is brought up to date and used, where there is one.
     Use,

@@ -3,7 +3,6 @@
 use crate::passage::{Passages, Place};
 use crate::row::Row;
 use crate::table_reader::{NextRow, TableReader, first_row};
-use anyhow::{Result, anyhow, bail};
 use csv::StringRecord;
 use std::alloc::{AllocError, Global};
 
@@ -16,20 +15,15 @@ enum Part<'a> {
     Columns(&'a StringRecord),
 }
 
-/// Hands over the column of that name of each row. A row that has no such column, or that can't be read,
-/// is left out.
+/// Hands over a column of each row below the head. A row that has no such column, or that can't be read, is left out.
 ///
-/// Refused where the head of the table has no such column, for want of memory, and as a call of
-/// [`Passages::add`] is.
+/// Refused for want of memory alone.
 pub(crate) fn add_csv<P: Passages>(
     alloc: Global,
-    column: &str,
+    column: usize,
     text: &str,
     passages: &mut P,
-) -> Result<()> {
-    let Some(column) = column_in(alloc, text, column)? else {
-        bail!("no column is called {column}");
-    };
+) -> Result<(), AllocError> {
     let mut table = TableReader::new(alloc, text);
     add_below_head(alloc, Part::Column(column), &mut table, passages)
 }
@@ -37,28 +31,23 @@ pub(crate) fn add_csv<P: Passages>(
 /// Hands over each row of a table, whose columns are fields by the names in its first row. A row that
 /// can't be read is left out.
 ///
-/// Refused where the first row can't be read, for want of memory, and as a call of [`Passages::add_row`]
-/// is.
-pub(crate) fn add_csv_rows<P: Passages>(alloc: Global, text: &str, passages: &mut P) -> Result<()> {
-    let head = head_of(alloc, text)?;
+/// Refused for want of memory alone.
+pub(crate) fn add_csv_rows<P: Passages>(
+    alloc: Global,
+    text: &str,
+    passages: &mut P,
+) -> Result<(), AllocError> {
+    let head = first_row(alloc, text)?;
     let mut table = TableReader::new(alloc, text);
     add_below_head(alloc, Part::Columns(&head), &mut table, passages)
 }
 
-/// Which column of a table's head has that name.
+/// Which column of a table's head has that name; none also where the head can't be read.
 ///
-/// Refused where the head can't be read, and for want of memory.
-pub fn column_in(alloc: Global, text: &str, name: &str) -> Result<Option<usize>> {
-    let head = head_of(alloc, text)?;
+/// Refused for want of memory alone.
+pub fn column_in(alloc: Global, text: &str, name: &str) -> Result<Option<usize>, AllocError> {
+    let head = first_row(alloc, text)?;
     Ok(head.iter().position(|field| field == name))
-}
-
-// The first row of a table; without a field where there is no row.
-fn head_of(alloc: Global, text: &str) -> Result<StringRecord> {
-    match first_row(alloc, text)? {
-        Some(head) => Ok(head),
-        None => Err(anyhow!("its first row can't be read")),
-    }
 }
 
 // Hands over the rows below the head of a table of which nothing is read yet.
@@ -67,12 +56,12 @@ fn add_below_head<P: Passages>(
     part: Part<'_>,
     table: &mut TableReader<'_>,
     passages: &mut P,
-) -> Result<()> {
+) -> Result<(), AllocError> {
     // the rows before this one are added, or left out
     for turn in 0..u64::MAX {
         match table.next_row() {
             NextRow::None => break,
-            NextRow::NoMemory => return Err(AllocError.into()),
+            NextRow::NoMemory => return Err(AllocError),
             NextRow::Unreadable(place) => passages.leave_out(place.line),
             NextRow::Read(_) if turn == 0 => {}
             NextRow::Read(place) => add_row(alloc, part, table.row(), place, passages)?,
@@ -88,17 +77,15 @@ fn add_row<P: Passages>(
     row: &StringRecord,
     place: Place,
     passages: &mut P,
-) -> Result<()> {
+) -> Result<(), AllocError> {
     match part {
         Part::Columns(head) => passages.add_row(&csv_row(alloc, head, row)?, place),
         Part::Column(column) => match row.get(column) {
             Some(field) => passages.add(field, place),
-            None => {
-                passages.leave_out(place.line);
-                Ok(())
-            }
+            None => passages.leave_out(place.line),
         },
     }
+    Ok(())
 }
 
 // The document that a row is; a field behind those of the head has no name.
@@ -115,18 +102,14 @@ fn csv_row(alloc: Global, head: &StringRecord, record: &StringRecord) -> Result<
 ///
 /// Refused for want of memory alone. Where the file was changed meanwhile it may be empty.
 pub(crate) fn csv_text(alloc: Global, column: usize, piece: &str) -> Result<String, AllocError> {
-    match first_row(alloc, piece)? {
-        Some(row) => String::from_str(alloc, row.get(column).unwrap_or("")),
-        None => Ok(String::new(alloc)),
-    }
+    let row = first_row(alloc, piece)?;
+    String::from_str(alloc, row.get(column).unwrap_or(""))
 }
 
 /// The text of a row.
 ///
 /// Refused for want of memory alone. Where the file was changed meanwhile it may be empty.
 pub(crate) fn csv_row_text(alloc: Global, piece: &str) -> Result<String, AllocError> {
-    match first_row(alloc, piece)? {
-        Some(row) => Ok(csv_row(alloc, &row, &row)?.text),
-        None => Ok(String::new(alloc)),
-    }
+    let row = first_row(alloc, piece)?;
+    Ok(csv_row(alloc, &row, &row)?.text)
 }

@@ -2,20 +2,19 @@
 
 use crate::passage::{Passages, Place};
 use crate::row::Row;
-use anyhow::Result;
 use serde_json::Value;
 use std::alloc::{AllocError, Global};
 
 /// Hands over the text under that key of each line, or, without a key, each line that is an object: its texts,
 /// numbers and the like are fields by the keys that lead to them. Any other line is left out.
 ///
-/// Refused for want of memory, and as a call of [`Passages::add`] or [`Passages::add_row`] is.
+/// Refused for want of memory alone.
 pub(crate) fn add_json<P: Passages>(
     alloc: Global,
     key: Option<&str>,
     text: &str,
     passages: &mut P,
-) -> Result<()> {
+) -> Result<(), AllocError> {
     let mut start: usize = 0;
     let mut line: u32 = 1;
     // the lines before this one are added, or left out
@@ -37,16 +36,16 @@ fn add_json_line<P: Passages>(
     line: &str,
     place: Place,
     passages: &mut P,
-) -> Result<()> {
+) -> Result<(), AllocError> {
     let value = read_json(alloc, line)?;
     if let Some(text) = text_under(&value, key) {
-        passages.add(text, place)
+        passages.add(text, place);
     } else if key.is_none() && value.is_object() {
-        passages.add_row(&json_row(alloc, &value)?, place)
+        passages.add_row(&json_row(alloc, &value)?, place);
     } else {
         passages.leave_out(place.line);
-        Ok(())
     }
+    Ok(())
 }
 
 // The value that a line is; null, which has no text either, where it is no JSON.

@@ -1,12 +1,9 @@
 //! Documents that are lines or paragraphs.
 
 use crate::passage::{Passages, Place};
-use anyhow::Result;
 
 /// Hands over each line that isn't empty, without its end.
-///
-/// Refused as a call of [`Passages::add`] is.
-pub fn add_lines<P: Passages>(text: &str, passages: &mut P) -> Result<()> {
+pub fn add_lines<P: Passages>(text: &str, passages: &mut P) {
     let mut start: usize = 0;
     let mut line: u32 = 1;
     // the lines before this one are added
@@ -14,12 +11,11 @@ pub fn add_lines<P: Passages>(text: &str, passages: &mut P) -> Result<()> {
         let words = whole.trim_end();
         if !words.is_empty() {
             let len = words.len();
-            passages.add(words, Place { line, start, len })?;
+            passages.add(words, Place { line, start, len });
         }
         start = start.saturating_add(whole.len());
         line = line.saturating_add(1);
     }
-    Ok(())
 }
 
 // The lines of a paragraph so far.
@@ -31,9 +27,7 @@ struct Open {
 }
 
 /// Hands over each paragraph: lines that stand together, up to an empty one or to the end.
-///
-/// Refused as a call of [`Passages::add`] is.
-pub fn add_paragraphs<P: Passages>(text: &str, passages: &mut P) -> Result<()> {
+pub fn add_paragraphs<P: Passages>(text: &str, passages: &mut P) {
     let mut open: Option<Open> = None;
     let mut start: usize = 0;
     let mut line: u32 = 1;
@@ -41,7 +35,7 @@ pub fn add_paragraphs<P: Passages>(text: &str, passages: &mut P) -> Result<()> {
     for whole in text.split_inclusive('\n') {
         let words = whole.trim_end();
         if words.is_empty() {
-            close(text, open, passages)?;
+            close(text, open, passages);
             open = None;
         } else {
             let end = start.saturating_add(words.len());
@@ -50,7 +44,7 @@ pub fn add_paragraphs<P: Passages>(text: &str, passages: &mut P) -> Result<()> {
         start = start.saturating_add(whole.len());
         line = line.saturating_add(1);
     }
-    close(text, open, passages)
+    close(text, open, passages);
 }
 
 // The paragraph with one more line.
@@ -62,13 +56,12 @@ fn with_line(open: Option<Open>, line: u32, start: usize, end: usize) -> Open {
 }
 
 // Hands over a paragraph, where there is one.
-fn close<P: Passages>(text: &str, open: Option<Open>, passages: &mut P) -> Result<()> {
+fn close<P: Passages>(text: &str, open: Option<Open>, passages: &mut P) {
     let Some(Open { line, start, end }) = open else {
-        return Ok(());
+        return;
     };
-    let Some(words) = text.get(start..end) else {
-        return Ok(());
-    };
-    let len = words.len();
-    passages.add(words, Place { line, start, len })
+    if let Some(words) = text.get(start..end) {
+        let len = words.len();
+        passages.add(words, Place { line, start, len });
+    }
 }

@@ -5,7 +5,6 @@ use crate::json_lines::{add_json, json_text};
 use crate::lines::{add_lines, add_paragraphs};
 use crate::query::QueryFields;
 use crate::row::Row;
-use anyhow::Result;
 use std::alloc::{AllocError, Global};
 
 /// What of a file is a document.
@@ -46,31 +45,41 @@ pub struct Place {
     pub len: usize,
 }
 
-/// What takes the documents of a file, one after another.
+/// What takes the documents of a file, one after another. Whether it could is asked of it at the end.
 pub trait Passages {
     /// Takes a document: its text, and where it stands.
-    fn add(&mut self, text: &str, place: Place) -> Result<()>;
+    fn add(&mut self, text: &str, place: Place);
 
     /// Takes a document of several fields, and where it stands.
-    fn add_row(&mut self, row: &Row, place: Place) -> Result<()>;
+    fn add_row(&mut self, row: &Row, place: Place);
 
     /// Hears of a row that is none, as of a line that is no JSON.
     fn leave_out(&mut self, line: u32);
 }
 
-/// Hands over all documents of a file's text.
+/// Hands over all documents of a file's text. Of a table `column` says which field of a row is one, as [`column_in`]
+/// does.
 ///
-/// Refused as a call of [`Passages::add`] or [`Passages::add_row`] is, for want of memory, and where a table has no such column.
+/// Refused for want of memory alone; then some may have been handed over.
+///
+/// [`column_in`]: crate::column_in
 pub fn add_passages<P: Passages>(
     alloc: Global,
     form: Form<'_>,
+    column: usize,
     text: &str,
     passages: &mut P,
-) -> Result<()> {
+) -> Result<(), AllocError> {
     match form {
-        Form::Paragraphs => add_paragraphs(text, passages),
-        Form::Lines => add_lines(text, passages),
-        Form::Csv(column) => add_csv(alloc, column, text, passages),
+        Form::Paragraphs => {
+            add_paragraphs(text, passages);
+            Ok(())
+        }
+        Form::Lines => {
+            add_lines(text, passages);
+            Ok(())
+        }
+        Form::Csv(_) => add_csv(alloc, column, text, passages),
         Form::Json(key) => add_json(alloc, Some(key), text, passages),
         Form::CsvFields => add_csv_rows(alloc, text, passages),
         Form::JsonFields => add_json(alloc, None, text, passages),

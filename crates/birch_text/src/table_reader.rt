@@ -65,14 +65,14 @@ impl<'a> TableReader<'a> {
     }
 }
 
-/// The first row of a table, without a field where there is no row; none where it can't be read.
+/// The first row of a table; without a field where there is none that can be read.
 ///
 /// Refused for want of memory alone.
-pub(crate) fn first_row(alloc: Global, text: &str) -> Result<Option<StringRecord>, AllocError> {
+pub(crate) fn first_row(alloc: Global, text: &str) -> Result<StringRecord, AllocError> {
     let mut table = TableReader::new(alloc, text);
     match table.next_row() {
-        NextRow::Read(_) | NextRow::None => Ok(Some(table.row)),
-        NextRow::Unreadable(_) => Ok(None),
+        NextRow::Read(_) => Ok(table.row),
         NextRow::NoMemory => Err(AllocError),
+        NextRow::Unreadable(_) | NextRow::None => Ok(StringRecord::new(alloc)),
     }
 }

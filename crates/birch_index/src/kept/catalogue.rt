@@ -20,7 +20,7 @@ pub struct Catalogue {
 }
 
 /// What is known of a segment.
-#[derive(Clone, Copy, Debug)]
+#[derive(Clone, Copy)]
 pub struct Span {
     /// How many documents it has, deleted ones too.
     pub documents: u32,
@@ -31,7 +31,7 @@ pub struct Span {
 }
 
 /// What is known of a file.
-#[derive(Clone, Copy, Debug)]
+#[derive(Clone, Copy)]
 pub struct Known {
     /// Its number, which no other file had before; none where it was left out.
     pub number: Option<u32>,

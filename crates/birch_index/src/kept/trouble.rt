@@ -1,6 +1,5 @@
 //! Why an index that is kept can't be used.
 
-use anyhow::{Error, anyhow};
 use qm_folder::FolderError;
 use qm_merge::MergeError;
 use qm_schema::QueryError;
@@ -9,10 +8,10 @@ use std::alloc::{AllocError, AllocFailed};
 use std::io;
 
 /// Why an index that is kept can't be used, or made.
-#[derive(Debug, Drop)]
+#[derive(Clone, Copy)]
 pub enum Trouble {
     /// The run can't go on, as where there is no memory left.
-    Stopped(Error),
+    Stopped(QueryError),
     /// There is no folder for it, or a path has no place of its own.
     Homeless,
     /// What is read can be read once alone.
@@ -67,33 +66,25 @@ impl Trouble {
     }
 }
 
-// No memory is left.
-fn no_memory() -> Trouble {
-    Trouble::Stopped(anyhow!("out of memory"))
-}
-
-impl From<Error> for Trouble {
-    fn from(error: Error) -> Trouble {
-        Trouble::Stopped(error)
-    }
-}
+/// The trouble that no memory is left.
+const NO_MEMORY: Trouble = Trouble::Stopped(QueryError::Memory);
 
 impl From<AllocError> for Trouble {
     fn from(_error: AllocError) -> Trouble {
-        no_memory()
+        NO_MEMORY
     }
 }
 
 impl<T: Drop> From<AllocFailed<T>> for Trouble {
     fn from(_error: AllocFailed<T>) -> Trouble {
-        no_memory()
+        NO_MEMORY
     }
 }
 
 impl From<io::Error> for Trouble {
     fn from(error: io::Error) -> Trouble {
         if error.kind() == io::ErrorKind::OutOfMemory {
-            no_memory()
+            NO_MEMORY
         } else {
             Trouble::Failed
         }
@@ -103,7 +94,7 @@ impl From<io::Error> for Trouble {
 impl From<StoreError> for Trouble {
     fn from(error: StoreError) -> Trouble {
         match error {
-            StoreError::Memory => no_memory(),
+            StoreError::Memory => NO_MEMORY,
             StoreError::Failed => Trouble::Failed,
             StoreError::OtherFile => Trouble::OtherFile,
             StoreError::OtherVersion => Trouble::OtherVersion,
@@ -115,7 +106,7 @@ impl From<StoreError> for Trouble {
 impl From<FolderError> for Trouble {
     fn from(error: FolderError) -> Trouble {
         match error {
-            FolderError::Memory => no_memory(),
+            FolderError::Memory => NO_MEMORY,
             FolderError::Failed => Trouble::Failed,
         }
     }
@@ -124,7 +115,7 @@ impl From<FolderError> for Trouble {
 impl From<QueryError> for Trouble {
     fn from(error: QueryError) -> Trouble {
         match error {
-            QueryError::Memory => no_memory(),
+            QueryError::Memory => NO_MEMORY,
             _ => Trouble::Damaged,
         }
     }
@@ -133,7 +124,7 @@ impl From<QueryError> for Trouble {
 impl From<MergeError> for Trouble {
     fn from(error: MergeError) -> Trouble {
         match error {
-            MergeError::Memory => no_memory(),
+            MergeError::Memory => NO_MEMORY,
             MergeError::Unlike | MergeError::TooMany => Trouble::Damaged,
         }
     }

@@ -116,7 +116,10 @@ fn read_changed(
     files: Vec<Found>,
 ) -> Result<(Readings, Vec<Option<Gain>>), Trouble> {
     let mut indexer = Indexer::new(rt.alloc(), reading.accents)?;
-    let gains = read_files(rt, reading, &mut indexer, files)?;
+    let gains = match read_files(rt, reading, &mut indexer, files) {
+        Ok(gains) => gains,
+        Err(error) => return Err(Trouble::Stopped(error)),
+    };
     let readings = indexer.finish()?;
     Ok((readings, gains))
 }

@@ -12,8 +12,8 @@ use crate::kept::reading::{Standing, is_there, read_standing};
 use crate::kept::updating::{ToKeep, bring_up_to_date, changes_of};
 use crate::reading::{Keeping, Reading};
 use crate::walk::find_files;
-use anyhow::Result;
 use birch_text::Cleaned;
+use qm_schema::QueryError;
 use std::time::{SystemTime, UNIX_EPOCH};
 
 /// How often an index is opened that another run replaces meanwhile.
@@ -32,7 +32,7 @@ pub enum Use {
 
 /// The index that is kept of what is searched, brought up to date. What stands in its way is told, and it is made anew
 /// where that helps.
-pub fn kept_index(rt: &HostRuntime, reading: &Reading<'_>) -> Result<Use> {
+pub fn kept_index(rt: &HostRuntime, reading: &Reading<'_>) -> Result<Use, QueryError> {
     let home = match home_of(rt, reading, &reading.paths) {
         Ok(home) => home,
         Err(trouble) => return without_home(rt, reading, trouble),
@@ -47,7 +47,7 @@ pub fn kept_index(rt: &HostRuntime, reading: &Reading<'_>) -> Result<Use> {
 }
 
 // The index that is kept of a folder above what is searched, where none is of that itself.
-fn by_one_above(rt: &HostRuntime, reading: &Reading<'_>) -> Result<Use> {
+fn by_one_above(rt: &HostRuntime, reading: &Reading<'_>) -> Result<Use, QueryError> {
     match index_above(rt, reading) {
         Ok(Some(index)) => Ok(Use::Kept(index)),
         Ok(None) => {
@@ -67,7 +67,11 @@ fn by_one_above(rt: &HostRuntime, reading: &Reading<'_>) -> Result<Use> {
 }
 
 // What is done where an index has no folder: it is told where one is asked for.
-fn without_home(rt: &HostRuntime, reading: &Reading<'_>, trouble: Trouble) -> Result<Use> {
+fn without_home(
+    rt: &HostRuntime,
+    reading: &Reading<'_>,
+    trouble: Trouble,
+) -> Result<Use, QueryError> {
     match trouble {
         Trouble::Stopped(error) => Err(error),
         trouble => {
@@ -82,7 +86,11 @@ fn without_home(rt: &HostRuntime, reading: &Reading<'_>, trouble: Trouble) -> Re
 
 /// The index of what is searched after trouble with the one that is kept, which is told. One of a folder above is not
 /// made anew: it has more than what is searched.
-pub fn after_trouble(rt: &HostRuntime, reading: &Reading<'_>, trouble: Trouble) -> Result<Use> {
+pub fn after_trouble(
+    rt: &HostRuntime,
+    reading: &Reading<'_>,
+    trouble: Trouble,
+) -> Result<Use, QueryError> {
     let home = match home_of(rt, reading, &reading.paths) {
         Ok(home) => home,
         Err(other) => return without_home(rt, reading, other),
@@ -91,15 +99,20 @@ pub fn after_trouble(rt: &HostRuntime, reading: &Reading<'_>, trouble: Trouble) 
     if is_own {
         mended(rt, reading, &home, trouble)
     } else {
-        tell(rt, &home, &trouble, "no index is used");
+        tell(rt, &home, trouble, "no index is used");
         Ok(Use::Refused)
     }
 }
 
 // Tells of trouble, and makes the index anew where that helps.
-fn mended(rt: &HostRuntime, reading: &Reading<'_>, home: &Home, trouble: Trouble) -> Result<Use> {
+fn mended(
+    rt: &HostRuntime,
+    reading: &Reading<'_>,
+    home: &Home,
+    trouble: Trouble,
+) -> Result<Use, QueryError> {
     let made = if trouble.is_mended_anew() {
-        tell(rt, home, &trouble, "it is made anew");
+        tell(rt, home, trouble, "it is made anew");
         made_anew(rt, reading, home)
     } else {
         Err(trouble)
@@ -108,13 +121,13 @@ fn mended(rt: &HostRuntime, reading: &Reading<'_>, home: &Home, trouble: Trouble
         Ok(index) => Ok(Use::Kept(index)),
         Err(Trouble::Stopped(error)) => Err(error),
         Err(trouble) => {
-            tell(rt, home, &trouble, "no index is used");
+            tell(rt, home, trouble, "no index is used");
             Ok(Use::Refused)
         }
     }
 }
 
-fn tell(rt: &HostRuntime, home: &Home, trouble: &Trouble, then: &str) {
+fn tell(rt: &HostRuntime, home: &Home, trouble: Trouble, then: &str) {
     let (folder, what) = (Cleaned(home.folder.as_str()), trouble.what());
     let _ = eprintln!(rt; "birch: the index in {folder}: {what}; {then}");
 }
