@@ -13,13 +13,13 @@ use crate::shared_runs::score_in_node;
 use crate::terms_weight::TermsWeight;
 use crate::terms_weight::clause_in::ClauseIn;
 use crate::terms_weight::joined::boxed_scorer;
-use crate::terms_weight::term_cursor::TermCursor;
+use crate::terms_weight::term_cursor::scorer_of_term;
 use qm_combine::EmptyScorer;
 use qm_docset::{DocId, Score, TERMINATED};
 use qm_postings::SegmentReader;
 use qm_schema::QueryError;
 use qm_scorer::AnyScorer;
-use qm_term::{Explanation, TermScorer};
+use qm_term::Explanation;
 use std::alloc::Global;
 
 // The score of a document of the segment at a boost, and as details the clauses that match and add to it.
@@ -82,7 +82,7 @@ fn explain_in(
     ensures explained { IfOk result (λ e. IsExplained (tree_in clause.entry) boost reader.now.segment doc (value_of e)) }
     ensures refused { IfErr result (IsExplainRefusal (tree_in clause.entry) boost reader.now.segment doc) }
 {
-    let leaf: Option<TermScorer<'_>> = TermCursor::of_term(clause, reader, boost)?;
+    let leaf = scorer_of_term(clause, reader, boost)?;
     let own = clause.clause;
     explain_term(&clause, alloc, reader, leaf, &own.term, doc, boost)
 }

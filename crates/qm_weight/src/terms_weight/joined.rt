@@ -15,13 +15,12 @@ use crate::boolean_weight::{ClauseScorers, add_scorer, join_clauses};
 use crate::leaf_scorers::{IntoTree, scorer_of_leaf};
 use crate::terms_weight::TermsWeight;
 use crate::terms_weight::clause_in::ClauseIn;
-use crate::terms_weight::term_cursor::{Borrowing, TermCursor, Unscored};
+use crate::terms_weight::term_cursor::{Borrowing, TermCursor, Unscored, scorer_of_term};
 use qm_combine::Scorer;
 use qm_docset::DocSet;
 use qm_postings::SegmentReader;
 use qm_schema::QueryError;
 use qm_scorer::AnyScorer;
-use qm_term::TermScorer;
 use std::alloc::Global;
 
 // Over the terms' own scorers, which outlive the weight.
@@ -35,7 +34,14 @@ pub(super) fn boxed_scorer<'a, S: Scorer>(
     ensures scorer { IfOk result (IsScorerOf ⟦<AnyScorer<'a, S> as DocSet>⟧ (terms_tree weight.now) boost reader.now.segment) }
     ensures refused { IfErr result (IsRefusalOf (terms_tree weight.now) boost) }
 {
-    built_scorer::<TermScorer<'a>, S>(weight, alloc, reader, boost)
+    let mut scorers = ClauseScorers::none(alloc);
+    // the scorers so far are those of the clauses so far
+    for clause in &weight.clauses {
+        let term = ClauseIn { weight, clause };
+        let leaf = scorer_of_term(term, reader, boost)?;
+        add_leaf(&mut scorers, term, alloc, reader, leaf, boost)?;
+    }
+    join_clauses(weight.rule, alloc, reader, scorers)
 }
 
 // Over scorers that borrow the weight's norms.
@@ -49,7 +55,7 @@ pub(super) fn borrowed_scorer<'a>(
     ensures scorer { IfOk result (IsScorerOf ⟦<AnyScorer<'a, Borrowing<'a>> as DocSet>⟧ (terms_tree weight.now) boost reader.now.segment) }
     ensures refused { IfErr result (IsRefusalOf (terms_tree weight.now) boost) }
 {
-    built_scorer::<Borrowing<'a>, Borrowing<'a>>(weight, alloc, reader, boost)
+    own_scorer(weight, alloc, reader, boost)
 }
 
 // Over postings alone, where scoring is off.
@@ -64,19 +70,19 @@ pub(super) fn unscored_scorer<'a>(
     ensures scorer { IfOk result (IsScorerOf ⟦<AnyScorer<'a, Unscored<'a>> as DocSet>⟧ (terms_tree weight.now) boost reader.now.segment) }
     ensures refused { IfErr result (IsRefusalOf (terms_tree weight.now) boost) }
 {
-    built_scorer::<Unscored<'a>, Unscored<'a>>(weight, alloc, reader, boost)
+    own_scorer(weight, alloc, reader, boost)
 }
 
-// Over leaves of a kind, which are a tree's own or stand in boxes.
-fn built_scorer<'w, 'a, L: TermCursor<'w, 'a> + IntoTree<AnyScorer<'a, S>>, S: Scorer>(
-    weight: &'w TermsWeight,
+// The same over leaves of a kind, which are a tree's own.
+fn own_scorer<'a, L: TermCursor<'a> + IntoTree<AnyScorer<'a, L>>>(
+    weight: &'a TermsWeight,
     alloc: Global,
     reader: &'a SegmentReader,
     boost: u64,
-) -> Result<AnyScorer<'a, S>, QueryError>
+) -> Result<AnyScorer<'a, L>, QueryError>
     requires boost { boost ≤ greatest_score }
     requires scores { IsTrue weight.now.rule.scoring_enabled → L.gives_scores }
-    ensures scorer { IfOk result (IsScorerOf ⟦<AnyScorer<'a, S> as DocSet>⟧ (terms_tree weight.now) boost reader.now.segment) }
+    ensures scorer { IfOk result (IsScorerOf ⟦<AnyScorer<'a, L> as DocSet>⟧ (terms_tree weight.now) boost reader.now.segment) }
     ensures refused { IfErr result (IsRefusalOf (terms_tree weight.now) boost) }
 {
     let mut scorers = ClauseScorers::none(alloc);

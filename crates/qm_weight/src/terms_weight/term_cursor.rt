@@ -19,15 +19,14 @@ pub(super) type Borrowing<'a> = TermScorer<'a, &'a [u32; 256]>;
 // The documents of a term, for whom no score is asked.
 pub(super) type Unscored<'a> = ConstScorer<TermDocuments<'a>>;
 
-/// A cursor over the documents of a segment that hold a term of a weight. One that borrows the weight's norms lives as
-/// long as these, and one with norms of its own outlives the weight.
-pub(super) trait TermCursor<'w, 'a>: Scorer {
+/// A cursor over the documents of a segment that hold a term.
+pub(super) trait TermCursor<'a>: Scorer {
     // whether its scores are those of the term
     ghost gives_scores: { Type 0 };
 
     // The cursor of a clause's term at a boost, and none where no document holds the term.
     fn of_term(
-        clause: ClauseIn<'w>,
+        clause: ClauseIn<'a>,
         reader: &'a SegmentReader,
         boost: u64,
     ) -> Result<Option<Self>, QueryError>
@@ -37,7 +36,7 @@ pub(super) trait TermCursor<'w, 'a>: Scorer {
         ensures refused { IfErr result (IsRefusalOf (tree_in clause.entry) boost) };
 }
 
-impl<'a> TermCursor<'a, 'a> for Borrowing<'a> {
+impl<'a> TermCursor<'a> for Borrowing<'a> {
     ghost gives_scores = { Unit {0} };
 
     fn of_term(
@@ -51,7 +50,7 @@ impl<'a> TermCursor<'a, 'a> for Borrowing<'a> {
     }
 }
 
-impl<'a> TermCursor<'a, 'a> for Unscored<'a> {
+impl<'a> TermCursor<'a> for Unscored<'a> {
     ghost gives_scores = { ⊥ };
 
     fn of_term(
@@ -68,16 +67,17 @@ impl<'a> TermCursor<'a, 'a> for Unscored<'a> {
     }
 }
 
-impl<'w, 'a> TermCursor<'w, 'a> for TermScorer<'a> {
-    ghost gives_scores = { Unit {0} };
-
-    fn of_term(
-        clause: ClauseIn<'w>,
-        reader: &'a SegmentReader,
-        boost: u64,
-    ) -> Result<Option<TermScorer<'a>>, QueryError> {
-        let weight = clause.weight_at(boost)?;
-        let option = clause.clause.index_record_option;
-        Ok(TermScorer::for_term(reader, &clause.clause.term, option, &weight.owned()))
-    }
+// The term's own scorer at a boost, with norms of its own: it outlives the weight.
+pub(super) fn scorer_of_term<'a>(
+    clause: ClauseIn<'_>,
+    reader: &'a SegmentReader,
+    boost: u64,
+) -> Result<Option<TermScorer<'a>>, QueryError>
+    requires boost { boost ≤ greatest_score }
+    ensures scorer { IfOk result (IsLeafOf ⟦<TermScorer<'a> as DocSet>⟧ (tree_in clause.entry) boost reader.now.segment) }
+    ensures refused { IfErr result (IsRefusalOf (tree_in clause.entry) boost) }
+{
+    let weight = clause.weight_at(boost)?.owned();
+    let option = clause.clause.index_record_option;
+    Ok(TermScorer::for_term(reader, &clause.clause.term, option, &weight))
 }

@@ -83,7 +83,7 @@ pub(super) fn unscored_disjunction<'a>(
 
 // The union of the terms' cursors at a boost, which is a scorer of the weight. Where scoring is on the cursors give
 // scores, and the combiner is that of the weight.
-pub(super) fn union_of_terms<'a, T: TermCursor<'a, 'a>, C: ScoreCombiner>(
+pub(super) fn union_of_terms<'a, T: TermCursor<'a>, C: ScoreCombiner>(
     weight: &'a TermsWeight,
     alloc: Global,
     reader: &'a SegmentReader,
@@ -103,7 +103,7 @@ pub(super) fn union_of_terms<'a, T: TermCursor<'a, 'a>, C: ScoreCombiner>(
 
 // What enough of the terms' cursors have at a boost, which is a scorer of the weight. Where scoring is on the cursors
 // give scores, and the combiner is that of the weight.
-pub(super) fn disjunction_of_terms<'a, T: TermCursor<'a, 'a>, C: ScoreCombiner>(
+pub(super) fn disjunction_of_terms<'a, T: TermCursor<'a>, C: ScoreCombiner>(
     weight: &'a TermsWeight,
     alloc: Global,
     reader: &'a SegmentReader,
@@ -124,7 +124,7 @@ pub(super) fn disjunction_of_terms<'a, T: TermCursor<'a, 'a>, C: ScoreCombiner>(
 }
 
 // The cursors of the terms that are there, in order.
-pub(super) fn cursors_of_terms<'a, T: TermCursor<'a, 'a>>(
+pub(super) fn cursors_of_terms<'a, T: TermCursor<'a>>(
     weight: &'a TermsWeight,
     alloc: Global,
     reader: &'a SegmentReader,

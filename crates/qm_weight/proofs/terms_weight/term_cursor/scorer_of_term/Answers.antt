@@ -2,13 +2,13 @@
 use Rattle.std.proofs.Common.{◌∙◌}
 use Rattle.qm_weight.specs.Weights.{shared_weighing}
 use Rattle.qm_weight.proofs.Leaves.{leaf-term, weighed_score-shared}
-use Rattle.qm_weight.proofs.terms_weight.term_cursor.TermScorerTermCursor.of_term.Goals as goal
+use Rattle.qm_weight.proofs.terms_weight.term_cursor.scorer_of_term.Goals as goal
 
-pub returns-clause-cursor : goal.returns-clause-cursor
-returns-clause-cursor c =
+pub returns-clause-scorer : goal.returns-clause-scorer
+returns-clause-scorer c =
     let w = c.args.clause.weight.now in
     let own = c.args.clause.clause.now in
     let made = c.for_term.ensures in
     leaf-term _ c.args.reader.now.segment own.index_record_option own.term (shared_weighing w.rule.scoring_enabled w.norms own.weight) c.args.boost _
-    (weighed_score-shared w.rule.scoring_enabled w.norms own.weight c.args.boost _ (c.owned.ensures ∙ c.in_ok-weight.ensures.weighing)) _
+    (weighed_score-shared w.rule.scoring_enabled w.norms own.weight c.args.boost _ (c.owned-weight.ensures ∙ c.in_ok-weight_at.ensures.weighing)) _
     made.present.1 made.lists

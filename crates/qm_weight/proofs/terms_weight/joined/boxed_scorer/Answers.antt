@@ -9,9 +9,9 @@ use Rattle.qm_weight.specs.TermUnions.{clauses_in}
 use Rattle.qm_weight.specs.Weights.{clause_occur, clause_tree, combiner_of, term_clauses, terms_tree}
 use Rattle.qm_weight.proofs.ClauseSteps.{clause_scorers-step, placed-of, refusal-boolean, refusal-clause}
 use Rattle.qm_weight.proofs.Leaves.{if_err, if_ok}
-use Rattle.qm_weight.proofs.terms_weight.joined.built_scorer.Goals as goal
-use Rattle.qm_weight.proofs.terms_weight.joined.built_scorer.Goals.{After-loop-clause}
-use Rattle.qm_weight.proofs.terms_weight.joined.built_scorer.Given.{Over}
+use Rattle.qm_weight.proofs.terms_weight.joined.boxed_scorer.Goals as goal
+use Rattle.qm_weight.proofs.terms_weight.joined.boxed_scorer.Goals.{After-loop-clause}
+use Rattle.qm_weight.proofs.terms_weight.joined.boxed_scorer.Given.{Over}
 
 pub loop-clause-init : goal.loop-clause-init
 loop-clause-init g c = c.none-scorers.ensures c.args.boost c.args.reader.now.segment

@@ -2,7 +2,7 @@ use Rattle.std.proofs.Common.{take}
 use Rattle.qm_scorer.specs.contracts.any_scorer.AnyScorerDocSet.TheImpl.{ghosts}
 use Rattle.qm_weight.specs.ClauseScorers.{AreClauseScorers}
 use Rattle.qm_weight.specs.Weights.{term_clauses}
-use Rattle.qm_weight.proofs.terms_weight.joined.built_scorer.Given as goal
+use Rattle.qm_weight.proofs.terms_weight.joined.boxed_scorer.Given as goal
 
 abbrev pub invariant-loop-clause : goal.invariant-loop-clause
 invariant-loop-clause g l =
