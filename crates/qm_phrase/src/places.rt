@@ -11,7 +11,7 @@ use qm_postings::Postings;
 use std::alloc::{AllocError, Global};
 
 /// The positions of one term in the document looked at, and the row that goes through them.
-#[derive(Debug, Drop)]
+#[derive(Drop)]
 pub(crate) struct Places {
     pub(crate) row: Row,
     pub(crate) positions: Vec<u32>,

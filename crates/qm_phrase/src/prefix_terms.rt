@@ -16,7 +16,7 @@ use std::alloc::{AllocError, Global};
 
 /// How many places of a document the full terms have in common, and how many of these the terms that
 /// begin with the prefix have, all together; each held at 4294967295.
-#[derive(Clone, Copy, Debug)]
+#[derive(Clone, Copy)]
 pub(crate) struct PrefixCounts {
     pub(crate) prefix: u32,
     pub(crate) full: u32,

@@ -10,7 +10,7 @@ pub(crate) const ALL_PLACES: u64 = 8589934592;
 
 /// How far the positions of a term in the document looked at are shifted, and how many of them a count
 /// has passed. The shift is added where places are compared, in 64 bits. The positions stand beside it.
-#[derive(Debug, Drop)]
+#[derive(Drop)]
 pub(crate) struct Row {
     pub(crate) shift: u32,
     pub(crate) passed: usize,

@@ -8,7 +8,7 @@ use crate::row::{ALL_PLACES, Row};
 
 /// A term of a phrase: the number of its member, whose postings are the term's, and the row of its
 /// places. Terms that are equal share a member, and so its positions.
-#[derive(Debug, Drop)]
+#[derive(Drop)]
 pub(crate) struct TermRow {
     pub(crate) member: usize,
     pub(crate) row: Row,

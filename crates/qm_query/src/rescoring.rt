@@ -19,7 +19,7 @@ use qm_weight::{AnyWeight, BoostWeight, ConstWeight};
 use std::alloc::Global;
 
 /// How the scores of a query are changed.
-#[derive(Clone, Copy, Debug)]
+#[derive(Clone, Copy)]
 pub(crate) enum Rescoring {
     /// Multiplied.
     Boost(Factor),

@@ -23,7 +23,7 @@ use qm_schema::QueryError;
 use std::alloc::{AllocError, Global};
 
 /// What a line is answered.
-#[derive(Clone, Copy, Debug, PartialEq, Eq)]
+#[derive(Clone, Copy, PartialEq, Eq)]
 pub(crate) enum Answer {
     /// Nothing is written: the line had no word, or it added something.
     Silence,

@@ -12,7 +12,7 @@ use std::cmp::Ordering;
 
 /// A document and its score. The worst of some is the greatest, so that it stands at the top of a heap:
 /// the one that scores least, and of those with one score the last by address.
-#[derive(Clone, Copy, Debug)]
+#[derive(Clone, Copy)]
 pub(super) struct KeptDocument {
     pub(super) score: Score,
     pub(super) address: DocAddress,
