@@ -6,6 +6,7 @@ mod answer;
 mod beginnings;
 mod explain;
 mod listing;
+mod offered;
 mod options;
 mod run;
 mod searched;

@@ -1,7 +1,8 @@
 //! A run of the command.
 
 use crate::answer::{answer, understand};
-use crate::options::{Color, Options, command, read_options};
+use crate::offered::command;
+use crate::options::{Color, Options, read_options};
 use crate::stats::{Stopwatch, tell_read};
 use crate::stop::Stop;
 use anyhow::anyhow;
