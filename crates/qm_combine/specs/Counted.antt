@@ -1,6 +1,6 @@
 -- A combiner that counts the scores beside what another combiner makes of them.
-use Rattle.std.specs.Prelude.{◌≡◌, ℕ, ◌+◌, ◌≤◌, List, [], ◌∷◌, fold, length, min}
-use Rattle.std.proofs.Common.{arith, refl}
+use Rattle.std.specs.Prelude.{◌≡◌, ℕ, ◌+◌, List, [], ◌∷◌, fold, min}
+use Rattle.std.proofs.Common.{refl}
 use Rattle.qm_combine.specs.declared.counted.Counted.{Counted}
 
 -- as far as it counts
@@ -27,9 +27,3 @@ module _ {C : Type 0} where
   pub counted-fold : (step : C → ℕ → C) (c : Counted C) (xs : List ℕ) → (fold (counted_step step) c xs).combiner ≡ fold step c.combiner xs
   counted-fold step c [] = refl
   counted-fold step c (x ∷ xs) = counted-fold step (counted_step step c x) xs
-
-  -- It counts them.
-  pub counted-count : (step : C → ℕ → C) (c : Counted C) (xs : List ℕ) → c.count ≤ most_counted
-      → (fold (counted_step step) c xs).count ≡ min (c.count + length xs) most_counted
-  counted-count step c [] most = omega arith
-  counted-count step c (x ∷ xs) most = omega (arith, counted-count step (counted_step step c x) xs (omega arith))

@@ -1,10 +1,15 @@
 -- A state counts the scores that it took.
-use Rattle.std.proofs.Common.{◌≡◌, ℕ, ◌≤◌, ◌&&◌, nat_le, length, min, ap, ap₂, arith, sym, Bool, ◌∙◌, inl, inr}
+use Rattle.std.proofs.Common.{◌≡◌, ℕ, ◌+◌, ◌≤◌, ◌&&◌, List, [], ◌∷◌, fold, nat_le, length, min, ap, ap₂, arith, sym, Bool, ◌∙◌, inl, inr}
 use Rattle.std.proofs.lemmas.Bool.{and_right, cases_lt, le-leb, lt-leb}
-use Rattle.qm_combine.specs.Counted.{counted-count, most_counted}
+use Rattle.qm_combine.specs.Counted.{counted_step, most_counted}
 use Rattle.qm_combine.specs.Window.{window_combiner, window_state}
 use Rattle.qm_combine.specs.declared.counted.Counted.{Counted}
 use Rattle.qm_combine.proofs.union.least_members.AtLeastLeastMembersCounted.keep_enough.Goals as goal
+
+counted-count : {C : Type 0} (step : C → ℕ → C) (c : Counted C) (xs : List ℕ) → c.count ≤ most_counted
+    → (fold (counted_step step) c xs).count ≡ min (c.count + length xs) most_counted
+counted-count step c [] most = omega arith
+counted-count step c (x ∷ xs) most = omega (arith, counted-count step (counted_step step c x) xs (omega arith))
 
 -- what counts up to more than is asked tells as much as the number itself
 enough : (m n most : ℕ) → 1 ≤ m → m ≤ most → (nat_le 1 n && nat_le m (min n most)) ≡ nat_le m n
