@@ -10,7 +10,7 @@ use Rattle.qm_schema.specs.Term.{TermKey}
 use Rattle.qm_postings.specs.Kept.{posted_together}
 use Rattle.qm_postings.specs.Rows.{ArePlaces, IsRow, Row, posted}
 use Rattle.qm_postings.specs.Segment.{AscendFrom, keeps_positions}
-use Rattle.qm_postings.specs.StoredFacts.{drop-nil, take-nil}
+use Rattle.qm_postings.proofs.ArrayEntries.{drop-nil, take-nil}
 use Rattle.qm_postings.proofs.FoundTerms.{found_in}
 use Rattle.qm_merge.specs.AliveRows.{documents_left, frequencies_left, number_in, positions_left, row_left, rows_left}
 use Rattle.qm_merge.proofs.AlivePlaces.{rank, rank-next, rank-rises}

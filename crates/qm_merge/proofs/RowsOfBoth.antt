@@ -12,7 +12,7 @@ use Rattle.qm_schema.specs.Term.{TermKey, term_cmp}
 use Rattle.qm_postings.specs.Kept.{Posted, held, posted_together}
 use Rattle.qm_postings.specs.Rows.{ArePlaces, IsRow, Row, all_posted, posted}
 use Rattle.qm_postings.specs.Segment.{AscendFrom, keeps_positions}
-use Rattle.qm_postings.specs.StoredFacts.{drop-nil}
+use Rattle.qm_postings.proofs.ArrayEntries.{drop-nil}
 use Rattle.qm_postings.proofs.FoundTerms.{found_in}
 use Rattle.qm_merge.proofs.FoundInRows.{found_among}
 use Rattle.qm_merge.specs.JoinedRows.{row_behind, row_of_both}

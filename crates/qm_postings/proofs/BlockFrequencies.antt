@@ -13,7 +13,7 @@ use Rattle.qm_postings.specs.Blocks.{Block, block_at, block_read, no_block}
 use Rattle.qm_postings.specs.Kept.{all_infos, block_info, block_count, least, least_id, piece, greatest}
 use Rattle.qm_postings.specs.SegmentPostings.{IsPostings, postings_blocks, postings_left}
 use Rattle.qm_postings.specs.Stored.{frequency_read}
-use Rattle.qm_postings.specs.StoredFacts.{documents-stored, length-stored}
+use Rattle.qm_postings.proofs.ArrayEntries.{documents-stored, length-stored}
 use Rattle.qm_postings.specs.TermArrays.{AreArrays, stored}
 use Rattle.qm_postings.specs.declared.freq_reading_option.FreqReadingOption.{FreqReadingOption}
 use Rattle.qm_postings.specs.declared.freq_reading_option.FreqReadingOption.TheVariants.{NoFreq, SkipFreq, ReadFreq}

@@ -20,7 +20,7 @@ use Rattle.qm_postings.specs.Reading.{reader_of_arrays, reader_of_rows}
 use Rattle.qm_postings.specs.Rows.{ArePlaces, AreRows, IsRow, Row, all_posted, posted, row_in, rows_in}
 use Rattle.qm_postings.specs.Segment.{AscendFrom, is_indexed, keeps_positions, without}
 use Rattle.qm_postings.specs.Stored.{stored_entries}
-use Rattle.qm_postings.specs.StoredFacts.{All-no_positions, stored-cons, stored-nil}
+use Rattle.qm_postings.proofs.ArrayEntries.{All-no_positions, stored-cons, stored-nil}
 use Rattle.qm_postings.specs.declared.freq_reading_option.FreqReadingOption.{FreqReadingOption}
 use Rattle.qm_postings.proofs.DeletedDocuments.{none-left_out}
 use Rattle.qm_postings.proofs.NumberedPostings.{ascend-documents}

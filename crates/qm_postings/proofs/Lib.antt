@@ -35,3 +35,4 @@ pub mod Unplaced
 pub mod TermHeads
 pub mod FrequencyParts
 pub mod ShortTerms
+pub mod ArrayEntries

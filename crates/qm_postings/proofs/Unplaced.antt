@@ -20,7 +20,7 @@ use Rattle.qm_postings.specs.Restriction.{unplaced, unplaced_document, unplaced_
 use Rattle.qm_postings.specs.Rows.{Row, all_posted, posted, segment_of_rows}
 use Rattle.qm_postings.specs.Segment.{Document, Occurrences, Segment, field_option, frequency, holds, keeps_lengths, length_id, no_document, occurrences}
 use Rattle.qm_postings.specs.Segment.{reads_freq}
-use Rattle.qm_postings.specs.StoredFacts.{drop-nil, take-nil}
+use Rattle.qm_postings.proofs.ArrayEntries.{drop-nil, take-nil}
 use Rattle.qm_postings.proofs.FoundTerms.{found_in}
 
 abbrev unplaced_entry : TermKey × Occurrences → TermKey × Occurrences

@@ -8,7 +8,7 @@ use Rattle.std.proofs.lemmas.List.Elements.{All-head, All-tail}
 use Rattle.qm_schema.specs.Schema.{FieldFacts}
 use Rattle.qm_postings.specs.Rows.{ArePlaces, IsRow, Row}
 use Rattle.qm_postings.specs.Segment.{AscendFrom, keeps_positions}
-use Rattle.qm_postings.specs.StoredFacts.{drop-nil, take-nil}
+use Rattle.qm_postings.proofs.ArrayEntries.{drop-nil, take-nil}
 use Rattle.qm_postings.proofs.SegmentGrowth.{differ}
 use Rattle.qm_store.specs.Numbers.{number_at, number_bytes, spelled}
 use Rattle.qm_store.specs.RowBytes.{places_part, postings_part, Postings, ended, followed_by, gaps, gaps_at, in_front_of_all, in_front_of_both, placed_at, places_at, places_bytes}

@@ -15,7 +15,7 @@ use Rattle.qm_postings.specs.Blocks.{Block as PostingsBlock, block_at, no_block}
 use Rattle.qm_postings.specs.FieldNorms.{is_made_constant, norm_ids}
 use Rattle.qm_postings.specs.Frequencies.{listed}
 use Rattle.qm_postings.specs.SegmentPostings.{IsPostings, looked_block, looked_number, postings_blocks, postings_left}
-use Rattle.qm_postings.specs.StoredFacts.{length-stored}
+use Rattle.qm_postings.proofs.ArrayEntries.{length-stored}
 use Rattle.qm_postings.specs.TermArrays.{stored}
 use Rattle.qm_postings.specs.declared.segment_postings.SegmentPostings.{SegmentPostings}
 use Rattle.qm_term.specs.Bm25.{bm25}

@@ -18,7 +18,7 @@ use Rattle.qm_postings.specs.Segment.{postings_of, reads_positions, without}
 use Rattle.qm_postings.specs.Positions.{ArePositions}
 use Rattle.qm_postings.specs.SegmentPostings.{postings_blocks, postings_left}
 use Rattle.qm_postings.specs.Stored.{stored_entries}
-use Rattle.qm_postings.specs.StoredFacts.{documents-stored}
+use Rattle.qm_postings.proofs.ArrayEntries.{documents-stored}
 use Rattle.qm_postings.proofs.BlocksOfTerms.{infos_at, infos_inside, least_ids-column, starts_each, term_blocks-place, term_blocks-without}
 use Rattle.qm_postings.proofs.TermPlaces.{greatest_frequency-place, placed_term, placed_within, postings_of-place}
 use Rattle.qm_postings.proofs.TermPositions.{asked_ascend, asked_enough, asked_read, read_counted, room-greatest}

@@ -2,7 +2,7 @@
 use Rattle.qm_postings.specs.Frequencies.{listed}
 use Rattle.std.proofs.Common.{◌≡◌, ◌<◌, ◌+◌, ◌-◌, length, get_or, take, drop, ap, refl, sym, arith, ◌∙◌, rules}
 use Rattle.qm_postings.specs.SegmentPostings.{looked_block}
-use Rattle.qm_postings.specs.StoredFacts.{no_positions, positions_at}
+use Rattle.qm_postings.proofs.ArrayEntries.{no_positions, positions_at}
 use Rattle.qm_postings.proofs.PostingsLeft.{end_inside, inside}
 use Rattle.qm_postings.proofs.segment_postings.SegmentPostings.positions_here.Goals as goal
 

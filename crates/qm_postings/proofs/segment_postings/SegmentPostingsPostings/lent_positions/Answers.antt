@@ -1,7 +1,7 @@
 -- As many positions as the frequency says, from where those of the marked posting begin.
 use Rattle.std.proofs.Common.{◌≡◌, ◌<◌, ◌+◌, ◌-◌, length, sum, get_or, take, drop, ap, sym, arith, ◌∙◌, rules}
 use Rattle.qm_postings.specs.Frequencies.{listed}
-use Rattle.qm_postings.specs.StoredFacts.{positions_at}
+use Rattle.qm_postings.proofs.ArrayEntries.{positions_at}
 use Rattle.qm_postings.proofs.PostingsLeft.{end_inside, inside}
 use Rattle.qm_postings.proofs.segment_postings.SegmentPostingsPostings.lent_positions.Goals as goal
 
