@@ -8,3 +8,4 @@ pub mod SearchFacts
 pub mod RankingFacts
 pub mod KeptOrder
 pub mod TopDocsSteps
+pub mod ScoringTrees

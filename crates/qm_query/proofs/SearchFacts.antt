@@ -27,7 +27,7 @@ use Rattle.qm_query.specs.Query.{Query, Subqueries, Disjuncts, all, none, term, 
 use Rattle.qm_query.specs.Query.{subquery, no_disjunct, disjunct}
 use Rattle.qm_query.specs.QueryScorers.{FitsAtOne, QueryFits}
 use Rattle.qm_query.specs.QueryTree.{clause_trees, disjunct_trees, if_scoring, leaf_weighing, query_tree, read_option}
-use Rattle.qm_query.specs.ScoringTrees.{scoring_if_enabled}
+use Rattle.qm_query.proofs.ScoringTrees.{scoring_if_enabled}
 use Rattle.qm_query.specs.Searches.{IsCountOf, IsCountRefusal, IsExplainedIn, IsExplanationOf, IsUnexplained, IsUnexplainedIn, count_in, scoring_by, with_scores}
 use Rattle.qm_query.specs.Searches.{without_scores}
 use Rattle.qm_query.specs.TopDocs.{AreBestOf, AreTopDocsBy, FitsFor, IsRefusalFor, IsScoredFor, IsScoredIn, IsTopDocsRefusalBy, matching_in}

@@ -12,7 +12,6 @@ pub mod Rescoring
 pub mod WeightRefusals
 pub mod QueryScorers
 pub mod QueryTerms
-pub mod ScoringTrees
 pub mod Searches
 pub mod Ranking
 pub mod KeptDocument

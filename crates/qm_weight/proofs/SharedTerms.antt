@@ -1,7 +1,8 @@
--- Numbers of postings, as one more term of a phrase gets its own or another's.
+-- The postings of a phrase's terms, which have numbers while they are read, so that equal terms share them: what
+-- becomes of the numbers as one more term gets its own or another's.
 use Rattle.std.proofs.Common.{◌≡◌, ℕ, ◌<◌, ◌≤◌, Bool, true, [], ◌∷◌, ◌++◌, Option, None, Some, length, get_or, refl, ap, arith, subst, sym, ◌∙◌}
 use Rattle.std.proofs.Common.{inl, inr}
-use Rattle.std.specs.Prelude.{IfSome, slice_get, unwrap_or}
+use Rattle.std.specs.Prelude.{IfSome, slice_get, slice_index_or, unwrap_or}
 use Rattle.std.specs.HashMap.{HashMap, Updates, get}
 use Rattle.std.proofs.Math.Seq.{get_or-append_seam}
 use Rattle.std.proofs.lemmas.Bool.{cases_Bool}
@@ -17,7 +18,16 @@ use Rattle.qm_postings.specs.declared.segment_postings.SegmentPostings.{SegmentP
 use Rattle.qm_schema.specs.Term.{TermKey}
 use Rattle.qm_schema.specs.declared.schema.option.IndexRecordOption.TheVariants.{WithFreqsAndPositions}
 use Rattle.qm_scorer.specs.Tree.{postings_cursors}
-use Rattle.qm_weight.specs.SharedTerms.{AreTermNumbers, IsTermNumber}
+
+-- the postings of this number are those of the term that an info is of
+pub record IsTermNumber (reader : Reader) (given : PhraseTerms SegmentPostings) (info : TermInfo) (number : ℕ) : Type 0 where
+  pub within : number < length (members_of given)
+  pub entries : (t : TermKey) → slice_get reader.terms info.ordinal ≡ Some t →
+      slice_index_or (lists postings_cursors (members_of given)) number [] ≡ postings_of reader.segment WithFreqsAndPositions t
+
+-- so is each number in a map
+abbrev pub AreTermNumbers : {S : Type 0} → (TermInfo → TermInfo → Bool) → Reader → PhraseTerms SegmentPostings → HashMap TermInfo ℕ S → Type 0
+AreTermNumbers eq reader given numbers = (info : TermInfo) → IfSome (get eq numbers info) (IsTermNumber reader given info)
 
 weaker : (P Q : ℕ → Type 0) (o : Option ℕ) → ((k : ℕ) → P k → Q k) → IfSome o P → IfSome o Q
 weaker P Q None imp h = h

@@ -1,5 +1,5 @@
 -- Scoring is on in the whole tree, or it is off.
-use Rattle.qm_query.specs.ScoringTrees.{scoring_if_enabled}
+use Rattle.qm_query.proofs.ScoringTrees.{scoring_if_enabled}
 use Rattle.qm_query.proofs.scorers.query_scorer.Goals as goal
 
 pub returns-in_err-weight-clause-scoring : goal.returns-in_err-weight-clause-scoring

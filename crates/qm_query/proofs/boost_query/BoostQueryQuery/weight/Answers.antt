@@ -1,5 +1,5 @@
 use Rattle.qm_query.specs.Query.{boost_of}
-use Rattle.qm_query.specs.ScoringTrees.{scores-made}
+use Rattle.qm_query.proofs.ScoringTrees.{scores-made}
 use Rattle.qm_query.proofs.boost_query.BoostQueryQuery.weight.Goals as goal
 
 pub returns-clause-scoring : goal.returns-clause-scoring

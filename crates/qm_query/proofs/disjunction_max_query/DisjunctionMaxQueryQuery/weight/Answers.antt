@@ -1,5 +1,5 @@
 use Rattle.qm_query.specs.Query.{disjunction_max_of}
-use Rattle.qm_query.specs.ScoringTrees.{scores-made}
+use Rattle.qm_query.proofs.ScoringTrees.{scores-made}
 use Rattle.qm_query.proofs.disjunction_max_query.DisjunctionMaxQueryQuery.weight.Goals as goal
 
 pub returns-clause-scoring : goal.returns-clause-scoring
