@@ -190,7 +190,15 @@ fn gather_members<S: Scorer, C: ScoreCombiner>(
         return Err(Fault::NotUnderstood);
     };
     if word(block.words, 0) == "enough" {
-        return play_enough(alloc, desk, members, combiner, minimum, at, block, report);
+        let Some(num_docs) = number(block.words, at) else {
+            return Err(Fault::NotUnderstood);
+        };
+        if minimum == 0 {
+            return Err(Fault::NotAllowed);
+        }
+        block.memory.begin(alloc);
+        let built = BufferedDisjunction::build(alloc, members, combiner, minimum, num_docs);
+        return play_new(alloc, desk, built, block, report);
     }
     if minimum < 2 {
         return Err(Fault::NotAllowed);
@@ -200,34 +208,6 @@ fn gather_members<S: Scorer, C: ScoreCombiner>(
     } else {
         play_foretold(alloc, desk, members, combiner, minimum, block, report)
     }
-}
-
-fn play_enough<S: Scorer, C: ScoreCombiner>(
-    alloc: Global,
-    desk: &Desk<'_>,
-    members: Vec<S>,
-    combiner: C,
-    minimum: usize,
-    at: usize,
-    block: Block<'_>,
-    report: &mut Report,
-) -> Done
-    requires { ArePlaced S.DocSet members.items }
-{
-    let Some(num_docs) = number(block.words, at) else {
-        return Err(Fault::NotUnderstood);
-    };
-    if minimum == 0 {
-        return Err(Fault::NotAllowed);
-    }
-    block.memory.begin(alloc);
-    play_new(
-        alloc,
-        desk,
-        BufferedDisjunction::build(alloc, members, combiner, minimum, num_docs),
-        block,
-        report,
-    )
 }
 
 fn play_foretold<S: Scorer, C: ScoreCombiner>(

@@ -16,7 +16,7 @@ use Rattle.qm_term.proofs.WandBounds.{end_at_le, low_le, same_block}
 use Rattle.qm_term.proofs.WandPlain.{above_from_test, below_from_test}
 use Rattle.qm_docset.specs.Entry.{AreEntries, Entry, Limits, below, from, head_document}
 use Rattle.qm_docset.specs.EntryFacts.{AreEntries-from, AreEntries-low, from-all, from-from, from-keep, from-nil, from-reached, from-skip}
-use Rattle.qm_term.proofs.WandScores.{below-from}
+use Rattle.qm_term.proofs.WandScores.{Each, below-from}
 use Rattle.qm_docset.specs.BelowFacts.{below-keep, below-nil, below-none, below-skip}
 
 -- ---- a bound at a threshold
@@ -61,6 +61,12 @@ passed-scored bs th ths e l above =
     let none : here bs th e l ≡ 0 = cond_both (ends_block bs e l) (one_if_low th (bound_at e.document bs)) 0 (λ k. k ≡ 0)
     (λ _. high_none th (bound_at e.document bs) above) (λ _. refl) in
     omega (arith, passed-cons bs th ths e l, none)
+
+-- and none where all are scored
+pub passed-high : (bs : List Block) (th : ℤ) (l m : List Entry) (ths : List ℤ) → Each (λ e. th <ℤ pos (bound_at e.document bs)) l →
+    blocks_passed bs (replicate (length l) th ++ ths) (l ++ m) ≡ blocks_passed bs ths m
+passed-high bs th [] m ths h = refl
+passed-high bs th (e ∷ l) m ths h = passed-scored bs th (replicate (length l) th ++ ths) e (l ++ m) h.0 ∙ passed-high bs th l m ths h.1
 
 -- no more than thresholds
 passed_few : (bs : List Block) (ths : List ℤ) (l : List Entry) → blocks_passed bs ths l ≤ length ths

@@ -34,6 +34,10 @@ AreCovered ids es = All (λ e. e.document < length ids) es
 abbrev pub scored_left : {N : Type 0} {G : NormGhosts N} → TermScorer N G → List Entry
 scored_left s = scored_postings (weighing s.similarity_weight) (norm_ids s.fieldnorm_reader) (postings_left s.postings)
 
+-- what each of its scores is a product of, beside a share of its weight
+abbrev pub boost_of : {N : Type 0} {G : NormGhosts N} → TermScorer N G → ℕ
+boost_of s = (weighing s.similarity_weight).boost
+
 -- its limits
 abbrev pub scored_limits : {N : Type 0} {G : NormGhosts N} → TermScorer N G → Limits
 scored_limits s = limited (bm25_bound (weighing s.similarity_weight)) (postings_limits s.postings)
@@ -63,11 +67,12 @@ scored_by weight reader = scored_block (weighing weight) (is_made_constant reade
 unfoldable pub scored_blocks : {N : Type 0} {G : NormGhosts N} → TermScorer N G → List Block
 scored_blocks s = map (scored_by s.similarity_weight s.fieldnorm_reader) (postings_blocks s.postings)
 
--- a scorer has the length ids of another, reads frequencies as it does, and bounds the same blocks alike
+-- a scorer has the length ids of another and its boost, reads frequencies as it does, and bounds the same blocks alike
 pub record ScoresAs {N : Type 0} {G : NormGhosts N} (s t : TermScorer N G) : Type 0 where
   pub ids : scored_ids t ≡ scored_ids s
   pub postings : ReadsAs s.postings t.postings
   pub blocks : scored_blocks t ≡ scored_blocks s
+  pub boost : boost_of t ≡ boost_of s
 
 -- no document has a length id below the least of its block
 abbrev pub AreInBlocks : List ℕ → List PostingsBlock → List Entry → Type 0

@@ -64,7 +64,7 @@ pub ReadsAs-self : (p : SegmentPostings) → ReadsAs p p
 ReadsAs-self p = record { reading = refl; all = refl; blocks = refl }
 
 pub ScoresAs-self : {N : Type 0} {G : NormGhosts N} (s : TermScorer N G) → ScoresAs s s
-ScoresAs-self s = record { ids = refl; postings = ReadsAs-self s.postings; blocks = refl }
+ScoresAs-self s = record { ids = refl; postings = ReadsAs-self s.postings; blocks = refl; boost = refl }
 
 -- a scorer whose postings alone change, and keep what they keep, keeps what it keeps
 pub keeps_scoring : {N : Type 0} {G : NormGhosts N} (s old new : TermScorer N G) → new.fieldnorm_reader ≡ old.fieldnorm_reader → new.similarity_weight ≡ old.similarity_weight →
@@ -76,6 +76,7 @@ keeps_scoring s old new reader weight kept h =
       ids = ap norm_ids reader ∙ h.ids;
       postings = kept s.postings h.postings;
       blocks = (λ i. map (scored_block (weighing (weight i)) (is_made_constant (reader i)) (norm_ids (reader i))) (same.blocks i)) ∙ h.blocks;
+      boost = (λ i. (weighing (weight i)).boost) ∙ h.boost;
     }
 
 -- the document that a scorer stands on has a length id

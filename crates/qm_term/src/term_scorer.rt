@@ -3,7 +3,7 @@
 //! Norms that stand in the scorer itself are a kilobyte. So it is moved seldom, and is no `Copy`, which would copy it
 //! unseen.
 
-ghost use Rattle.std.specs.Prelude.{◌≡◌, ◌<◌, ◌≤◌, ◌↔◌, [], drop, length, map, min, pos, take, slice_get, slice_index_or};
+ghost use Rattle.std.specs.Prelude.{◌≡◌, ℕ, ◌*◌, ◌<◌, ◌≤◌, ◌<ℤ◌, ◌≤ℤ◌, ◌↔◌, [], true, false, drop, length, map, min, pos, take, slice_get, slice_index_or};
 ghost use Rattle.std.specs.Prelude.{IfOk, IfSome, IsOkUnless, IsSome, Some};
 ghost use Rattle.qm_docset.specs.Entry.{documents, from, head_document, head_frequency, head_score};
 ghost use Rattle.qm_postings.specs.FieldIndex.{reading};
@@ -41,7 +41,7 @@ impl<'a, N: Norms> TermScorer<'a, N> {
     ghost use Rattle.qm_term.specs.Explained.{value_of};
     ghost use Rattle.qm_term.specs.TermEntries.{ListsTerm};
     ghost use Rattle.qm_term.specs.TermScorer.{AreCovered, IsBoundedBy, IsTermScorer, ListsScored, ScoresAs};
-    ghost use Rattle.qm_term.specs.TermScorer.{least_id, scored_by, scored_blocks, scored_ids, scored_left, scored_limits, scored_reads};
+    ghost use Rattle.qm_term.specs.TermScorer.{boost_of, least_id, scored_by, scored_blocks, scored_ids, scored_left, scored_limits, scored_reads};
 
     /// A scorer over what postings have left. It scores each document by its frequency there, and by
     /// the length id that the reader gives it. Asks that the reader has a length id for each of
@@ -127,6 +127,27 @@ impl<'a, N: Norms> TermScorer<'a, N> {
     {
         self.similarity_weight
             .score(self.fieldnorm_id(), self.term_freq())
+    }
+
+    // The least share of the weight that scores above a threshold, as the weight says.
+    #[inline]
+    pub(crate) fn share_above(&self, threshold: Score) -> u64
+        ensures less { (part : ℕ) → part < result → pos (boost_of self.now * part) ≤ℤ threshold }
+        ensures enough { (part : ℕ) → result ≤ part → 0 < boost_of self.now → threshold <ℤ pos (boost_of self.now * part) }
+    {
+        self.similarity_weight.share_above(threshold)
+    }
+
+    // Whether the scorer's document earns less than a share of the weight. Asks that the scorer stands on one.
+    #[inline]
+    pub(crate) fn earns_less(&self, least: u64) -> bool
+        requires valid { IsTermScorer self.now }
+        requires here { head_document (scored_left self.now) < TERMINATED }
+        ensures yes { result ≡ true → (part : ℕ) × (part < least) × (head_score (scored_left self.now) ≡ boost_of self.now * part) }
+        ensures no { result ≡ false → 0 < head_frequency (scored_left self.now) → (part : ℕ) × (least ≤ part) × (head_score (scored_left self.now) ≡ boost_of self.now * part) }
+    {
+        self.similarity_weight
+            .earns_less(least, self.fieldnorm_id(), self.term_freq())
     }
 
     /// Why the scorer's document scores what it does. Asks that the scorer stands on one.

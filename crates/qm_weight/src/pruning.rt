@@ -105,30 +105,36 @@ pub(crate) fn may_run_over_all(rule: BooleanRule, terms: usize) -> bool
     is_free && terms >= 2 && terms <= MOST_TERMS_BY_BLOCKS
 }
 
+// Scorers of terms, and how the scores that they have in a document are joined.
+#[derive(Drop)]
+pub(crate) struct JoinedTerms<'a, N: Norms> {
+    pub(crate) terms: Vec<TermScorer<'a, N>>,
+    pub(crate) combiner: AnyCombiner,
+}
+
 // The run over the scorers of terms, which passes over blocks. What they list together is the list of the weight's
 // tree at the boost.
 pub(crate) fn prune_by_blocks<'a, W: StandsFor, F: FnMut(DocId, Score) -> Score, N: Norms>(
     weight: &W,
     alloc: Global,
     reader: &SegmentReader,
-    terms: Vec<TermScorer<'a, N>>,
+    joined: JoinedTerms<'a, N>,
     boost: u64,
-    combiner: AnyCombiner,
     threshold: Score,
     callback: &mut F,
 ) -> Result<WandCount, QueryError>
-    requires kept { KeepsOneScore combiner }
-    requires terms { ListTogether ⟦<TermScorer<'a, N> as DocSet>⟧ 1 (any_combined combiner) (W.tree weight.now) boost reader.now.segment terms.items }
+    requires kept { KeepsOneScore joined.combiner }
+    requires terms { ListTogether ⟦<TermScorer<'a, N> as DocSet>⟧ 1 (any_combined joined.combiner) (W.tree weight.now) boost reader.now.segment joined.terms.items }
     requires allowed { MayPruneTreeAt F.step F.pre (W.tree weight.now) boost reader.now.segment threshold callback.old }
     ensures calls { IfOk result (λ count.
         PrunesTreeBy F.step (W.tree weight.now) boost reader.now.segment threshold callback.old count callback.new) }
     ensures unchanged { OnErr result (callback.new ≡ callback.old) }
     ensures refused { IfErr result (IsRefusalOf (W.tree weight.now) boost) }
 {
-    match combiner {
-        AnyCombiner::Sum(sum) => block_wand(alloc, terms, sum, threshold, callback),
+    match joined.combiner {
+        AnyCombiner::Sum(sum) => block_wand(alloc, joined.terms, sum, threshold, callback),
         AnyCombiner::DisjunctionMax(greatest) => {
-            block_wand(alloc, terms, greatest, threshold, callback)
+            block_wand(alloc, joined.terms, greatest, threshold, callback)
         }
         AnyCombiner::DoNothing(_) => unreachable!(),
     }

@@ -17,7 +17,7 @@ use std::alloc::Global;
 pub(super) const MOST_DOCUMENTS: u32 = 4096;
 
 /// What is known of a document: the sum of the bounds of its blocks, and what its scores come to.
-#[derive(Clone, Copy, Debug)]
+#[derive(Clone, Copy)]
 pub(crate) struct Cell<C> {
     pub(crate) bound: u64,
     pub(crate) state: C,

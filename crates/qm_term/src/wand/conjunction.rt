@@ -22,7 +22,7 @@ const LONGEST_PAUSE: u32 = 31;
 
 // How long a run goes without a look at blocks. One that passes over nothing costs as much as a seek of each scorer: behind
 // it come documents that are sought without, twice as many each time.
-#[derive(Clone, Copy, Debug)]
+#[derive(Clone, Copy)]
 struct Pause {
     // those that are still to come
     left: u32,
@@ -45,14 +45,14 @@ impl Pause {
 }
 
 // Documents before the next, none of which scores above the bound.
-#[derive(Clone, Copy, Debug)]
+#[derive(Clone, Copy)]
 struct Stretch {
     next: DocId,
     bound: u64,
 }
 
 // What a turn did, and where the leader then stands.
-#[derive(Clone, Copy, Debug)]
+#[derive(Clone, Copy)]
 struct Turned {
     doc: DocId,
     ticked: bool,

@@ -163,7 +163,7 @@ pub fn block_wand<C: BoundedBySum, F: FnMut(DocId, Score) -> Score, N: Norms>(
 }
 
 // What a turn did.
-#[derive(Clone, Copy, Debug)]
+#[derive(Clone, Copy)]
 pub(super) struct Turned {
     pub(super) found: bool,
     pub(super) ticked: bool,
@@ -216,7 +216,8 @@ pub(super) fn turn_row<C: BoundedBySum, F: FnMut(DocId, Score) -> Score, N: Norm
             threshold,
         };
     }
-    let after = score_pivot(heads, scorers, n, p, combiner, threshold, ticks, callback);
+    let pivot = Pivot { doc: p, lists: n };
+    let after = score_pivot(heads, scorers, pivot, combiner, threshold, ticks, callback);
     Turned {
         found: true,
         ticked: true,
@@ -224,32 +225,38 @@ pub(super) fn turn_row<C: BoundedBySum, F: FnMut(DocId, Score) -> Score, N: Norm
     }
 }
 
+// A pivot, and how many scorers stand on it, which are the first ones.
+#[derive(Clone, Copy)]
+struct Pivot {
+    doc: DocId,
+    lists: usize,
+}
+
 // Scores the pivot, on which the first scorers stand, and moves them past it. Answers the threshold after
 // it.
 fn score_pivot<C: BoundedBySum, F: FnMut(DocId, Score) -> Score, N: Norms>(
     heads: &mut [Head],
     scorers: &mut [TermScorerWithMaxScore<'_, N>],
-    n: usize,
-    p: DocId,
+    pivot: Pivot,
     combiner: C,
     threshold: Score,
     ticks: &mut Ticks,
     callback: &mut F,
 ) -> Score
     requires row { IsRow scorers.old heads.old }
-    requires level { IsLevel n p heads.old }
-    requires below { p < TERMINATED }
+    requires level { IsLevel pivot.lists pivot.doc heads.old }
+    requires below { pivot.doc < TERMINATED }
     requires fits { total_top (row_lists scorers.old heads.old) ≤ greatest_score }
     requires room { ticks_of ticks.old + 1 < 2 ^ 128 }
-    requires callable { MayTurn F.pre threshold callback.old p (C.combined combiner (front_scores p (row_lists scorers.old heads.old))) }
+    requires callable { MayTurn F.pre threshold callback.old pivot.doc (C.combined combiner (front_scores pivot.doc (row_lists scorers.old heads.old))) }
     ensures row { IsRow scorers.new heads.new }
-    ensures lists { IsPermutation (map (past p) (row_lists scorers.old heads.old)) (row_lists scorers.new heads.new) }
+    ensures lists { IsPermutation (map (past pivot.doc) (row_lists scorers.old heads.old)) (row_lists scorers.new heads.new) }
     ensures tick { ticks_of ticks.new ≡ ticks_of ticks.old + 1 }
     ensures turn { Turn (InRange F.step)
-        threshold callback.old p (pos (C.combined combiner (front_scores p (row_lists scorers.old heads.old)))) result callback.new }
+        threshold callback.old pivot.doc (pos (C.combined combiner (front_scores pivot.doc (row_lists scorers.old heads.old)))) result callback.new }
 {
-    let score = score_level(heads, scorers, n, combiner, ticks);
-    let after = call_at(threshold, p, score, callback);
-    pass(heads, scorers, n);
+    let score = score_level(heads, scorers, pivot.lists, combiner, ticks);
+    let after = call_at(threshold, pivot.doc, score, callback);
+    pass(heads, scorers, pivot.lists);
     after
 }

@@ -1,6 +1,6 @@
 //! The run over one term.
 
-ghost use Rattle.std.specs.Prelude.{◌≡◌, ℕ, ℤ, ◌+◌, ◌<◌, ◌≤◌, ◌<ℤ◌, ◌≤ℤ◌, ◌^◌, cond, length, pos, suc, true, false};
+ghost use Rattle.std.specs.Prelude.{◌≡◌, ℕ, ℤ, ◌+◌, ◌<◌, ◌≤◌, ◌<ℤ◌, ◌≤ℤ◌, ◌^◌, length, pos, suc, true, false};
 ghost use Rattle.qm_docset.specs.Entry.{greatest_score};
 ghost use Rattle.qm_term.specs.Members.{bound_at, end_at};
 ghost use Rattle.qm_term.specs.Pivot.{head, looked_at};
@@ -17,23 +17,24 @@ use crate::wand::ticks::{Ticks, WandCount};
 use qm_docset::{DocId, Score, TERMINATED};
 
 // What is known of a block: its last document and its bound.
-#[derive(Clone, Copy, Debug)]
+#[derive(Clone, Copy)]
 pub(super) struct Looked {
     pub(super) end: DocId,
     pub(super) bound: u64,
 }
 
 // The end of a stretch of blocks, and how many they are.
-#[derive(Clone, Copy, Debug)]
+#[derive(Clone, Copy)]
 struct Stretch {
     end: DocId,
     blocks: u32,
 }
 
-// What a turn did, and as how many it counts: one for a document, or one for each block that it passed.
-#[derive(Clone, Copy, Debug)]
+// What a turn did: how many documents it scored, and as how many turns it counts, which are these or the blocks that
+// it passed.
+#[derive(Clone, Copy)]
 struct Turned {
-    ticked: bool,
+    ticks: u32,
     turns: u32,
     threshold: Score,
 }
@@ -179,8 +180,8 @@ fn quiet_blocks<N: Norms>(
     Stretch { end, blocks }
 }
 
-// One turn: the document is scored where its block reaches above the threshold, and else the block is
-// passed, and all behind it that do not reach above it either.
+// One turn: documents are scored where their block reaches above the threshold, and else the block is passed, and
+// all behind it that do not reach above it either.
 fn single_turn<F: FnMut(DocId, Score) -> Score, N: Norms>(
     scorer: &mut TermScorerWithMaxScore<'_, N>,
     doc: DocId,
@@ -190,11 +191,13 @@ fn single_turn<F: FnMut(DocId, Score) -> Score, N: Norms>(
     callback: &mut F,
 ) -> Turned
     requires valid { IsRunScorer scorer.old }
+    requires looking { looked_by scorer.old ≡ looked_at 0 (wand_member scorer.old) }
     requires here { doc ≡ head (wand_member scorer.old) }
     requires below { doc < TERMINATED }
+    requires few { length (wand_member scorer.old).entries ≤ TERMINATED }
     requires end { known.end ≡ end_at doc (wand_member scorer.old).blocks }
     requires bound { known.bound ≡ bound_at doc (wand_member scorer.old).blocks }
-    requires room { ticks_of ticks.old + 1 < 2 ^ 128 }
+    requires room { ticks_of ticks.old + TERMINATED < 2 ^ 128 }
     requires callable { MayPrune (InRange F.step) F.pre threshold callback.old (wand_member scorer.old).entries }
     ensures valid { IsRunScorer scorer.new }
     ensures looking { looked_by scorer.new ≡ looked_at 0 (wand_member scorer.new) }
@@ -203,25 +206,66 @@ fn single_turn<F: FnMut(DocId, Score) -> Score, N: Norms>(
     ensures fewer { result.turns + length (wand_member scorer.new).entries ≤ length (wand_member scorer.old).entries }
     ensures later { doc < head (wand_member scorer.new) }
     ensures turn { IsSingle (InRange F.step) threshold callback.old
-        (wand_member scorer.old) result.threshold callback.new (wand_member scorer.new) result.ticked result.turns }
-    ensures ticks { ticks_of ticks.new ≡ ticks_of ticks.old + cond result.ticked 1 0 }
+        (wand_member scorer.old) result.threshold callback.new (wand_member scorer.new) result.ticks result.turns }
+    ensures most { result.ticks ≤ result.turns }
+    ensures ticks { ticks_of ticks.new ≡ ticks_of ticks.old + result.ticks }
 {
     if is_above(known.bound, threshold) {
-        let score = scorer.score_counted(ticks);
-        let threshold = call_at(threshold, doc, score, callback);
-        scorer.advance();
-        Turned {
-            ticked: true,
-            turns: 1,
+        return block_turn(scorer, doc, known.end, threshold, ticks, callback);
+    }
+    let quiet = quiet_blocks(scorer, known, threshold);
+    scorer.seek(quiet.end.saturating_add(1).min(TERMINATED));
+    Turned {
+        ticks: 0,
+        turns: quiet.blocks,
+        threshold,
+    }
+}
+
+// A turn in a block, up to this document, that reaches above the threshold: its documents up to the first that scores
+// above the threshold are scored, or that one is.
+fn block_turn<F: FnMut(DocId, Score) -> Score, N: Norms>(
+    scorer: &mut TermScorerWithMaxScore<'_, N>,
+    doc: DocId,
+    last: DocId,
+    threshold: Score,
+    ticks: &mut Ticks,
+    callback: &mut F,
+) -> Turned
+    requires valid { IsRunScorer scorer.old }
+    requires looking { looked_by scorer.old ≡ looked_at 0 (wand_member scorer.old) }
+    requires here { doc ≡ head (wand_member scorer.old) }
+    requires below { doc < TERMINATED }
+    requires few { length (wand_member scorer.old).entries ≤ TERMINATED }
+    requires last { last ≡ end_at doc (wand_member scorer.old).blocks }
+    requires above { threshold <ℤ pos (bound_at doc (wand_member scorer.old).blocks) }
+    requires room { ticks_of ticks.old + TERMINATED < 2 ^ 128 }
+    requires callable { MayPrune (InRange F.step) F.pre threshold callback.old (wand_member scorer.old).entries }
+    ensures valid { IsRunScorer scorer.new }
+    ensures looking { looked_by scorer.new ≡ looked_at 0 (wand_member scorer.new) }
+    ensures blocks { (wand_member scorer.new).blocks ≡ (wand_member scorer.old).blocks }
+    ensures some { 0 < result.turns }
+    ensures fewer { result.turns + length (wand_member scorer.new).entries ≤ length (wand_member scorer.old).entries }
+    ensures later { doc < head (wand_member scorer.new) }
+    ensures turn { IsSingle (InRange F.step) threshold callback.old
+        (wand_member scorer.old) result.threshold callback.new (wand_member scorer.new) result.ticks result.turns }
+    ensures most { result.ticks ≤ result.turns }
+    ensures ticks { ticks_of ticks.new ≡ ticks_of ticks.old + result.ticks }
+{
+    let passed = scorer.pass_low(last.saturating_add(1).min(TERMINATED), threshold, ticks);
+    if passed > 0 {
+        return Turned {
+            ticks: passed,
+            turns: passed,
             threshold,
-        }
-    } else {
-        let quiet = quiet_blocks(scorer, known, threshold);
-        scorer.seek(quiet.end.saturating_add(1).min(TERMINATED));
-        Turned {
-            ticked: false,
-            turns: quiet.blocks,
-            threshold,
-        }
+        };
+    }
+    let score = scorer.score_counted(ticks);
+    let threshold = call_at(threshold, doc, score, callback);
+    scorer.advance();
+    Turned {
+        ticks: 1,
+        turns: 1,
+        threshold,
     }
 }

@@ -12,8 +12,8 @@ ghost use Rattle.qm_weight.specs.TreeRuns.{MayPruneTreeAt, PrunesTreeBy};
 ghost use Rattle.qm_weight.specs.Weights.{terms_tree};
 
 use crate::pruning::{
-    check_bounds, counted_none, may_pass_over_blocks, may_run_over_all, prune_by_blocks,
-    prune_over_all, prune_to_bound,
+    JoinedTerms, check_bounds, counted_none, may_pass_over_blocks, may_run_over_all,
+    prune_by_blocks, prune_over_all, prune_to_bound,
 };
 use crate::terms_weight::TermsWeight;
 use crate::terms_weight::joined::borrowed_scorer;
@@ -50,9 +50,8 @@ pub(crate) fn prune_terms<F: FnMut(DocId, Score) -> Score>(
         let _documents = reader.max_doc();
         let terms: Vec<Borrowing<'_>> = cursors_of_terms(weight, alloc, reader, boost)?;
         let combiner = weight.rule.score_combiner;
-        return prune_by_blocks(
-            weight, alloc, reader, terms, boost, combiner, threshold, callback,
-        );
+        let joined = JoinedTerms { terms, combiner };
+        return prune_by_blocks(weight, alloc, reader, joined, boost, threshold, callback);
     }
     let scorer = borrowed_scorer(weight, alloc, reader, boost)?;
     Ok(prune_borrowed(scorer, threshold, callback))

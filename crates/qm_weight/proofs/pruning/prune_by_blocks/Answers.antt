@@ -29,26 +29,26 @@ block_wand-requires-in-DisjunctionMax-clause-valid g c = c.requires.terms.placed
 pub block_wand-requires-clause-callable : goal.block_wand-requires-clause-callable
 block_wand-requires-clause-callable g c =
     let tree = g.W.StandsFor.tree c.args.weight.now in
-    let listed = listed_by c.args.combiner _ tree c.args.boost c.args.reader.now.segment c.args.terms.items c.in-Sum.is c.requires.terms in
+    let listed = listed_by c.args.joined.combiner _ tree c.args.boost c.args.reader.now.segment c.args.joined.terms.items c.in-Sum.is c.requires.terms in
     MayPrune-at (InRange (goal.F-step g)) (goal.F-pre g) c.args.threshold _ c.args.callback.now _ (to_z-of_z w64 c.args.threshold c.ranges.threshold)
     (c.requires.allowed _ listed.list)
 
 pub block_wand-requires-in-DisjunctionMax-clause-callable : goal.block_wand-requires-in-DisjunctionMax-clause-callable
 block_wand-requires-in-DisjunctionMax-clause-callable g c =
     let tree = g.W.StandsFor.tree c.args.weight.now in
-    let listed = listed_by c.args.combiner _ tree c.args.boost c.args.reader.now.segment c.args.terms.items c.in-DisjunctionMax.is c.requires.terms in
+    let listed = listed_by c.args.joined.combiner _ tree c.args.boost c.args.reader.now.segment c.args.joined.terms.items c.in-DisjunctionMax.is c.requires.terms in
     MayPrune-at (InRange (goal.F-step g)) (goal.F-pre g) c.args.threshold _ c.args.callback.now _ (to_z-of_z w64 c.args.threshold c.ranges.threshold)
     (c.requires.allowed _ listed.list)
 
 pub returns-in-Sum-clause-refused : goal.returns-in-Sum-clause-refused
 returns-in-Sum-clause-refused g c =
-    let terms = c.args.terms.items in
+    let terms = c.args.joined.terms.items in
     refused-together of_terms (g.W.StandsFor.tree c.args.weight.now) c.args.boost terms c.requires.terms.within c.block_wand.result c.block_wand.ensures.only
     (λ bound. omega (arith, c.block_wand.ensures.refused.0 bound, tops-members terms))
 
 pub returns-in-DisjunctionMax-clause-refused : goal.returns-in-DisjunctionMax-clause-refused
 returns-in-DisjunctionMax-clause-refused g c =
-    let terms = c.args.terms.items in
+    let terms = c.args.joined.terms.items in
     refused-together of_terms (g.W.StandsFor.tree c.args.weight.now) c.args.boost terms c.requires.terms.within
     c.block_wand-in-DisjunctionMax.result c.block_wand-in-DisjunctionMax.ensures.only
     (λ bound. omega (arith, c.block_wand-in-DisjunctionMax.ensures.refused.0 bound, tops-members terms))
@@ -56,14 +56,14 @@ returns-in-DisjunctionMax-clause-refused g c =
 pub returns-in-Sum-clause-calls : goal.returns-in-Sum-clause-calls
 returns-in-Sum-clause-calls g c =
     let tree = g.W.StandsFor.tree c.args.weight.now in
-    let listed = listed_by c.args.combiner _ tree c.args.boost c.args.reader.now.segment c.args.terms.items c.in-Sum.is c.requires.terms in
+    let listed = listed_by c.args.joined.combiner _ tree c.args.boost c.args.reader.now.segment c.args.joined.terms.items c.in-Sum.is c.requires.terms in
     blocks-run (goal.F-step g) _ _ c.args.boost _ c.args.threshold _ _ _ c.block_wand.result listed.list c.ranges.threshold c.block_wand.ensures.run
     c.block_wand.ensures.scored
 
 pub returns-in-DisjunctionMax-clause-calls : goal.returns-in-DisjunctionMax-clause-calls
 returns-in-DisjunctionMax-clause-calls g c =
     let tree = g.W.StandsFor.tree c.args.weight.now in
-    let listed = listed_by c.args.combiner _ tree c.args.boost c.args.reader.now.segment c.args.terms.items c.in-DisjunctionMax.is c.requires.terms in
+    let listed = listed_by c.args.joined.combiner _ tree c.args.boost c.args.reader.now.segment c.args.joined.terms.items c.in-DisjunctionMax.is c.requires.terms in
     blocks-run (goal.F-step g) _ _ c.args.boost _ c.args.threshold _ _ _ c.block_wand-in-DisjunctionMax.result listed.list
     c.ranges.threshold c.block_wand-in-DisjunctionMax.ensures.run c.block_wand-in-DisjunctionMax.ensures.scored
 

@@ -33,7 +33,7 @@ fill-requires-clause-end g c = omega (arith, c.begin.ensures.end, c.requires.som
 pub drain-requires-clause-tidy : goal.drain-requires-clause-tidy
 drain-requires-clause-tidy g c =
     let ls = row_lists c.args.scorers.now c.args.heads.now in
-    holds_tidy g.C.ScoreCombiner.step c.args.end (cuts c.args.low ls) c.fill.new.cells c.fill.ensures.holds
+    holds_tidy g.C.ScoreCombiner.step c.args.span.end (cuts c.args.span.low ls) c.fill.new.cells c.fill.ensures.holds
     (ap (λ (x : Cell _). x.bound) (c.fill.ensures.alike.clear ∙ c.begin.ensures.same) ∙ c.requires.begins.bound)
 
 pub drain-requires-clause-within : goal.drain-requires-clause-within
@@ -44,9 +44,9 @@ drain-requires-clause-within g c =
     let ls = row_lists ss hs in
     let w = c.fill.new.cells in
     let first = (cells_clear c.args.cells.now).state in
-    let are : AreMembers (cuts c.args.low ls) = cuts_members c.args.low ls (row_members ss hs c.requires.heads) in
-    let fits : total_top (cuts c.args.low ls) ≤ greatest_score = omega (arith, tops_cut c.args.low ls (cuts c.args.low ls) (AreCut-cuts c.args.low ls), c.requires.fits) in
-    shown_within g.C.ScoreCombiner.step c.args.end (cuts c.args.low ls) w c.fill.ensures.holds (g.C.ScoreCombiner.combined first)
+    let are : AreMembers (cuts c.args.span.low ls) = cuts_members c.args.span.low ls (row_members ss hs c.requires.heads) in
+    let fits : total_top (cuts c.args.span.low ls) ≤ greatest_score = omega (arith, tops_cut c.args.span.low ls (cuts c.args.span.low ls) (AreCut-cuts c.args.span.low ls), c.requires.fits) in
+    shown_within g.C.ScoreCombiner.step c.args.span.end (cuts c.args.span.low ls) w c.fill.ensures.holds (g.C.ScoreCombiner.combined first)
     (g.met.C.BoundedBySum.within_sum first) g.C.ScoreCombiner.value
     (made g.C.ScoreCombiner.step g.C.ScoreCombiner.value g.C.ScoreCombiner.cleared g.C.ScoreCombiner.combined g.met.C.ScoreCombiner.combines
     g.met.C.ScoreCombiner.clear_keeps c.requires.begins.state.start first (cells_clear w).state c.requires.begins.state.is
@@ -70,7 +70,7 @@ drain-requires-clause-callable g c =
     let th = c.args.threshold in
     rw (to_z-of_z w64 th c.ranges.threshold)
     (may_all (InRange w'.step) (g.C.ScoreCombiner.combined first) (g.met.C.BoundedBySum.within_sum first) g.C.ScoreCombiner.step
-    g.C.ScoreCombiner.value c.args.low c.args.end ls (row_members ss hs c.requires.heads) w
+    g.C.ScoreCombiner.value c.args.span.low c.args.span.end ls (row_members ss hs c.requires.heads) w
     (made g.C.ScoreCombiner.step g.C.ScoreCombiner.value g.C.ScoreCombiner.cleared g.C.ScoreCombiner.combined g.met.C.ScoreCombiner.combines
     g.met.C.ScoreCombiner.clear_keeps c.requires.begins.state.start first (cells_clear w).state c.requires.begins.state.is
     (ap (λ (x : Cell _). x.state) (c.fill.ensures.alike.clear ∙ c.begin.ensures.same))) c.fill.ensures.holds
@@ -88,8 +88,8 @@ returns-clause-run g c =
     let w = c.fill.new.cells in
     let first = (cells_clear c.args.cells.now).state in
     let th = c.args.threshold in
-    let start : cells_start w ≡ c.args.low = c.fill.ensures.alike.start ∙ c.begin.ensures.start in
-    let covers : c.args.end ≤ c.args.low + length w.cells.items = omega (arith, start, c.fill.ensures.alike.end, c.begin.ensures.end, c.requires.some) in
+    let start : cells_start w ≡ c.args.span.low = c.fill.ensures.alike.start ∙ c.begin.ensures.start in
+    let covers : c.args.span.end ≤ c.args.span.low + length w.cells.items = omega (arith, start, c.fill.ensures.alike.end, c.begin.ensures.end, c.requires.some) in
     let after = c.drain.result in
     let is_after : to_z w64 (of_z w64 after) ≡ after = to_z-of_z w64 after (record { sfits = c.drain.type_inv }) in
     let run = rw (to_z-of_z w64 th c.ranges.threshold) at c.drain.ensures.run in
@@ -98,7 +98,7 @@ returns-clause-run g c =
       counted = run.counted;
       back = λ k last z p.
           run_all (InRange w'.step) (g.C.ScoreCombiner.combined first) (g.met.C.BoundedBySum.within_sum first) g.C.ScoreCombiner.step
-          g.C.ScoreCombiner.value c.args.low c.args.end ls (row_members ss hs c.requires.heads) w
+          g.C.ScoreCombiner.value c.args.span.low c.args.span.end ls (row_members ss hs c.requires.heads) w
           (made g.C.ScoreCombiner.step g.C.ScoreCombiner.value g.C.ScoreCombiner.cleared g.C.ScoreCombiner.combined g.met.C.ScoreCombiner.combines
           g.met.C.ScoreCombiner.clear_keeps c.requires.begins.state.start first (cells_clear w).state c.requires.begins.state.is
           (ap (λ (x : Cell _). x.state) (c.fill.ensures.alike.clear ∙ c.begin.ensures.same))) c.fill.ensures.holds
@@ -114,14 +114,14 @@ returns-clause-callable g c =
     let w = c.fill.new.cells in
     let first = (cells_clear c.args.cells.now).state in
     let th = c.args.threshold in
-    let start : cells_start w ≡ c.args.low = c.fill.ensures.alike.start ∙ c.begin.ensures.start in
-    let covers : c.args.end ≤ c.args.low + length w.cells.items = omega (arith, start, c.fill.ensures.alike.end, c.begin.ensures.end, c.requires.some) in
+    let start : cells_start w ≡ c.args.span.low = c.fill.ensures.alike.start ∙ c.begin.ensures.start in
+    let covers : c.args.span.end ≤ c.args.span.low + length w.cells.items = omega (arith, start, c.fill.ensures.alike.end, c.begin.ensures.end, c.requires.some) in
     let after = c.drain.result in
     let is_after : to_z w64 (of_z w64 after) ≡ after = to_z-of_z w64 after (record { sfits = c.drain.type_inv }) in
     let run = rw (to_z-of_z w64 th c.ranges.threshold) at c.drain.ensures.run in
     rw is_after
     (may_all_after (InRange w'.step) (g.C.ScoreCombiner.combined first) (g.met.C.BoundedBySum.within_sum first) g.C.ScoreCombiner.step
-    g.C.ScoreCombiner.value c.args.low c.args.end ls (row_members ss hs c.requires.heads) w
+    g.C.ScoreCombiner.value c.args.span.low c.args.span.end ls (row_members ss hs c.requires.heads) w
     (made g.C.ScoreCombiner.step g.C.ScoreCombiner.value g.C.ScoreCombiner.cleared g.C.ScoreCombiner.combined g.met.C.ScoreCombiner.combines
     g.met.C.ScoreCombiner.clear_keeps c.requires.begins.state.start first (cells_clear w).state c.requires.begins.state.is
     (ap (λ (x : Cell _). x.state) (c.fill.ensures.alike.clear ∙ c.begin.ensures.same))) c.fill.ensures.holds

@@ -19,3 +19,6 @@ returns-clause-looked g c = c.advance.ensures.looked ∙ looks-member 0 c.advanc
 pub returns-clause-answer : goal.returns-clause-answer
 unfolding wand_member
 returns-clause-answer g c = c.advance.ensures.head ∙ sym (head-member c.advance.new.self)
+
+pub returns-clause-boost : goal.returns-clause-boost
+returns-clause-boost g c = (c.advance.ensures.kept c.args.self.now.scorer (ScoresAs-self c.args.self.now.scorer)).boost
