@@ -1,6 +1,5 @@
 -- What the open parentheses of the program stand for in the language.
-use Rattle.std.specs.Prelude.{ℕ, List, Option, map, option_map, reverse, string_bytes}
-use Rattle.std.specs.Prelude.{String}
+use Rattle.std.specs.Prelude.{ℕ, List, Option, map, option_map, reverse, string_bytes, String}
 use Rattle.std.specs.Global.{Global}
 use Rattle.qm_parser.specs.Levels.{Last, Level, chain, nothing, one}
 use Rattle.qm_parser.specs.Trees.{State}

@@ -1,10 +1,9 @@
 -- The documents in which the terms of a phrase stand together: each term has how far its positions
 -- are shifted, and a list of the documents that hold it.
-use Rattle.std.specs.Prelude.{ℕ, ◌-◌, max, nat_lt, List, [], ◌∷◌, map}
+use Rattle.std.specs.Prelude.{ℕ, ◌-◌, max, nat_lt, List, [], ◌∷◌, map, slice_index_or}
 use Rattle.std.specs.List.{fold}
 use Rattle.std.specs.declared.option.Option.{Option}
 use Rattle.std.specs.declared.option.Option.TheVariants.{None, Some}
-use Rattle.std.specs.Prelude.{slice_index_or}
 use Rattle.qm_docset.specs.Entry.{Entry, Limits, head_positions}
 use Rattle.qm_docset.specs.Gather.{entries_of, scored}
 use Rattle.qm_docset.specs.Listed.{listed}

@@ -1,8 +1,7 @@
 -- The list of a phrase is that of a scorer.
-use Rattle.std.specs.Prelude.{ℕ, ◌≤◌, nat_lt, List}
+use Rattle.std.specs.Prelude.{ℕ, ◌≤◌, nat_lt, List, slice_index_or}
 use Rattle.std.specs.declared.option.Option.{Option}
 use Rattle.std.specs.declared.option.Option.TheVariants.{None, Some}
-use Rattle.std.specs.Prelude.{slice_index_or}
 use Rattle.std.proofs.Common.{arith, refl}
 use Rattle.qm_docset.specs.Entry.{Entry, AreEntries}
 use Rattle.qm_docset.specs.Gather.{scored}
