@@ -20,12 +20,12 @@ use Rattle.qm_query.specs.declared.enable_scoring.EnableScoring.TheVariants.{Ena
 use Rattle.qm_schema.specs.Term.{TermKey}
 use Rattle.qm_schema.specs.declared.error.QueryError.{QueryError}
 use Rattle.qm_schema.specs.declared.error.QueryError.TheVariants.{Memory, ScoreBound, TieBreaker}
-use Rattle.qm_script.specs.Asked.{asked, clauses_asked, disjuncts_asked, prefix_parts, term_of_word}
+use Rattle.birchagain.specs.Body.{body_field, body_term}
+use Rattle.qm_script.specs.Asked.{asked, clauses_asked, disjuncts_asked, prefix_parts}
 use Rattle.qm_script.specs.Fields.{script_fields}
 use Rattle.qm_script.specs.Script as language
 use Rattle.qm_script.specs.Script.{no_clause, clause, no_query}
 use Rattle.qm_script.specs.Under.{IsBestRefusal, IsListingRefusal, IsScoreRefusal, IsWithinBest, IsWithinScores, tree_of}
-use Rattle.qm_script.specs.ProgramNumbers.{body_field}
 use Rattle.qm_script.proofs.AskedTrees.{bind-ok, test-ok, unless-ok}
 use Rattle.qm_script.proofs.WordLemmas.{not_zero}
 use Rattle.qm_weight.specs.Scorers.{IsRefusalOf}
@@ -44,25 +44,25 @@ AreServed cs = are_clauses_served script_fields cs ≡ true
 abbrev AreDisjunctsServed : Disjuncts → Type 0
 AreDisjunctsServed ds = are_disjuncts_served script_fields ds ≡ true
 
-row-served : (words : List (List ℕ)) → is_none (phrase_field_refusal script_fields (first_field (λ t. t.1) (enumerate_from 0 (map term_of_word words)))) ≡ true
+row-served : (words : List (List ℕ)) → is_none (phrase_field_refusal script_fields (first_field (λ t. t.1) (enumerate_from 0 (map body_term words)))) ≡ true
 row-served [] = refl
 row-served (w ∷ words) = refl
 
 -- the last of a row is a word of that field too
 last-field : (most : ℕ) (t : ℕ × TermKey) (n : ℕ) (words : List (List ℕ)) → t.1.field ≡ body_field →
-    (prefix_parts most t (enumerate_from n (map term_of_word words))).prefix.1.field ≡ body_field
+    (prefix_parts most t (enumerate_from n (map body_term words))).prefix.1.field ≡ body_field
 last-field most t n [] is = is
-last-field most t n (w ∷ words) is = last-field most (n, term_of_word w) (n + 1) words refl
+last-field most t n (w ∷ words) is = last-field most (n, body_term w) (n + 1) words refl
 
 either : (b : Bool) (x y : Option QueryError) → is_none x ≡ true → is_none y ≡ true → is_none (if b then x else y) ≡ true
 either true x y first second = first
 either false x y first second = second
 
 prefix-served : (most : ℕ) (w : List ℕ) (words : List (List ℕ)) →
-    IsServed (phrase_prefix (prefix_parts most (0, term_of_word w) (enumerate_from 1 (map term_of_word words))))
+    IsServed (phrase_prefix (prefix_parts most (0, body_term w) (enumerate_from 1 (map body_term words))))
 prefix-served most w words =
-    let parts = prefix_parts most (0, term_of_word w) (enumerate_from 1 (map term_of_word words)) in
-    let field = last-field most (0, term_of_word w) 1 words refl in
+    let parts = prefix_parts most (0, body_term w) (enumerate_from 1 (map body_term words)) in
+    let field = last-field most (0, body_term w) 1 words refl in
     either (length parts.terms == 0) (term_field_refusal script_fields parts.prefix.1.field) (phrase_field_refusal script_fields parts.prefix.1.field)
     (ap (λ f. is_none (term_field_refusal script_fields f)) field) (ap (λ f. is_none (phrase_field_refusal script_fields f)) field)
 

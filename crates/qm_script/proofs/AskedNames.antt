@@ -17,7 +17,8 @@ use Rattle.qm_query.specs.QueryTree.{clause_trees, disjunct_trees, full_prefix_t
 use Rattle.qm_query.specs.declared.enable_scoring.EnableScoring.{EnableScoring}
 use Rattle.qm_schema.specs.Term.{TermKey, same_term, term_eq_laws}
 use Rattle.qm_schema.specs.declared.error.QueryError.TheVariants.{TieBreaker}
-use Rattle.qm_script.specs.Asked.{asked, clauses_asked, disjuncts_asked, prefix_parts, term_of_word}
+use Rattle.birchagain.specs.Body.{body_term}
+use Rattle.qm_script.specs.Asked.{asked, clauses_asked, disjuncts_asked, prefix_parts}
 use Rattle.qm_script.specs.AskedTerms.{all_expansions, asked_terms, clauses_terms, last_expansions, queries_terms}
 use Rattle.qm_script.specs.Script as language
 use Rattle.qm_script.specs.Script.{no_clause, clause, no_query}
@@ -56,7 +57,7 @@ module _ (wanted : TermKey → Bool) where
     last-covered : (most : ℕ) (words : List (List ℕ)) → AreAllWanted wanted (last_expansions segments most words) →
         AreAllWanted wanted (last_expansions others most words)
     last-covered most [] all = All-nil IsWanted
-    last-covered most (w ∷ []) all = covers (term_of_word w) most all
+    last-covered most (w ∷ []) all = covers (body_term w) most all
     last-covered most (w ∷ v ∷ words) all = last-covered most (v ∷ words) all
 
     mutual
@@ -66,9 +67,9 @@ module _ (wanted : TermKey → Bool) where
       asked-covered (language.term word) all = all
       asked-covered (language.phrase slop words) all = all
       asked-covered (language.phrase_prefix most words) all =
-          All-append IsWanted (map term_of_word words) (last_expansions others most words)
-          (left-wanted (map term_of_word words) (last_expansions segments most words) all)
-          (last-covered most words (right-wanted (map term_of_word words) (last_expansions segments most words) all))
+          All-append IsWanted (map body_term words) (last_expansions others most words)
+          (left-wanted (map body_term words) (last_expansions segments most words) all)
+          (last-covered most words (right-wanted (map body_term words) (last_expansions segments most words) all))
       asked-covered (language.boolean minimum clauses) all = clauses-covered clauses all
       asked-covered (language.boost factor inner) all = asked-covered inner all
       asked-covered (language.constant score inner) all = asked-covered inner all
@@ -126,28 +127,28 @@ module _ (wanted : TermKey → Bool) where
     either-named true x y here there = here
     either-named false x y here there = there
 
-    words-wanted : (k : ℕ) (words : List (List ℕ)) → AreAllWanted wanted (map term_of_word words) →
-        AreWanted wanted (map placed_at (enumerate_from k (map term_of_word words)))
+    words-wanted : (k : ℕ) (words : List (List ℕ)) → AreAllWanted wanted (map body_term words) →
+        AreWanted wanted (map placed_at (enumerate_from k (map body_term words)))
     words-wanted k [] all = All-nil (λ t. wanted t.term ≡ true)
     words-wanted k (w ∷ words) all =
-        All-cons (λ t. wanted t.term ≡ true) (placed_at (k, term_of_word w)) (map placed_at (enumerate_from (k + 1) (map term_of_word words)))
-        (All-head IsWanted (term_of_word w) (map term_of_word words) all) (words-wanted (k + 1) words (All-tail IsWanted (term_of_word w) (map term_of_word words) all))
+        All-cons (λ t. wanted t.term ≡ true) (placed_at (k, body_term w)) (map placed_at (enumerate_from (k + 1) (map body_term words)))
+        (All-head IsWanted (body_term w) (map body_term words) all) (words-wanted (k + 1) words (All-tail IsWanted (body_term w) (map body_term words) all))
 
     -- the words before the last, which stand in full
-    full-wanted : (most j k : ℕ) (w : List ℕ) (words : List (List ℕ)) → AreAllWanted wanted (map term_of_word (w ∷ words)) →
-        AreWanted wanted (map placed_at (prefix_parts most (j, term_of_word w) (enumerate_from k (map term_of_word words))).terms)
+    full-wanted : (most j k : ℕ) (w : List ℕ) (words : List (List ℕ)) → AreAllWanted wanted (map body_term (w ∷ words)) →
+        AreWanted wanted (map placed_at (prefix_parts most (j, body_term w) (enumerate_from k (map body_term words))).terms)
     full-wanted most j k w [] all = All-nil (λ t. wanted t.term ≡ true)
     full-wanted most j k w (v ∷ words) all =
-        All-cons (λ t. wanted t.term ≡ true) (placed_at (j, term_of_word w))
-        (map placed_at (prefix_parts most (k, term_of_word v) (enumerate_from (k + 1) (map term_of_word words))).terms)
-        (All-head IsWanted (term_of_word w) (map term_of_word (v ∷ words)) all)
-        (full-wanted most k (k + 1) v words (All-tail IsWanted (term_of_word w) (map term_of_word (v ∷ words)) all))
+        All-cons (λ t. wanted t.term ≡ true) (placed_at (j, body_term w))
+        (map placed_at (prefix_parts most (k, body_term v) (enumerate_from (k + 1) (map body_term words))).terms)
+        (All-head IsWanted (body_term w) (map body_term (v ∷ words)) all)
+        (full-wanted most k (k + 1) v words (All-tail IsWanted (body_term w) (map body_term (v ∷ words)) all))
 
     module _ (segments : List Segment) (covers : (prefix : TermKey) (most : ℕ) → AreAllWanted wanted (all_expansions segments prefix most) →
         AreAllWanted wanted (expansions segment prefix most)) where
       last-wanted : (most j k : ℕ) (w : List ℕ) (words : List (List ℕ)) → AreAllWanted wanted (last_expansions segments most (w ∷ words)) →
-          (let p = prefix_parts most (j, term_of_word w) (enumerate_from k (map term_of_word words)) in AreAllWanted wanted (expansions segment p.prefix.1 p.max_expansions))
-      last-wanted most j k w [] all = covers (term_of_word w) most all
+          (let p = prefix_parts most (j, body_term w) (enumerate_from k (map body_term words)) in AreAllWanted wanted (expansions segment p.prefix.1 p.max_expansions))
+      last-wanted most j k w [] all = covers (body_term w) most all
       last-wanted most j k w (v ∷ words) all = last-wanted most k (k + 1) v words all
 
       -- with full terms or without
@@ -161,14 +162,14 @@ module _ (wanted : TermKey → Bool) where
         pub asked-named : (q : language.Query) → AreAllWanted wanted (asked_terms segments q) → IfOk (asked q) AreNamed
         asked-named language.all all = tt
         asked-named language.none all = tt
-        asked-named (language.term word) all = All-head IsWanted (term_of_word word) [] all
-        asked-named (language.phrase slop words) all = unless-ok AreNamed (with_two (map term_of_word words) (row_refusal (map term_of_word words)))
-            (query.phrase (record { terms = enumerate_from 0 (map term_of_word words); slop = slop })) (words-wanted 0 words all)
+        asked-named (language.term word) all = All-head IsWanted (body_term word) [] all
+        asked-named (language.phrase slop words) all = unless-ok AreNamed (with_two (map body_term words) (row_refusal (map body_term words)))
+            (query.phrase (record { terms = enumerate_from 0 (map body_term words); slop = slop })) (words-wanted 0 words all)
         asked-named (language.phrase_prefix most []) all = tt
         asked-named (language.phrase_prefix most (w ∷ words)) all =
-            let terms = map term_of_word (w ∷ words) in
+            let terms = map body_term (w ∷ words) in
             let last = last_expansions segments most (w ∷ words) in
-            unless-ok AreNamed (row_refusal terms) (query.phrase_prefix (prefix_parts most (0, term_of_word w) (enumerate_from 1 (map term_of_word words)))) (prefix-named (prefix_parts most (0, term_of_word w) (enumerate_from 1 (map term_of_word words)))
+            unless-ok AreNamed (row_refusal terms) (query.phrase_prefix (prefix_parts most (0, body_term w) (enumerate_from 1 (map body_term words)))) (prefix-named (prefix_parts most (0, body_term w) (enumerate_from 1 (map body_term words)))
             (full-wanted most 0 1 w words (left-wanted terms last all)) (last-wanted most 0 1 w words (right-wanted terms last all)))
         asked-named (language.boolean minimum clauses) all =
             bind-ok (λ cs. ClausesNamed (query.subqueries cs)) AreNamed (clauses_asked clauses) _ (clauses-named clauses all) (λ cs h. h)

@@ -4,7 +4,7 @@ use Rattle.std.specs.Global.{Global}
 use Rattle.qm_postings.specs.Segment.{Segment}
 use Rattle.qm_schema.specs.Term.{TermKey}
 use Rattle.qm_schema.specs.declared.occur.Occur.{Occur}
-use Rattle.qm_script.specs.Asked.{term_of_word}
+use Rattle.birchagain.specs.Body.{body_term}
 use Rattle.qm_script.specs.AskedTerms.{all_expansions, asked_terms, clauses_terms, last_expansions, queries_terms}
 use Rattle.qm_script.specs.Script.{as_clauses, queries_of}
 use Rattle.qm_script.specs.Spelled.{spelled_clause, query_of, texts}
@@ -48,9 +48,9 @@ module _ (segments : List Segment) (all : List TermKey) where
 -- ---- the last word
 
 pub last_expansions-some : (segments : List Segment) (most : ℕ) (words : List (String Global)) (w : String Global) →
-    slice_get words (length words - 1) ≡ Some w → last_expansions segments most (texts words) ≡ all_expansions segments (term_of_word (string_bytes w)) most
+    slice_get words (length words - 1) ≡ Some w → last_expansions segments most (texts words) ≡ all_expansions segments (body_term (string_bytes w)) most
 last_expansions-some segments most [] w e = cc
-last_expansions-some segments most (x ∷ []) w e = let same : x ≡ w = cc in ap (λ v. all_expansions segments (term_of_word (string_bytes v)) most) same
+last_expansions-some segments most (x ∷ []) w e = let same : x ≡ w = cc in ap (λ v. all_expansions segments (body_term (string_bytes v)) most) same
 last_expansions-some segments most (x ∷ y ∷ words) w e =
     let place : suc (length (y ∷ words) - 1) ≡ length (x ∷ y ∷ words) - 1 = omega arith in
     last_expansions-some segments most (y ∷ words) w (ap (slice_get (x ∷ y ∷ words)) place ∙ e)

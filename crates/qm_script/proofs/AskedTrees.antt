@@ -14,7 +14,8 @@ use Rattle.qm_query.specs.declared.enable_scoring.EnableScoring.{EnableScoring}
 use Rattle.qm_postings.specs.contracts.searcher.SearcherBm25StatisticsProvider.TheImpl.{ghosts}
 use Rattle.qm_schema.specs.declared.error.QueryError.{QueryError}
 use Rattle.qm_schema.specs.declared.error.QueryError.TheVariants.{TieBreaker}
-use Rattle.qm_script.specs.Asked.{asked, clauses_asked, disjuncts_asked, prefix_parts, term_of_word, unless, ◌>>=◌}
+use Rattle.birchagain.specs.Body.{body_term}
+use Rattle.qm_script.specs.Asked.{asked, clauses_asked, disjuncts_asked, prefix_parts, unless, ◌>>=◌}
 use Rattle.qm_script.specs.PrefixFree.{PrefixTest, all_prefixes, clauses_all_prefixes}
 use Rattle.qm_script.specs.Prefixes.{has_failing, have_clauses_failing, have_queries_failing, last_passes}
 use Rattle.qm_script.specs.Script as language
@@ -63,7 +64,7 @@ module _ (test : PrefixTest) where
 
   -- the prefix behind the words that stand in full
   last-passes : (most j k : ℕ) (w : List ℕ) (words : List (List ℕ)) → last_passes test most (w ∷ words) ≡ true →
-      (let p = prefix_parts most (j, term_of_word w) (enumerate_from k (map term_of_word words)) in test p.prefix.1 p.max_expansions) ≡ true
+      (let p = prefix_parts most (j, body_term w) (enumerate_from k (map body_term words)) in test p.prefix.1 p.max_expansions) ≡ true
   last-passes most j k w [] passes = passes
   last-passes most j k w (v ∷ words) passes = last-passes most k (k + 1) v words passes
 
@@ -91,7 +92,7 @@ module _ (test : PrefixTest) where
       asked-passes (language.phrase slop words) pass = unless-ok Passes _ _ refl
       asked-passes (language.phrase_prefix most []) pass = tt
       asked-passes (language.phrase_prefix most (w ∷ words)) pass =
-          unless-ok Passes _ _ (prefix-passes (prefix_parts most (0, term_of_word w) (enumerate_from 1 (map term_of_word words)))
+          unless-ok Passes _ _ (prefix-passes (prefix_parts most (0, body_term w) (enumerate_from 1 (map body_term words)))
           (last-passes most 0 1 w words (passed (last_passes test most (w ∷ words)) pass)))
       asked-passes (language.boolean minimum clauses) pass =
           bind-ok (λ cs. ClausesPass (query.subqueries cs)) Passes (clauses_asked clauses) _ (clauses-pass clauses pass) (λ cs h. h)

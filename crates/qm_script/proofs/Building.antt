@@ -12,7 +12,8 @@ use Rattle.qm_schema.specs.Term.{TermKey}
 use Rattle.qm_schema.specs.declared.error.QueryError.{QueryError}
 use Rattle.qm_schema.specs.declared.error.QueryError.TheVariants.{EmptyPrefix, Memory, TieBreaker}
 use Rattle.qm_schema.specs.declared.occur.Occur.{Occur}
-use Rattle.qm_script.specs.Asked.{asked, clauses_asked, disjuncts_asked, disjunction_max_asked, phrase_asked, phrase_prefix_asked, prefix_parts, term_of_word}
+use Rattle.birchagain.specs.Body.{body_term}
+use Rattle.qm_script.specs.Asked.{asked, clauses_asked, disjuncts_asked, disjunction_max_asked, phrase_asked, phrase_prefix_asked, prefix_parts}
 use Rattle.qm_script.specs.Asked.{unless, ◌>>=◌}
 use Rattle.qm_script.specs.PrefixFree.{PrefixTest}
 use Rattle.qm_script.specs.Prefixes.{has_failing, have_clauses_failing, have_queries_failing}
@@ -42,11 +43,11 @@ unless-refused None (Err k) e x was h = let same : e ≡ k = cc in inl (same ∙
 unless-refused (Some d) (Ok y) e x was h = absurd (cc)
 unless-refused (Some d) (Err k) e x was h = let same : d ≡ e = cc in inr (ap refused same)
 
-pub phrase-refused : {X : Type 0} (slop : ℕ) (words : List (List ℕ)) (items : List TermKey) → items ≡ map term_of_word words → (r : Result X QueryError)
+pub phrase-refused : {X : Type 0} (slop : ℕ) (words : List (List ℕ)) (items : List TermKey) → items ≡ map body_term words → (r : Result X QueryError)
     (e : QueryError) → r ≡ Err e → IsRefusedFor (with_two items (row_refusal items)) r → (e ≡ Memory) ⊎ (phrase_asked slop words ≡ Err e)
 phrase-refused slop words items same r e was h =
-    unless-refused (with_two (map term_of_word words) (row_refusal (map term_of_word words))) r e (query.phrase
-    (record { terms = enumerate_from 0 (map term_of_word words); slop = slop })) was (subst (λ ts. IsRefusedFor (with_two ts (row_refusal ts)) r) same h)
+    unless-refused (with_two (map body_term words) (row_refusal (map body_term words))) r e (query.phrase
+    (record { terms = enumerate_from 0 (map body_term words); slop = slop })) was (subst (λ ts. IsRefusedFor (with_two ts (row_refusal ts)) r) same h)
 
 pub through : (wanted : Result Query QueryError) (x y : Query) → wanted ≡ Ok x → y ≡ x → wanted ≡ Ok y
 through wanted x y is same = is ∙ ap (λ q. let r : Result Query QueryError = Ok q in r) (sym same)
@@ -73,7 +74,7 @@ prefix_parts-last most t (u ∷ us) (v ∷ terms) prefix e =
     λ i. record (inner i) { terms = first i ∷ (inner i).terms }
 
 abbrev terms_of : List (List ℕ) → List TermKey
-terms_of words = map term_of_word words
+terms_of words = map body_term words
 
 with_one-some : (t : TermKey) (ts : List TermKey) (otherwise : Option QueryError) → with_one (t ∷ ts) otherwise ≡ otherwise
 with_one-some t ts otherwise = ap (λ b. if b then Some EmptyPrefix else otherwise) (le-ltb (length (t ∷ ts)) 1 (omega arith))
@@ -84,12 +85,12 @@ prefix-made-of : {X : Type 0} (most : ℕ) (words : List (List ℕ)) (r : X) (te
 prefix-made-of most [] r terms prefix h e = absurd (omega (arith, ap length e, length-append terms (prefix ∷ [])))
 prefix-made-of most (w ∷ words) r terms prefix h e =
     let due = row_refusal (terms_of (w ∷ words)) in
-    unless-made due r (query.phrase_prefix (prefix_parts most (0, term_of_word w) (enumerate_from 1 (terms_of words))))
-    (subst (λ o. IsRefusedFor o (made r)) (with_one-some (term_of_word w) (terms_of words) due) h)
+    unless-made due r (query.phrase_prefix (prefix_parts most (0, body_term w) (enumerate_from 1 (terms_of words))))
+    (subst (λ o. IsRefusedFor o (made r)) (with_one-some (body_term w) (terms_of words) due) h)
     ∙ ap (λ (p : PrefixParts). let a : Result Query QueryError = Ok (query.phrase_prefix p) in a)
-    (prefix_parts-last most (0, term_of_word w) (enumerate_from 1 (terms_of words)) terms prefix e)
+    (prefix_parts-last most (0, body_term w) (enumerate_from 1 (terms_of words)) terms prefix e)
 
-pub prefix-made : {X : Type 0} (most : ℕ) (words : List (List ℕ)) (items : List TermKey) → items ≡ map term_of_word words →
+pub prefix-made : {X : Type 0} (most : ℕ) (words : List (List ℕ)) (items : List TermKey) → items ≡ map body_term words →
     (r : X) (terms : List (ℕ × TermKey)) (prefix : ℕ × TermKey) → IsRefusedFor (with_one items (row_refusal items)) (made r) → terms ++ prefix ∷ []
     ≡ enumerate_from 0 items → phrase_prefix_asked most words ≡ Ok (query.phrase_prefix (record { terms = terms; prefix = prefix; max_expansions = most }))
 prefix-made most words items same r terms prefix h e =

@@ -9,7 +9,8 @@ use Rattle.qm_postings.specs.Segment.{IsGood, Segment, document_of, with_documen
 use Rattle.qm_schema.specs.declared.error.QueryError.{QueryError}
 use Rattle.qm_schema.specs.declared.error.QueryError.TheVariants.{BadDocument, Memory, TooManyDocuments, TooManySegments}
 use Rattle.qm_script.specs.Answers.{IsLastSegment, IsNotRefused}
-use Rattle.qm_script.specs.ProgramNumbers.{body_field, most_documents, most_segments}
+use Rattle.birchagain.specs.Body.{body_field}
+use Rattle.qm_script.specs.ProgramNumbers.{most_documents, most_segments}
 use Rattle.qm_script.specs.ScriptSegments.{Script}
 use Rattle.qm_script.specs.TextSegments.{IsTextRefusal, text_document, text_draft, with_text}
 

@@ -15,11 +15,7 @@ use Rattle.qm_schema.specs.declared.schema.option.IndexRecordOption.TheVariants.
 use Rattle.qm_script.specs.Script as spelled
 use Rattle.qm_script.specs.Script.{Clauses, Queries, all, none, term, phrase, phrase_prefix, boolean, boost, constant, disjunction_max, no_clause, clause}
 use Rattle.qm_script.specs.Script.{no_query, query}
-use Rattle.qm_script.specs.ProgramNumbers.{body_field}
-
--- a word, as a term
-abbrev pub term_of_word : List ℕ → TermKey
-term_of_word word = record { field = body_field; bytes = word }
+use Rattle.birchagain.specs.Body.{body_term}
 
 -- what is made where no refusal is due
 abbrev pub unless : {X : Type 0} → Option QueryError → X → Result X QueryError
@@ -35,12 +31,12 @@ Err e >>= f = Err e
 -- ---- queries without queries below them
 
 abbrev pub term_asked : List ℕ → Result Query QueryError
-term_asked word = Ok (query.term (record { term = term_of_word word; option = WithFreqs }))
+term_asked word = Ok (query.term (record { term = body_term word; option = WithFreqs }))
 
 abbrev pub phrase_asked : ℕ → List (List ℕ) → Result Query QueryError
 phrase_asked slop words =
-    unless (with_two (map term_of_word words) (row_refusal (map term_of_word words)))
-    (query.phrase (record { terms = enumerate_from 0 (map term_of_word words); slop = slop }))
+    unless (with_two (map body_term words) (row_refusal (map body_term words)))
+    (query.phrase (record { terms = enumerate_from 0 (map body_term words); slop = slop }))
 
 -- terms with their offsets, of which the last is the prefix
 abbrev pub prefix_parts : ℕ → ℕ × TermKey → List (ℕ × TermKey) → PrefixParts
@@ -50,7 +46,7 @@ prefix_parts most t (u ∷ us) = record (prefix_parts most u us) { terms = t ∷
 abbrev pub phrase_prefix_asked : ℕ → List (List ℕ) → Result Query QueryError
 phrase_prefix_asked most [] = Err EmptyPrefix
 phrase_prefix_asked most (w ∷ words) =
-    unless (row_refusal (map term_of_word (w ∷ words))) (query.phrase_prefix (prefix_parts most (0, term_of_word w) (enumerate_from 1 (map term_of_word words))))
+    unless (row_refusal (map body_term (w ∷ words))) (query.phrase_prefix (prefix_parts most (0, body_term w) (enumerate_from 1 (map body_term words))))
 
 -- ---- all queries
 

@@ -1,7 +1,7 @@
 -- Which queries have a phrase prefix that fails a test. Of a segment that is kept in parts they ask the terms of the
 -- whole, where others ask documents alone.
 use Rattle.std.specs.Prelude.{ℕ, Bool, true, false, not, ◌||◌, List, [], ◌∷◌}
-use Rattle.qm_script.specs.Asked.{term_of_word}
+use Rattle.birchagain.specs.Body.{body_term}
 use Rattle.qm_script.specs.PrefixFree.{PrefixTest}
 use Rattle.qm_script.specs.Script.{Query, Clauses, Queries, all, none, term, phrase, phrase_prefix, boolean, boost, constant, disjunction_max, no_clause}
 use Rattle.qm_script.specs.Script.{clause, no_query, query}
@@ -9,7 +9,7 @@ use Rattle.qm_script.specs.Script.{clause, no_query, query}
 -- the last of some words passes the test, as a prefix that is expanded to at most so many terms; so it is without words
 abbrev pub last_passes : PrefixTest → ℕ → List (List ℕ) → Bool
 last_passes test most [] = true
-last_passes test most (w ∷ []) = test (term_of_word w) most
+last_passes test most (w ∷ []) = test (body_term w) most
 last_passes test most (w ∷ v ∷ words) = last_passes test most (v ∷ words)
 
 abbrev mutual

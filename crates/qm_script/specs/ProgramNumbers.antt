@@ -1,8 +1,7 @@
 -- The numbers that the program goes by, written out: its constants have to agree with them.
 use Rattle.std.specs.Prelude.{ℕ}
 
--- the numbers that the program goes by, written out, so that its constants have to agree with them: 500, 1000,
--- 4294967295, 2147483647, 128 and 0
+-- how deep a query of a script may be
 abbrev pub most_depth : ℕ
 most_depth = 500
 
@@ -21,7 +20,3 @@ most_documents = 2147483647
 -- how many postings a block of a segment has
 abbrev pub block_length : ℕ
 block_length = 128
-
--- the number of the field of a script's documents, which have no other
-abbrev pub body_field : ℕ
-body_field = 0

@@ -3,7 +3,7 @@ use Rattle.std.specs.Prelude.{ℕ, List}
 use Rattle.std.specs.FinMap.{FinMap, empty, insert}
 use Rattle.qm_schema.specs.Term.{term_cmp}
 use Rattle.qm_index.specs.Indexed.{statistics}
-use Rattle.qm_script.specs.Asked.{term_of_word}
+use Rattle.birchagain.specs.Body.{body_term}
 use Rattle.qm_script.specs.ScriptSegments.{Script, script}
 use Rattle.qm_script.specs.Start.{start_script}
 use Rattle.qm_script.specs.declared.corpus.Corpus.{Corpus}
@@ -28,4 +28,4 @@ with_documents s documents = record { documents = documents; weights = s.weights
 
 -- a word weighs so much from now on
 abbrev pub with_word_weight : State → List ℕ → ℕ → State
-with_word_weight s word weight = record { documents = s.documents; weights = insert s.weights (term_of_word word) weight }
+with_word_weight s word weight = record { documents = s.documents; weights = insert s.weights (body_term word) weight }

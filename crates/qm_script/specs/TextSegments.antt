@@ -5,7 +5,8 @@ use Rattle.qm_postings.specs.Segment.{Document, IsGood, Segment, document_of, wi
 use Rattle.qm_schema.specs.Schema.{FieldFacts}
 use Rattle.qm_schema.specs.declared.error.QueryError.{QueryError}
 use Rattle.qm_schema.specs.declared.error.QueryError.TheVariants.{TooManyDocuments, BadDocument}
-use Rattle.qm_script.specs.ProgramNumbers.{body_field, most_documents}
+use Rattle.birchagain.specs.Body.{body_field}
+use Rattle.qm_script.specs.ProgramNumbers.{most_documents}
 
 -- a document with the words of a text
 unfoldable pub text_draft : List ℕ → Draft

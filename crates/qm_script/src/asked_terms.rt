@@ -7,7 +7,7 @@ ghost use Rattle.std.specs.Prelude.{◌≡◌, ◌++◌, All, IfOk, IsOkUnless, 
 ghost use Rattle.std.specs.List.Sorted.{IsStrictlySortedBy};
 ghost use Rattle.qm_index.specs.Parts.{segments_of};
 ghost use Rattle.qm_schema.specs.Term.{term_cmp};
-ghost use Rattle.qm_script.specs.Asked.{term_of_word};
+ghost use Rattle.birchagain.specs.Body.{body_term};
 ghost use Rattle.qm_script.specs.AskedTerms.{all_expansions, asked_terms, prefix_terms};
 ghost use Rattle.qm_script.specs.Spelled.{query_of, texts};
 ghost use Rattle.qm_script.specs.Wanted.{is_wanted};
@@ -81,7 +81,7 @@ fn push_asked(
 
 // Adds words as terms.
 fn push_words(alloc: Global, words: &[String], terms: &mut Vec<Term>) -> Result<(), QueryError>
-    ensures added { OnOk result (terms.new.items ≡ terms.old.items ++ map term_of_word (texts words.now)) }
+    ensures added { OnOk result (terms.new.items ≡ terms.old.items ++ map body_term (texts words.now)) }
     ensures refused { IsOkUnless result QueryError.Memory }
 {
     terms.append(&mut word_terms(alloc, words)?)?;
@@ -114,7 +114,7 @@ fn push_all_expansions(
     segments: &[SegmentReader],
     terms: &mut Vec<Term>,
 ) -> Result<(), QueryError>
-    ensures added { OnOk result (terms.new.items ≡ terms.old.items ++ all_expansions (segments_of segments.now) (term_of_word prefix.now) most) }
+    ensures added { OnOk result (terms.new.items ≡ terms.old.items ++ all_expansions (segments_of segments.now) (body_term prefix.now) most) }
     ensures refused { IsOkUnless result QueryError.Memory }
 {
     // those of the segments before it are there
@@ -132,7 +132,7 @@ fn push_expansions(
     most: u32,
     terms: &mut Vec<Term>,
 ) -> Result<(), QueryError>
-    ensures added { OnOk result (terms.new.items ≡ terms.old.items ++ expansions segment.now.segment (term_of_word prefix.now) most) }
+    ensures added { OnOk result (terms.new.items ≡ terms.old.items ++ expansions segment.now.segment (body_term prefix.now) most) }
     ensures refused { IsOkUnless result QueryError.Memory }
 {
     let index = segment.inverted_index(body());

@@ -8,7 +8,7 @@ ghost use Rattle.std.specs.FinMap.{empty, insert};
 ghost use Rattle.std.specs.List.{range_with_len};
 ghost use Rattle.qm_docset.specs.declared.numbers.TheConstants.{TERMINATED};
 ghost use Rattle.qm_index.specs.Indexed.{statistics};
-ghost use Rattle.qm_script.specs.Asked.{term_of_word};
+ghost use Rattle.birchagain.specs.Body.{body_term};
 ghost use Rattle.qm_script.specs.Fields.{script_fields};
 ghost use Rattle.qm_script.specs.Parts.{document_count};
 ghost use Rattle.qm_script.specs.ProgramNumbers.{most_segments, ungiven_weight};
@@ -99,7 +99,7 @@ impl Corpus {
         weight: NonNegativeScore,
     ) -> Result<(), QueryError>
         ensures documents { script self.new ≡ script self.old }
-        ensures set { OnOk result ((statistics self.new.index).weights ≡ insert (statistics self.old.index).weights (term_of_word word.now) (nat_abs weight.score)) }
+        ensures set { OnOk result ((statistics self.new.index).weights ≡ insert (statistics self.old.index).weights (body_term word.now) (nat_abs weight.score)) }
         ensures kept { OnErr result ((statistics self.new.index).weights ≡ (statistics self.old.index).weights) }
         ensures refused { IsOkUnless result QueryError.Memory }
     {

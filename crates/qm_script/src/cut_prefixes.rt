@@ -5,7 +5,7 @@
 
 ghost use Rattle.std.specs.Prelude.{◌≡◌, ◌≤◌, SomeIff, length, not};
 ghost use Rattle.qm_index.specs.Parts.{segments_of};
-ghost use Rattle.qm_script.specs.Asked.{term_of_word};
+ghost use Rattle.birchagain.specs.Body.{body_term};
 ghost use Rattle.qm_script.specs.Prefixes.{has_failing, last_passes};
 ghost use Rattle.qm_script.specs.Reached.{is_reached, prefixed};
 ghost use Rattle.qm_script.specs.Spelled.{query_of, texts};
@@ -63,7 +63,7 @@ fn is_cut(words: &[String], most: u32, segments: &[SegmentReader]) -> bool
 
 // Whether a prefix begins at most so many terms of the segments together.
 fn is_reached(prefix: &[u8], most: u32, segments: &[SegmentReader]) -> bool
-    ensures { result ≡ is_reached (segments_of segments.now) (term_of_word prefix.now) most }
+    ensures { result ≡ is_reached (segments_of segments.now) (body_term prefix.now) most }
 {
     let mut left = most;
     // the segments before have as many as were taken off
@@ -78,7 +78,7 @@ fn is_reached(prefix: &[u8], most: u32, segments: &[SegmentReader]) -> bool
 
 // How many terms of a segment a prefix begins, and none where these are more than so many.
 fn count_prefixed(segment: &SegmentReader, prefix: &[u8], most: u32) -> Option<u32>
-    ensures { SomeIff result (length (prefixed segment.now.segment (term_of_word prefix.now)) ≤ most) (length (prefixed segment.now.segment (term_of_word prefix.now))) }
+    ensures { SomeIff result (length (prefixed segment.now.segment (body_term prefix.now)) ≤ most) (length (prefixed segment.now.segment (body_term prefix.now))) }
 {
     let index = segment.inverted_index(body());
     let mut count = 0;

@@ -1,8 +1,7 @@
 //! The words of a query as terms of the one field that a script's documents have.
 
 ghost use Rattle.std.specs.Prelude.{◌≡◌, IfOk, IsOkUnless, map};
-ghost use Rattle.qm_script.specs.Asked.{term_of_word};
-ghost use Rattle.qm_script.specs.ProgramNumbers.{body_field};
+ghost use Rattle.birchagain.specs.Body.{body_field, body_term};
 ghost use Rattle.qm_script.specs.Spelled.{texts};
 
 use qm_schema::{Field, QueryError, Term};
@@ -20,7 +19,7 @@ pub(crate) fn body() -> Field
 
 /// The word as a term. `Memory` is its only refusal.
 pub(crate) fn word_term(alloc: Global, word: &str) -> Result<Term, QueryError>
-    ensures term { IfOk result (λ term. term ≡ term_of_word word.now) }
+    ensures term { IfOk result (λ term. term ≡ body_term word.now) }
     ensures refused { IsOkUnless result QueryError.Memory }
 {
     Term::from_field_text(alloc, body(), word)
@@ -28,7 +27,7 @@ pub(crate) fn word_term(alloc: Global, word: &str) -> Result<Term, QueryError>
 
 /// Each word as a term. `Memory` is its only refusal.
 pub(crate) fn word_terms(alloc: Global, words: &[String]) -> Result<Vec<Term>, QueryError>
-    ensures terms { IfOk result (λ terms. terms.items ≡ map term_of_word (texts words.now)) }
+    ensures terms { IfOk result (λ terms. terms.items ≡ map body_term (texts words.now)) }
     ensures refused { IsOkUnless result QueryError.Memory }
 {
     let mut terms = Vec::with_capacity(alloc, words.len())?;

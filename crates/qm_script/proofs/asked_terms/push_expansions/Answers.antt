@@ -9,12 +9,12 @@ use Rattle.qm_postings.specs.declared.inverted_index.TermInfo.{TermInfo}
 use Rattle.qm_schema.specs.Term.{TermKey}
 use Rattle.qm_weight.specs.Tree.{begins_with}
 use Rattle.qm_weight.proofs.HeldTerms.{front, front-found, front-step}
-use Rattle.qm_script.specs.Asked.{term_of_word}
+use Rattle.birchagain.specs.Body.{body_term}
 use Rattle.qm_script.proofs.asked_terms.push_expansions.Goals as goal
 
 pub loop-term-init : goal.loop-term-init
 loop-term-init c =
-    let prefix : TermKey = term_of_word c.args.prefix.now in
+    let prefix : TermKey = body_term c.args.prefix.now in
     let index : FieldIndex = record { reader = c.args.segment.now; field = 0 } in
     let left = terms_left c.into_iter-term-iterator.result in
     let tie : shown c.inverted_index-index.result ≡ index = c.inverted_index-index.ensures
@@ -26,7 +26,7 @@ loop-term-init c =
 
 pub loop-term-preserved : goal.loop-term-preserved
 loop-term-preserved c =
-    let prefix : TermKey = term_of_word c.args.prefix.now in
+    let prefix : TermKey = body_term c.args.prefix.now in
     let index : FieldIndex = record { reader = c.args.segment.now; field = 0 } in
     let had = c.loop-term.invariant in
     let t : TermKey = c.in-Some.term.now in

@@ -11,7 +11,7 @@ use Rattle.qm_schema.specs.Term.{TermKey}
 use Rattle.qm_weight.proofs.HeldTerms.{front, front-found}
 use Rattle.qm_script.specs.Reached.{prefixed}
 use Rattle.qm_weight.specs.Tree.{begins_with}
-use Rattle.qm_script.specs.Asked.{term_of_word}
+use Rattle.birchagain.specs.Body.{body_term}
 use Rattle.qm_script.proofs.cut_prefixes.count_prefixed.Goals as goal
 
 abbrev index_of : Reader → FieldIndex
@@ -25,11 +25,11 @@ first_of pair = pair.0
 
 -- the terms that the prefix begins, of those that are still to come
 abbrev ahead : List ℕ → List (TermKey × TermInfo) → List TermKey
-ahead prefix left = front (begins_with (term_of_word prefix)) (map first_of left)
+ahead prefix left = front (begins_with (body_term prefix)) (map first_of left)
 
 pub loop-term-init : goal.loop-term-init
 loop-term-init c =
-    let prefix : TermKey = term_of_word c.args.prefix.now in
+    let prefix : TermKey = body_term c.args.prefix.now in
     let index = index_of c.args.segment.now in
     let left = terms_left c.into_iter-term-iterator.result in
     let same = sym c.into_iter-term-iterator.ensures.into_iter_gives in
@@ -43,15 +43,15 @@ loop-term-init c =
 -- the next term, and those behind it
 module _ (reader : Reader) (prefix : List ℕ) (t : TermKey) (info : TermInfo) (others : List (TermKey × TermInfo))
     (known : All (IsKnown reader) ((t, info) ∷ others)) where
-  begins-next : (b : Bool) → b ≡ starts_with nat_eq t.bytes prefix → begins_with (term_of_word prefix) t ≡ b
+  begins-next : (b : Bool) → b ≡ starts_with nat_eq t.bytes prefix → begins_with (body_term prefix) t ≡ b
   begins-next b is =
       let here : IsKnown reader (t, info) = All-head (IsKnown reader) (t, info) others known in
       (λ i. eq-eqb t.field 0 here.held.0 i && sym is i)
 
-  ahead-begun : begins_with (term_of_word prefix) t ≡ true → length (ahead prefix ((t, info) ∷ others)) ≡ 1 + length (ahead prefix others)
+  ahead-begun : begins_with (body_term prefix) t ≡ true → length (ahead prefix ((t, info) ∷ others)) ≡ 1 + length (ahead prefix others)
   ahead-begun begins = ap (λ b. length (if b then t ∷ ahead prefix others else [])) begins ∙ omega arith
 
-  ahead-none : begins_with (term_of_word prefix) t ≡ false → length (ahead prefix ((t, info) ∷ others)) ≡ 0
+  ahead-none : begins_with (body_term prefix) t ≡ false → length (ahead prefix ((t, info) ∷ others)) ≡ 0
   ahead-none fails = ap (λ b. length (if b then t ∷ ahead prefix others else [])) fails
 
 pub returns-then-count-most : goal.returns-then-count-most
@@ -97,7 +97,7 @@ pub returns-in-None : goal.returns-in-None
 returns-in-None c =
     let had = c.loop-term.invariant in
     let none = ap (λ left. length (ahead c.args.prefix.now left)) c.in-None.ensures.steps.0 in
-    let count : c.loop-term.count ≡ length (prefixed c.args.segment.now.segment (term_of_word c.args.prefix.now)) = omega (arith, had.counted, none) in
+    let count : c.loop-term.count ≡ length (prefixed c.args.segment.now.segment (body_term c.args.prefix.now)) = omega (arith, had.counted, none) in
     (omega (arith, count, had.within), count)
 
 pub returns-then-not-starts_with : goal.returns-then-not-starts_with
@@ -114,5 +114,5 @@ returns-then-not-starts_with c =
     let begins = begins-next reader prefix t info others known false bytes in
     let all = ap (λ left. length (ahead prefix left)) first in
     let none = ahead-none reader prefix t info others known begins in
-    let count : c.loop-term.count ≡ length (prefixed c.args.segment.now.segment (term_of_word c.args.prefix.now)) = omega (arith, had.counted, all, none) in
+    let count : c.loop-term.count ≡ length (prefixed c.args.segment.now.segment (body_term c.args.prefix.now)) = omega (arith, had.counted, all, none) in
     (omega (arith, count, had.within), count)

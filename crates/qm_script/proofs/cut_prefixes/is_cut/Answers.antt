@@ -1,7 +1,7 @@
 -- By the last word.
 use Rattle.std.proofs.Common.{not, ap, sym, ◌∙◌}
 use Rattle.qm_index.specs.Parts.{segments_of}
-use Rattle.qm_script.specs.Asked.{term_of_word}
+use Rattle.birchagain.specs.Body.{body_term}
 use Rattle.qm_script.specs.Reached.{is_reached}
 use Rattle.qm_script.proofs.LastWords.{last_passes-none, last_passes-some}
 use Rattle.qm_script.proofs.cut_prefixes.is_cut.Goals as goal
@@ -9,7 +9,7 @@ use Rattle.qm_script.proofs.cut_prefixes.is_cut.Goals as goal
 pub returns-in-Some : goal.returns-in-Some
 returns-in-Some c =
     let test = is_reached (segments_of c.args.segments.now) in
-    ap not (c.is_reached.ensures ∙ ap (λ bytes. test (term_of_word bytes) c.args.most) c.as_bytes.ensures.value
+    ap not (c.is_reached.ensures ∙ ap (λ bytes. test (body_term bytes) c.args.most) c.as_bytes.ensures.value
     ∙ sym (last_passes-some test c.args.most c.args.words.now c.in-Some.prefix.now (sym c.in-Some.ensures.value)))
 
 pub returns-in-None : goal.returns-in-None

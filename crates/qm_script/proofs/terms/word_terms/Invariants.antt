@@ -1,7 +1,7 @@
 use Rattle.std.proofs.Common.{◌≡◌, map, take}
-use Rattle.qm_script.specs.Asked.{term_of_word}
+use Rattle.birchagain.specs.Body.{body_term}
 use Rattle.qm_script.specs.Spelled.{texts}
 use Rattle.qm_script.proofs.terms.word_terms.Given as goal
 
 abbrev pub invariant-loop-word : goal.invariant-loop-word
-invariant-loop-word l = l.terms.items ≡ map term_of_word (texts (take l.word-index l.words))
+invariant-loop-word l = l.terms.items ≡ map body_term (texts (take l.word-index l.words))
