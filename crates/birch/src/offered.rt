@@ -1,7 +1,8 @@
 //! The options of the command, in the order in which its help has them.
 
 use birch_text::FILE_TYPES;
-use clap::{Arg, ArgAction, Command, value_parser};
+use clap::builder::ValueParser;
+use clap::{Arg, ArgAction, Command};
 use std::alloc::{AllocError, Global};
 
 /// The version of the program, the first one of CHANGELOG.md.
@@ -23,52 +24,56 @@ the file's own name, or with --csv-fields and --json-fields of the field with th
 and parentheses. A \\ makes a letter of a sign.
 Status: 0 if something was found, 1 if nothing was, 2 after an error.";
 
-/// What stands behind an option, by the word that help has for it.
-#[derive(Clone, Copy)]
-enum Value {
-    /// Nothing: the option is said, or it isn't.
-    Nothing,
-    /// Any text.
-    Text(&'static str),
-    /// Any text, and the option may be repeated.
-    Texts(&'static str),
-    /// A number of 32 bits.
-    Number(&'static str),
-    /// One of these words.
-    Word(&'static str, &'static [&'static str]),
-    /// One of these words, and the option may be repeated.
-    Words(&'static str, &'static [&'static str]),
-}
-
-/// An option of the command.
+/// An option of the command, in clap's words.
 #[derive(Clone, Copy)]
 struct Offered {
     /// Its name behind two hyphens.
     name: &'static str,
     /// Its letter behind one hyphen.
     letter: Option<char>,
-    /// What stands behind it.
-    value: Value,
-    /// The value where it isn't said.
-    default: Option<&'static str>,
+    /// What happens where it is said.
+    action: ArgAction,
+    /// What help calls its value, where it has one.
+    value: &'static [&'static str],
+    /// What its value has to be.
+    parser: ValueParser<'static>,
+    /// The value where it isn't said, if it then has one.
+    default: &'static [&'static str],
     /// The options that can't be said with it; a pair stands at one of the two.
     excludes: &'static [&'static str],
     /// What it does, in one line.
     help: &'static str,
 }
 
-/// An option with nothing behind it.
+/// An option with no value.
 const FLAG: Offered = Offered {
     name: "",
     letter: None,
-    value: Value::Nothing,
-    default: None,
+    action: ArgAction::SetTrue,
+    value: &[],
+    parser: ValueParser::Bool,
+    default: &[],
     excludes: &[],
     help: "",
 };
 
-/// All options; help has them in this order.
-const OPTIONS: [Offered; 28] = [
+/// An option whose value is any text.
+const TEXT: Offered = Offered {
+    action: ArgAction::Set,
+    parser: ValueParser::String,
+    ..FLAG
+};
+
+/// An option whose value is a number of 32 bits.
+const NUMBER: Offered = Offered {
+    action: ArgAction::Set,
+    parser: ValueParser::Signed(0, 4294967295),
+    ..FLAG
+};
+
+/// All options; help has them in this order. They are no constant, since the proof of `command` would go through that
+/// for a minute.
+static OPTIONS: [Offered; 28] = [
     Offered {
         name: "lines",
         excludes: &["csv", "json-key"],
@@ -77,16 +82,16 @@ const OPTIONS: [Offered; 28] = [
     },
     Offered {
         name: "csv",
-        value: Value::Text("COLUMN"),
+        value: &["COLUMN"],
         excludes: &["json-key"],
         help: "A document is that column of a row of a CSV file",
-        ..FLAG
+        ..TEXT
     },
     Offered {
         name: "json-key",
-        value: Value::Text("KEY"),
+        value: &["KEY"],
         help: "A document is the text under that key of a line of JSON",
-        ..FLAG
+        ..TEXT
     },
     Offered {
         name: "csv-fields",
@@ -117,23 +122,26 @@ const OPTIONS: [Offered; 28] = [
     },
     Offered {
         name: "glob",
-        value: Value::Texts("PATTERN"),
+        action: ArgAction::Append,
+        value: &["PATTERN"],
         help: "Reads only what fits, as *.md or doc/**, or with ! in front what doesn't; may be repeated",
-        ..FLAG
+        ..TEXT
     },
     Offered {
         name: "type",
         letter: Some('t'),
-        value: Value::Words("TYPE", &FILE_TYPES),
+        action: ArgAction::Append,
+        value: &["TYPE"],
+        parser: ValueParser::Names(&FILE_TYPES),
         help: "Reads only files of a kind, as md or py; may be repeated",
-        ..FLAG
+        ..TEXT
     },
     Offered {
         name: "max-size",
-        value: Value::Text("BYTES"),
-        default: Some(DEFAULT_SIZE),
+        value: &["BYTES"],
+        default: &[DEFAULT_SIZE],
         help: "Leaves out larger files; 10K, 10M and 1G are understood",
-        ..FLAG
+        ..TEXT
     },
     Offered {
         name: "notes",
@@ -171,24 +179,24 @@ const OPTIONS: [Offered; 28] = [
     },
     Offered {
         name: "index-dir",
-        value: Value::Text("FOLDER"),
+        value: &["FOLDER"],
         help: "Keeps indexes there, and not in the user's cache",
-        ..FLAG
+        ..TEXT
     },
     Offered {
         name: "limit",
         letter: Some('k'),
-        value: Value::Number("K"),
-        default: Some(DEFAULT_LIMIT),
+        value: &["K"],
+        default: &[DEFAULT_LIMIT],
         help: "Lists at most so many results",
-        ..FLAG
+        ..NUMBER
     },
     Offered {
         name: "skip",
-        value: Value::Number("N"),
+        value: &["N"],
         excludes: &["explain"],
         help: "Leaves out the first N results, as if they stood on pages before",
-        ..FLAG
+        ..NUMBER
     },
     Offered {
         name: "files",
@@ -214,10 +222,10 @@ const OPTIONS: [Offered; 28] = [
     },
     Offered {
         name: "explain",
-        value: Value::Number("N"),
+        value: &["N"],
         excludes: &["count"],
         help: "Prints the N-th result alone, and why it scores what it does",
-        ..FLAG
+        ..NUMBER
     },
     Offered {
         name: "stats",
@@ -226,16 +234,17 @@ const OPTIONS: [Offered; 28] = [
     },
     Offered {
         name: "queries",
-        value: Value::Text("FILE"),
+        value: &["FILE"],
         help: "Answers each line of a file, or of - for standard input",
-        ..FLAG
+        ..TEXT
     },
     Offered {
         name: "color",
-        value: Value::Word("WHEN", &COLORS),
-        default: Some("auto"),
+        value: &["WHEN"],
+        parser: ValueParser::Names(&COLORS),
+        default: &["auto"],
         help: "Colours found words: never, auto or always",
-        ..FLAG
+        ..TEXT
     },
 ];
 
@@ -272,30 +281,14 @@ fn with_option<'a>(
 ) -> Result<Command<'a>, AllocError> {
     let arg = Arg::new(alloc, offered.name)
         .long(offered.name)
+        .action(offered.action)
+        .value_names(offered.value)
+        .value_parser(offered.parser)
+        .default_values(offered.default)
         .help(offered.help)
         .conflicts_with_all(offered.excludes)?;
-    let arg = with_value(arg, offered.value);
-    let arg = match offered.letter {
+    command.arg(match offered.letter {
         Some(letter) => arg.short(letter),
         None => arg,
-    };
-    command.arg(match offered.default {
-        Some(text) => arg.default_value(text),
-        None => arg,
     })
-}
-
-// The option with what stands behind it.
-fn with_value<'a>(arg: Arg<'a>, value: Value) -> Arg<'a> {
-    match value {
-        Value::Nothing => arg.action(ArgAction::SetTrue),
-        Value::Text(name) => arg.value_name(name),
-        Value::Texts(name) => arg.value_name(name).action(ArgAction::Append),
-        Value::Number(name) => arg.value_name(name).value_parser(value_parser!(u32)),
-        Value::Word(name, words) => arg.value_name(name).value_parser(words),
-        Value::Words(name, words) => arg
-            .value_name(name)
-            .value_parser(words)
-            .action(ArgAction::Append),
-    }
 }

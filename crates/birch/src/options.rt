@@ -107,10 +107,7 @@ fn paths<'a>(
     if let Some(path) = first {
         paths.push(path)?;
     }
-    // the paths before this one are there
-    for path in matches.get_strs("PATH").unwrap_or(&[]) {
-        paths.push(*path)?;
-    }
+    paths.extend_from_slice(matches.get_strs("PATH").unwrap_or(&[]))?;
     if paths.is_empty() {
         paths.push(".")?;
     }
@@ -184,10 +181,7 @@ fn texts<'a>(
     name: &str,
 ) -> Result<Vec<&'a str>, AllocError> {
     let mut texts = Vec::new(alloc);
-    // the texts before this one are there
-    for text in matches.get_strs(name).unwrap_or(&[]) {
-        texts.push(*text)?;
-    }
+    texts.extend_from_slice(matches.get_strs(name).unwrap_or(&[]))?;
     Ok(texts)
 }
 

@@ -1,5 +1,5 @@
 -- The cells of a stretch of documents: what lists that are taken in make of each document.
-use Rattle.std.specs.Prelude.{◌≡◌, ◌≢◌, ℕ, zero, suc, ℤ, ◌+◌, ◌-◌, ◌<◌, ◌≤◌, ◌==◌, ◌&&◌, ◌||◌, Bool, false, nat_le, cond, List, [], ◌∷◌, length, slice_index_or}
+use Rattle.std.specs.Prelude.{◌≡◌, ◌≢◌, ℕ, zero, suc, ℤ, ◌+◌, ◌-◌, ◌*◌, ◌<◌, ◌≤◌, ◌==◌, ◌&&◌, ◌||◌, Bool, false, not, true, nat_le, cond, List, [], ◌∷◌, length, slice_index_or}
 use Rattle.std.specs.Prelude.{pos, map}
 use Rattle.std.specs.List.{fold}
 use Rattle.qm_docset.specs.Words.{words_have}
@@ -50,6 +50,20 @@ pub record AreAlike {C : Type 0} (w w' : Cells C) : Type 0 where
   pub start : cells_start w' ≡ cells_start w
   pub end : cells_end w' ≡ cells_end w
   pub clear : cells_clear w' ≡ cells_clear w
+
+-- the first document of a word
+pub record IsFirstIn {C : Type 0} (word : ℕ) (w : Cells C) (doc : ℕ) : Type 0 where
+  pub has : cells_has w doc ≡ true
+  pub before : LackAll w (cells_start w + 64 * word) doc
+  pub below : doc < cells_start w + 64 * (word + 1)
+
+-- a document is taken out, and this was its cell
+pub record TakesOut {C : Type 0} (w : Cells C) (doc : ℕ) (taken : Cell C) (w' : Cells C) : Type 0 where
+  pub cell : taken ≡ cell_of w doc
+  pub has : (d : ℕ) → cells_has w' d ≡ (cells_has w d && not (d == doc))
+  pub cleared : cell_of w' doc ≡ cells_clear w
+  pub others : (d : ℕ) → (d == doc) ≡ false → cell_of w' d ≡ cell_of w d
+  pub alike : AreAlike w w'
 
 -- a score of a document is added, and the bound of a block that it is in
 pub record Adds {C : Type 0} (step : C → ℕ → C) (doc score bound : ℕ) (w w' : Cells C) : Type 0 where

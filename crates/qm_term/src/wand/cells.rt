@@ -1,6 +1,6 @@
 //! The cells of a stretch: what its documents' scores come to, and the bounds of their blocks.
 
-ghost use Rattle.std.specs.Prelude.{◌≡◌, ℕ, ◌+◌, ◌*◌, ◌/◌, ◌<◌, ◌≤◌, ◌==◌, ◌||◌, ◌&&◌, not, false, true, length, set, slice_index_or, vec_capacity, vec_len};
+ghost use Rattle.std.specs.Prelude.{◌≡◌, ℕ, ◌+◌, ◌*◌, ◌/◌, ◌<◌, ◌≤◌, ◌==◌, ◌||◌, true, length, set, slice_index_or, vec_capacity, vec_len};
 ghost use Rattle.std.specs.Prelude.{IfOk, IfSome, IsOkUnless, None};
 ghost use Rattle.qm_docset.specs.Entry.{greatest_score};
 ghost use Rattle.qm_docset.specs.Words.{words_have};
@@ -39,7 +39,7 @@ pub(crate) struct Cells<C> {
 }
 
 impl<C: BoundedBySum> Cells<C> {
-    ghost use Rattle.qm_term.specs.Cells.{Adds, AreAlike, AreClear, LackAll, cell_of, cells_clear, cells_end, cells_has, cells_start};
+    ghost use Rattle.qm_term.specs.Cells.{Adds, AreClear, IsFirstIn, LackAll, TakesOut, cell_of, cells_clear, cells_end, cells_has, cells_start};
 
     /// Cells of no document. Refused for want of memory alone.
     pub(super) fn new(alloc: Global, combiner: C) -> Result<Cells<C>, QueryError>
@@ -88,38 +88,34 @@ impl<C: BoundedBySum> Cells<C> {
         put(&mut self.words, &mut self.cells, place, score, bound);
     }
 
-    /// The first document of a word that is there.
+    /// Takes the first document of a word out, and answers it with its cell.
     #[inline(always)]
-    pub(super) fn first_in(&self, word: usize) -> Option<DocId>
-        requires { word < 64 }
-        ensures none { result ≡ None → LackAll self.now (cells_start self.now + 64 * word) (cells_start self.now + 64 * (word + 1)) }
-        ensures below { IfSome result (λ doc. doc < cells_start self.now + 64 * (word + 1)) }
-        ensures has { IfSome result (λ doc. cells_has self.now doc ≡ true) }
-        ensures first { IfSome result (LackAll self.now (cells_start self.now + 64 * word)) }
+    pub(super) fn pop_first(&mut self, word: usize) -> Option<Taken<C>>
+        requires word { word < 64 }
+        requires inside { (d : ℕ) → cells_has self.old d ≡ true → d < cells_end self.old }
+        ensures none { result ≡ None → LackAll self.old (cells_start self.old + 64 * word) (cells_start self.old + 64 * (word + 1)) }
+        ensures same { result ≡ None → self.new ≡ self.old }
+        ensures first { IfSome result (λ taken. IsFirstIn word self.old taken.doc) }
+        ensures taken { IfSome result (λ taken. TakesOut self.old taken.doc taken.cell self.new) }
     {
-        let mut word_left = self.words[word];
-        let lowest = word_left.pop_lowest()?;
-        Some(self.start + word as u32 * 64 + lowest)
-    }
-
-    /// Takes a document out that is there, and answers its cell.
-    #[inline(always)]
-    pub(super) fn take(&mut self, doc: DocId) -> Cell<C>
-        requires there { cells_has self.old doc ≡ true }
-        requires within { doc < cells_end self.old }
-        ensures cell { result ≡ cell_of self.old doc }
-        ensures has { (d : ℕ) → cells_has self.new d ≡ (cells_has self.old d && not (d == doc)) }
-        ensures cleared { cell_of self.new doc ≡ cells_clear self.old }
-        ensures others { (d : ℕ) → (d == doc) ≡ false → cell_of self.new d ≡ cell_of self.old d }
-        ensures alike { AreAlike self.old self.new }
-    {
-        let place = (doc - self.start) as usize;
-        let word = self.words[place / 64];
-        self.words[place / 64] = word.remove((place % 64) as u32);
+        let mut left = self.words[word];
+        let lowest = left.pop_lowest()?;
+        self.words[word] = left;
+        let place = word * 64 + lowest as usize;
         let cell = self.cells[place];
         self.cells[place] = self.clear;
-        cell
+        Some(Taken {
+            doc: self.start + place as u32,
+            cell,
+        })
     }
+}
+
+/// A document that was taken out, and its cell.
+#[derive(Clone, Copy)]
+pub(super) struct Taken<C> {
+    pub(super) doc: DocId,
+    pub(super) cell: Cell<C>,
 }
 
 // Adds a score and a bound at a place.

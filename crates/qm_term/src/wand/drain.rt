@@ -68,9 +68,8 @@ fn drain_word<C: BoundedBySum, F: FnMut(DocId, Score) -> Score>(
 {
     let mut threshold = threshold;
     // as before
-    while let Some(doc) = cells.first_in(word) {
-        let cell = cells.take(doc);
-        threshold = score_cell(doc, cell, threshold, ticks, callback);
+    while let Some(taken) = cells.pop_first(word) {
+        threshold = score_cell(taken.doc, taken.cell, threshold, ticks, callback);
     }
     threshold
 }

@@ -6,8 +6,8 @@ use Rattle.qm_term.specs.RunScorers.{ticks_of}
 use Rattle.qm_term.specs.Stretches.{AreWithin, GoesOn, TakenOut}
 use Rattle.qm_term.proofs.wand.drain.drain_word.Given as goal
 
-abbrev pub invariant-loop-doc : goal.invariant-loop-doc
-invariant-loop-doc g l =
+abbrev pub invariant-loop-taken : goal.invariant-loop-taken
+invariant-loop-taken g l =
     let value = g.C.ScoreCombiner.value in
     let start = cells_start l.fn.cells in
     record {
@@ -19,5 +19,5 @@ invariant-loop-doc g l =
       goes : GoesOn (InRange (goal.F-step g)) value l.fn.threshold l.fn.callback l.fn.cells (ticks_of l.fn.ticks) l.threshold l.callback l.cells (ticks_of l.ticks);
     }
 
-abbrev pub decreases-loop-doc : goal.decreases-loop-doc
-decreases-loop-doc g l = length (all_shown g.C.ScoreCombiner.value l.cells)
+abbrev pub decreases-loop-taken : goal.decreases-loop-taken
+decreases-loop-taken g l = length (all_shown g.C.ScoreCombiner.value l.cells)
