@@ -131,10 +131,11 @@ pub(crate) fn prune_by_blocks<'a, W: StandsFor, F: FnMut(DocId, Score) -> Score,
     ensures unchanged { OnErr result (callback.new ≡ callback.old) }
     ensures refused { IfErr result (IsRefusalOf (W.tree weight.now) boost) }
 {
-    match joined.combiner {
-        AnyCombiner::Sum(sum) => block_wand(alloc, joined.terms, sum, threshold, callback),
+    let JoinedTerms { terms, combiner } = joined;
+    match combiner {
+        AnyCombiner::Sum(sum) => block_wand(alloc, terms, sum, threshold, callback),
         AnyCombiner::DisjunctionMax(greatest) => {
-            block_wand(alloc, joined.terms, greatest, threshold, callback)
+            block_wand(alloc, terms, greatest, threshold, callback)
         }
         AnyCombiner::DoNothing(_) => unreachable!(),
     }
