@@ -1,9 +1,9 @@
 //! Search in an ascending list, from a place near the answer.
 //!
-//! The first document is looked at by itself, then come blocks of eight that are counted without a branch, then
-//! doubling and halving: most seeks are near.
+//! The first document is looked at by itself, then come half a block and blocks of eight, in which is counted without a
+//! branch, then doubling and halving: most seeks are near.
 
-ghost use Rattle.std.specs.Prelude.{ℕ, ◌<◌, ◌≤◌, length, slice_index};
+ghost use Rattle.std.specs.Prelude.{ℕ, ◌<◌, ◌≤◌, IfErr, IfOk, length, slice_index};
 ghost use Rattle.std.specs.List.Sorted.{IsStrictlyIncreasing};
 
 use crate::numbers::DocId;
@@ -17,10 +17,11 @@ const BLOCK: usize = 8;
 /// The place of the first document at or past `target` in an ascending list, from the place `start`
 /// on, or the list's length where there is none.
 ///
-/// Most targets are near: the first document is looked at by itself, and then a few blocks of eight
-/// by their last document; in the block that has the target the documents below it are counted,
-/// without a branch that a processor would have to guess. Behind these the stride doubles until it reaches the target, and the last stride is
-/// halved. So the cost is logarithmic in the distance from `start`, not in the list's length.
+/// Most targets are near: the first document is looked at by itself, and then half a block and a few
+/// blocks of eight by their last document; in the one that has the target the documents below it are
+/// counted, without a branch that a processor would have to guess. Behind these the stride doubles
+/// until it reaches the target, and the last stride is halved. So the cost is logarithmic in the
+/// distance from `start`, not in the list's length.
 #[inline]
 pub fn gallop(docs: &[DocId], start: usize, target: DocId) -> usize
     requires ascending { IsStrictlyIncreasing docs.now }
@@ -33,19 +34,42 @@ pub fn gallop(docs: &[DocId], start: usize, target: DocId) -> usize
     if start == docs.len() || docs[start] >= target {
         return start;
     }
-    let mut low = start + 1;
+    let mut low = match find_in_block(docs, start + 1, BLOCK / 2, target) {
+        Ok(place) => return place,
+        Err(passed) => passed,
+    };
     // all before low are below the target
     'skips: for _ in 0..NEAR_BLOCKS {
-        if docs.len() - low < BLOCK {
-            break;
+        match find_in_block(docs, low, BLOCK, target) {
+            Ok(place) => return place,
+            Err(passed) => low = passed,
         }
-        let end = low + BLOCK;
-        if docs[end - 1] >= target {
-            return low + count_below(&docs[low..end], target);
-        }
-        low = end;
     }
     gallop_far(docs, low, target)
+}
+
+// The place of the first document at or past the target among so many from here on; or where none of these is, how far
+// all are below it. Nothing is passed where fewer are left.
+#[inline]
+fn find_in_block(docs: &[DocId], low: usize, size: usize, target: DocId) -> Result<usize, usize>
+    requires ascending { IsStrictlyIncreasing docs.now }
+    requires within { low ≤ length docs.now }
+    requires some { 0 < size }
+    ensures from_low { IfOk result (λ place. low ≤ place) }
+    ensures within { IfOk result (λ place. place ≤ length docs.now) }
+    ensures below { IfOk result (λ place. (k : ℕ) → low ≤ k → k < place → slice_index docs.now k < target) }
+    ensures reached { IfOk result (λ place. place < length docs.now → target ≤ slice_index docs.now place) }
+    ensures behind { IfErr result (λ next. low ≤ next × (next ≤ length docs.now)) }
+    ensures passed { IfErr result (λ next. (k : ℕ) → low ≤ k → k < next → slice_index docs.now k < target) }
+{
+    if docs.len() - low < size {
+        return Err(low);
+    }
+    let end = low + size;
+    if docs[end - 1] < target {
+        return Err(end);
+    }
+    Ok(low + count_below(&docs[low..end], target))
 }
 
 // The same without a look at what is near.
