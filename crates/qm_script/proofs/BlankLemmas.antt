@@ -1,12 +1,12 @@
 -- What a blank ends is a word of the line, unless it is empty; the words behind it are those of the rest.
 use Rattle.std.proofs.Common.{◌≡◌, ℕ, ◌<◌, ◌≤◌, ◌+◌, ◌-◌, ◌==◌, ◌||◌, not, false, true, true≢false, inl, inr, List, [], ◌∷◌, ◌++◌, length, take, drop, get_or, arith, ap, sym, subst, ◌∙◌, length-drop}
-use Rattle.std.proofs.Common.{append_assoc}
 use Rattle.std.proofs.lemmas.List.{drop-drop, drop_more, get_or-drop, get_or-take, get_or_default, length-take, take-append-drop, take_all}
 use Rattle.std.proofs.lemmas.Bool.{cases_lt, ne_eqb}
 use Rattle.std.proofs.lemmas.List.Elements.{filter-append}
 use Rattle.std.proofs.lemmas.List.Splits.{slice_split_at, slice_split_none}
 use Rattle.std.specs.List.{All, slice_split}
 use Rattle.qm_script.specs.Script.{is_blank, line_words, non_empty}
+use Rattle.qm_script.proofs.WordLemmas.{non_empty-cons}
 
 -- what stands above the space is no blank
 pub above-blanks : (b : ℕ) → 32 < b → is_blank b ≡ false
@@ -67,6 +67,19 @@ last-word line start order none =
     ∙ ap non_empty (slice_split_none is_blank (take (length line - start) (drop start line))
     (piece-lacks line start (length line) order (omega arith) none))
 
--- what ends is put behind the words that are there
-pub one-more : (before found rest left all : List (List ℕ)) → left ≡ found ++ rest → before ++ left ≡ all → (before ++ found) ++ rest ≡ all
-one-more before found rest left all is kept = append_assoc before found rest ∙ ap (λ l. before ++ l) (sym is) ∙ kept
+-- a blank, and the end of a line, are no words
+pub no-word-here : (line : List ℕ) (at : ℕ) → at < length line → is_blank (get_or line at 0) ≡ true →
+    line_words (drop at line) ≡ line_words (drop (at + 1) line)
+no-word-here line at within blank =
+    let nothing : at - at ≡ 0 = omega arith in
+    word-ends line at at (omega arith) within (λ k least below. absurd (omega arith)) blank
+    ∙ ap (λ n. non_empty (take n (drop at line) ∷ []) ++ line_words (drop (at + 1) line)) nothing
+
+pub no-word-left : (line : List ℕ) (at : ℕ) → at ≡ length line → line_words (drop at line) ≡ []
+no-word-left line at end =
+    let nothing : length line - at ≡ 0 = omega (arith, end) in
+    last-word line at (omega (arith, end)) (λ k least below. absurd (omega (arith, end))) ∙ ap (λ n. non_empty (take n (drop at line) ∷ [])) nothing
+
+-- what isn't empty stays
+pub some-word : (word : List ℕ) (rest : List (List ℕ)) → 0 < length word → non_empty (word ∷ []) ++ rest ≡ word ∷ rest
+some-word word rest some = ap (λ l. l ++ rest) (non_empty-cons word [] some)

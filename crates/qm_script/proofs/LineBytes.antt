@@ -1,16 +1,17 @@
 -- The first line of some bytes, and what stands after it.
 use Rattle.std.proofs.Common.{◌≡◌, ℕ, ◌+◌, ◌-◌, ◌<◌, ◌≤◌, Bool, true, false, cond, List, [], ◌∷◌, ◌++◌, length, get_or, take, drop, Some, None, Option, IfSome}
 use Rattle.std.proofs.Common.{refl, ap, sym, ◌∙◌, subst, append_assoc, append-nil, arith, rules, tests, ◌||◌, ◌&&◌, ◌==◌, suc, position, length-append, nat_lt}
-use Rattle.std.proofs.Common.{add-one, slice_range, if◌then◌else◌}
+use Rattle.std.proofs.Common.{add-one, inl, inr, slice_range, if◌then◌else◌}
 use Rattle.std.specs.List.{position_or_len}
 use Rattle.std.specs.Io.KnownBytes.{prepend_known}
 use Rattle.std.specs.Io.BufRead.{take_through, drop_through, ends_with_byte, strip_last, first_line}
-use Rattle.std.proofs.lemmas.Bool.{false≢true, eqb-true}
+use Rattle.std.specs.Option.{is_some}
+use Rattle.std.proofs.lemmas.Bool.{false≢true, cases_lt, eqb-true}
 use Rattle.std.proofs.lemmas.List.Folds.{list_any-append, list_any_none, list_any_at}
 use Rattle.std.proofs.lemmas.List.Quantifiers.{position-Some}
-use Rattle.std.proofs.lemmas.List.Sums.{fails_before_first}
+use Rattle.std.proofs.lemmas.List.Sums.{fails_before_first, position_or_len_is}
 use Rattle.std.proofs.lemmas.Option.{IfSome_then}
-use Rattle.std.proofs.lemmas.List.{take-append-drop, drop-take, drop-drop, length-take, get_or-take}
+use Rattle.std.proofs.lemmas.List.{take-append-drop, drop-take, drop-drop, length-take, length-drop, get_or-take, get_or-drop}
 use Rattle.std.proofs.Math.Seq.{get_or-append_seam, take-append_seam, drop-cons}
 use Rattle.std.proofs.Math.Bool.{and-false}
 use Rattle.qm_script.specs.Lines.{has_break}
@@ -181,3 +182,42 @@ pub slice_range-empty : (xs : List ℕ) (a b : ℕ) → b ≤ a → slice_range 
 slice_range-empty xs a b none =
     let zero_left : b - a ≡ 0 = omega arith in
     ap (λ n. take n (drop a xs)) zero_left
+
+-- no break in any place of a piece without one
+pub unbroken-at : (xs : List ℕ) → has_break xs ≡ false → (k : ℕ) → k < length xs → (get_or xs k 0 == 10) ≡ false
+unbroken-at xs none k within = go (get_or xs k 0 == 10) refl
+  where
+    go : (b : Bool) → (get_or xs k 0 == 10) ≡ b → (get_or xs k 0 == 10) ≡ false
+    go true is = absurd (false≢true (sym none ∙ list_any_at (λ b. b == 10) xs k 0 within is))
+    go false is = is
+
+-- the first break is the first one behind a piece without one
+pub position-behind : (xs : List ℕ) (passed place : ℕ) → has_break (take passed xs) ≡ false → passed ≤ length xs →
+    position (λ b. b == 10) (drop passed xs) ≡ Some place → position (λ b. b == 10) xs ≡ Some (passed + place)
+position-behind xs passed place none within is =
+    let found = position-Some (λ b. b == 10) (drop passed xs) place 0 is in
+    let room : passed + place < length xs = omega (arith, length-drop passed xs, found.0) in
+    let first = position_or_len_is (λ b. b == 10) xs (passed + place) 0 (omega arith) (λ k before. elim (cases_lt k passed) [
+      | inl earlier ↦
+          ap (λ b. b == 10) (sym (get_or-take passed xs k 0 earlier)) ∙ unbroken-at (take passed xs) none k (omega (arith, length-take passed xs))
+      | inr behind ↦
+          let same : passed + (k - passed) ≡ k = omega arith in
+          ap (λ n. get_or xs n 0 == 10) (sym same) ∙ ap (λ b. b == 10) (sym (get_or-drop passed xs (k - passed) 0))
+          ∙ (position-Some (λ b. b == 10) (drop passed xs) place 0 is).2 (k - passed) (omega arith)
+    ]) (λ more. ap (λ b. b == 10) (sym (get_or-drop passed xs place 0)) ∙ found.1) in
+    let before_end : nat_lt (passed + place) (length xs) ≡ true = search (tests, rules) in
+    ap (λ n. cond (nat_lt n (length xs)) (Some n) None) first ∙ ap (λ b. cond b (Some (passed + place)) None) before_end
+
+-- there is none, where no piece has one
+pub position-unbroken : (xs : List ℕ) → has_break xs ≡ false → position (λ b. b == 10) xs ≡ None
+position-unbroken xs none =
+    let last = position_or_len_is (λ b. b == 10) xs (length xs) 0 (omega arith) (unbroken-at xs none) (λ more. absurd (omega arith)) in
+    let at_end : nat_lt (length xs) (length xs) ≡ false = search (tests, rules) in
+    ap (λ n. cond (nat_lt n (length xs)) (Some n) None) last ∙ ap (λ b. cond b (Some (length xs)) None) at_end
+
+-- whether there is one, by where the first is
+pub has_break-position : (xs : List ℕ) (found : Option ℕ) → position (λ b. b == 10) xs ≡ found → is_some found ≡ has_break xs
+has_break-position xs None is = sym (position-none xs is)
+has_break-position xs (Some i) is =
+    let found = position-Some (λ b. b == 10) xs i 0 is in
+    sym (list_any_at (λ b. b == 10) xs i 0 found.0 found.1)

@@ -1,9 +1,7 @@
 -- Reading so many things from words, one behind another.
-use Rattle.std.proofs.Common.{◌≡◌, ℕ, ◌+◌, ◌-◌, ◌<◌, ◌≤◌, zero, suc, List, [], ◌∷◌, ◌++◌, Option, None, Some, Err, drop, map, length, get_or, refl, ap, sym}
+use Rattle.std.proofs.Common.{◌≡◌, ℕ, ◌+◌, ◌-◌, ◌<◌, zero, suc, List, [], ◌∷◌, ◌++◌, Option, None, Some, Err, refl, ap, sym}
 use Rattle.std.proofs.Common.{◌∙◌, arith, append_assoc, append-nil}
-use Rattle.birchagain.proofs.LeftWords.{left-mapped}
-use Rattle.qm_script.proofs.WordLemmas.{none_left}
-use Rattle.qm_script.specs.Script.{WordsReader, form_at, many_at, query_at, word_at, ◌>>=◌}
+use Rattle.qm_script.specs.Script.{WordsReader, form_at, many_at, query_at, ◌>>=◌}
 use Rattle.qm_script.specs.Spelled.{Reads}
 use Rattle.qm_script.specs.declared.unparsed.Unparsed.{Unparsed}
 use Rattle.qm_script.specs.declared.unparsed.Unparsed.TheVariants.{Memory, NotUnderstood}
@@ -64,14 +62,6 @@ pub reads-error : {X X' Y Y' : Type 0} (view : X → Y) (view' : X' → Y') (e :
     (read' : Option (Y' × List (List ℕ))) → (read ≡ None → read' ≡ None) → Reads view (Err e) left read → Reads view' (Err e) left' read'
 reads-error view view' NotUnderstood left left' read read' passes h = passes h
 reads-error view view' Memory left left' read read' passes h = tt
-
--- the next word
-pub next-word : {A : Type 0} (bytes : A → List ℕ) (xs : List A) (i : ℕ) (x : A) → i < length xs →
-    x ≡ get_or xs i x → word_at (drop i (map bytes xs)) ≡ Some (bytes x, drop (i + 1) (map bytes xs))
-next-word bytes xs i x below is = ap word_at (left-mapped bytes xs i x x below is)
-
-pub no-word : {A : Type 0} (bytes : A → List ℕ) (xs : List A) (i : ℕ) → length xs ≤ i → word_at (drop i (map bytes xs)) ≡ None
-no-word bytes xs i past = ap word_at (none_left bytes xs i past)
 
 -- no query is 0 deep
 pub query_at-none : (depth : ℕ) (words : List (List ℕ)) → depth ≡ 0 → query_at depth words ≡ None

@@ -1,15 +1,14 @@
 -- The words of a line, and of a text.
-use Rattle.std.proofs.Common.{◌≡◌, ℕ, ◌<◌, ◌≤◌, ◌==◌, ◌||◌, Bool, true, false, not, cond, zero, suc, None, map, drop, get_or, length-drop, List, [], ◌∷◌, ◌++◌}
+use Rattle.std.proofs.Common.{◌≡◌, ℕ, ◌<◌, ◌≤◌, ◌==◌, ◌||◌, Bool, true, false, not, cond, zero, suc, map, drop, get_or, List, [], ◌∷◌}
 use Rattle.std.proofs.Common.{length, refl, ap, sym, ◌∙◌, subst, arith}
 use Rattle.std.proofs.Math.Bool.{or-false}
 use Rattle.std.proofs.lemmas.Bool.{ne_eqb, or_parts}
-use Rattle.std.proofs.lemmas.List.{append-nil, length-map}
 use Rattle.std.specs.List.{AllByRecursion, drop-map, onto_first, slice_split}
 use Rattle.qm_postings.specs.Document.{words_of}
 use Rattle.birchagain.specs.Adding.{spaced}
 use Rattle.birchagain.proofs.LeftWords.{left-none}
 use Rattle.birchagain.proofs.Spaces.{one_word}
-use Rattle.qm_script.specs.Script.{AreWords, IsWord, is_blank, line_words, non_empty, whole}
+use Rattle.qm_script.specs.Script.{AreWords, IsWord, is_blank, line_words, non_empty}
 
 -- no part holds what the list is cut at
 parts-lack : (cut : ℕ → Bool) (xs : List ℕ) → AllByRecursion (AllByRecursion (λ b. cut b ≡ false)) (slice_split cut xs)
@@ -69,20 +68,8 @@ words-without-tabs text h = ap non_empty (cut-at-spaces text h)
 pub none_left : {A B : Type 0} (bytes : A → B) (xs : List A) (i : ℕ) → length xs ≤ i → drop i (map bytes xs) ≡ []
 none_left bytes xs i past = drop-map bytes i xs ∙ ap (map bytes) (left-none xs i past)
 
-pub not-whole : {A X : Type 0} (bytes : A → List ℕ) (xs : List A) (i : ℕ) (x : X) → i < length xs → whole (x, drop i (map bytes xs)) ≡ None
-not-whole bytes xs i x below =
-    some-left (drop i (map bytes xs)) x (omega (arith, ap length (drop-map bytes i xs), length-map (drop i xs) bytes, length-drop i xs))
-  where
-    some-left : {X : Type 0} (words : List (List ℕ)) (x : X) → 0 < length words → whole (x, words) ≡ None
-    some-left [] x h = absurd (omega arith)
-    some-left (w ∷ words) x h = refl
-
 -- ---- a text of words
 
 pub spaced-words : (words : List (List ℕ)) → AreWords words → words_of (spaced words) ≡ words
 spaced-words [] h = refl
 spaced-words (w ∷ words) h = one_word w (spaced words) h.0.some h.0.no_space ∙ ap (λ l. w ∷ l) (spaced-words words h.1)
-
-pub spaced-done : {A : Type 0} (bytes : A → List ℕ) (xs : List A) (i : ℕ) (text whole : List ℕ) →
-    length xs ≤ i → text ++ spaced (drop i (map bytes xs)) ≡ whole → text ≡ whole
-spaced-done bytes xs i text whole past kept = sym (append-nil text) ∙ ap (λ l. text ++ spaced l) (sym (none_left bytes xs i past)) ∙ kept

@@ -24,6 +24,7 @@ pub mod Spelled
 pub mod Spelling
 pub mod Requests
 pub mod Cursor
+pub mod FirstWord
 pub mod Counts
 pub mod Pruned
 pub mod BestListed

@@ -1,6 +1,7 @@
 //! The lines of an input, read through a buffer.
 
 ghost use Rattle.std.specs.Prelude.{◌≡◌, ℕ, List, false, ◌<◌, ◌≤◌, ◌↔◌, ◌==◌, ◌∷◌, length, Some, IsTrue, IfSome, IfOk, OnOk, position};
+ghost use Rattle.std.specs.List.{list_any};
 ghost use Rattle.std.specs.Io.BufRead.{first_line, drop_through, strip_last};
 ghost use Rattle.qm_script.specs.declared.lines.TheConstants.{CHUNK_LEN};
 
@@ -9,6 +10,9 @@ use std::io::{ErrorKind, Read};
 
 /// How many bytes are asked of the input at once.
 const CHUNK_LEN: usize = 4096;
+
+// of so many bytes it is asked at once whether one ends a line
+const BLOCK: usize = 16;
 
 /// The bytes that an input has given and that no line has taken yet. One value serves one input to
 /// its end.
@@ -76,7 +80,7 @@ impl Lines {
     pub fn has_line(&self) -> bool
         ensures { result ≡ has_break (unread self.now) }
     {
-        self.chunk[self.start..self.end].iter().any(|b| *b == b'\n')
+        line_end(&self.chunk[self.start..self.end]).is_some()
     }
 
     // Moves what is unread to the end of the line, up to the first byte 10, which is left out, and
@@ -134,11 +138,38 @@ impl Lines {
     }
 }
 
-// Where the first byte 10 stands.
+// Where the first byte 10 stands. Blocks without one are passed by.
 fn line_end(bytes: &[u8]) -> Option<usize>
     ensures { result ≡ position (λ b. b == 10) bytes.now }
 {
+    let mut passed = 0;
+    // no byte before passed is 10
+    while bytes.len() - passed >= BLOCK && !is_broken(&bytes[passed..passed + BLOCK]) {
+        passed += BLOCK;
+    }
+    Some(passed + first_break(&bytes[passed..])?)
+}
+
+// The same, byte by byte.
+fn first_break(bytes: &[u8]) -> Option<usize>
+    ensures { result ≡ position (λ b. b == 10) bytes.now }
+{
     bytes.iter().position(|b| *b == b'\n')
+}
+
+// Whether a byte 10 is among these. All are looked at, without a branch that hangs on one.
+#[inline]
+fn is_broken(bytes: &[u8]) -> bool
+    ensures { result ≡ list_any (λ b. b == 10) bytes.now }
+{
+    let mut broken = false;
+    // whether one of the bytes so far is 10
+    for b in bytes {
+        if *b == b'\n' {
+            broken = true;
+        }
+    }
+    broken
 }
 
 // Takes one byte 13 from the end.

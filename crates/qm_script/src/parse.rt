@@ -14,7 +14,7 @@ use crate::question::Question;
 use crate::read_query::read_query;
 use crate::spelled_query::{MAX_DEPTH, SpelledQuery};
 use crate::unparsed::Unparsed;
-use crate::words::{Words, cut_words};
+use crate::words::Words;
 use std::alloc::Global;
 use std::str;
 
@@ -54,21 +54,20 @@ pub fn parse_line(alloc: Global, line: &[u8]) -> Result<Command, Unparsed>
 fn parse_text(alloc: Global, text: &str) -> Result<Command, Unparsed>
     ensures { Gives request_of result (line_request text.now) }
 {
-    let words = cut_words(alloc, text)?;
-    parse_words(alloc, words.as_slice())
+    let mut words = Words::new(text);
+    parse_words(alloc, &mut words)
 }
 
 #[tactic(auto, unfolding(crate::specs::Script::words_request))]
-fn parse_words(alloc: Global, words: &[&str]) -> Result<Command, Unparsed>
-    requires { AreWords (map (λ w. w.now) words.now) }
-    ensures { Gives request_of result (words_request (map (λ w. w.now) words.now)) }
+fn parse_words(alloc: Global, words: &mut Words<'_>) -> Result<Command, Unparsed>
+    requires { AreWords (words_left words.old) }
+    ensures { Gives request_of result (words_request (words_left words.old)) }
 {
-    if words.is_empty() {
+    let Some(first) = words.next_word() else {
         return Ok(Command::Nothing);
-    }
-    let mut words = Words::new(words);
-    match line_form(words.word()?) {
-        Some(form) => parse_behind_form(alloc, &mut words, form),
+    };
+    match line_form(first) {
+        Some(form) => parse_behind_form(alloc, words, form),
         None => Err(Unparsed::NotUnderstood),
     }
 }
@@ -143,8 +142,7 @@ pub fn parse_query_text(alloc: Global, text: &[u8]) -> Result<SpelledQuery, Unpa
     let Ok(text) = str::from_utf8(text) else {
         return Err(Unparsed::NotUnderstood);
     };
-    let words = cut_words(alloc, text)?;
-    parse_query(alloc, &mut Words::new(words.as_slice()))
+    parse_query(alloc, &mut Words::new(text))
 }
 
 // A query that takes all of the words.

@@ -1,53 +1,40 @@
 //! The words of a line, read one after another.
 
-ghost use Rattle.std.specs.Prelude.{IfSome, IsOkUnless, OnOk, ◌≤ℤ◌, ◌≡◌, ℕ, Some, ◌^◌, ◌<◌, ◌≤◌, ◌-◌, ◌++◌, ◌∷◌, [], ◌==◌, IfOk, SomeIff, drop, length};
-ghost use Rattle.std.specs.Prelude.{option_map, map, pos, string_bytes, take};
+ghost use Rattle.std.specs.Prelude.{IfSome, IsOkUnless, ◌≤ℤ◌, ◌≡◌, ℕ, None, ◌^◌, ◌<◌, ◌∷◌, [], IfOk, SomeIff, drop};
+ghost use Rattle.std.specs.Prelude.{option_map, pos, string_bytes};
 ghost use Rattle.std.specs.Str.{IsCharBoundary};
 ghost use Rattle.std.specs.Str.Parse.{IsNumeral, digits_value};
-ghost use Rattle.qm_script.specs.Script.{is_blank, line_words, non_empty, number_below, threshold_of};
+ghost use Rattle.qm_script.specs.FirstWord.{IsFirstWord};
+ghost use Rattle.qm_script.specs.Script.{is_blank, line_words, number_below, threshold_of};
 
 use crate::form::occur_of;
 use crate::non_negative_score::NonNegativeScore;
 use crate::unparsed::Unparsed;
 use qm_docset::Score;
 use qm_schema::Occur;
-use std::alloc::{AllocError, Global};
+use std::alloc::Global;
 
-/// The words of the line, which is cut at spaces and tabs.
-pub(crate) fn cut_words<'a>(alloc: Global, line: &'a str) -> Result<Vec<&'a str>, AllocError>
-    ensures { IfOk result (λ words. map (λ w. w.now) words.items ≡ line_words line.now) }
+// Where the first word from a place on begins and ends.
+fn find_word(line: &str, from: usize) -> Option<(usize, usize)>
+    requires { IsCharBoundary line.now from }
+    ensures found { IfSome result (λ at. IsFirstWord line.now from at.0 at.1) }
+    ensures none { result ≡ None → line_words (drop from line.now) ≡ [] }
 {
     let bytes = line.as_bytes();
-    let mut words = Vec::with_capacity(alloc, 64)?;
-    let mut start = 0;
-    // the words that end before start are there, and from there on was no blank yet
-    for at in 0..bytes.len() {
+    let mut start = from;
+    // only blanks stand before start, and none from there on
+    for at in from..bytes.len() {
         if is_blank(bytes[at]) {
-            push_word(&mut words, line, start, at)?;
+            if start < at {
+                return Some((start, at));
+            }
             start = at + 1;
         }
     }
-    push_word(&mut words, line, start, bytes.len())?;
-    Ok(words)
-}
-
-// Puts the text between two places of a line behind its words, where it isn't empty.
-#[inline]
-fn push_word<'a>(
-    words: &mut Vec<&'a str>,
-    line: &'a str,
-    start: usize,
-    end: usize,
-) -> Result<(), AllocError>
-    requires start { IsCharBoundary line.now start }
-    requires end { IsCharBoundary line.now end }
-    requires order { start ≤ end }
-    ensures { OnOk result (map (λ w. w.now) words.new.items ≡ map (λ w. w.now) words.old.items ++ non_empty (take (end - start) (drop start line.now) ∷ [])) }
-{
-    if start < end {
-        words.push(&line[start..end])?;
+    if start < bytes.len() {
+        return Some((start, bytes.len()));
     }
-    Ok(())
+    None
 }
 
 // A space or a tab.
@@ -57,11 +44,12 @@ fn is_blank(byte: u8) -> bool
     byte == b' ' || byte == b'\t'
 }
 
-/// Reads the words of a line, from the first on.
+/// Reads the words of a line, which is cut at spaces and tabs, from the first on.
 #[derive(Drop)]
 pub(crate) struct Words<'a> {
-    words: &'a [&'a str],
+    line: &'a str,
     at: usize,
+    ghost boundary: { IsCharBoundary line.now at },
 }
 
 impl<'a> Words<'a> {
@@ -70,22 +58,30 @@ impl<'a> Words<'a> {
     ghost use Rattle.qm_postings.specs.Document.{words_of};
     ghost use Rattle.qm_script.specs.Spelled.{Gives, Reads, texts};
 
-    /// All of these words.
-    pub(crate) fn new(words: &'a [&'a str]) -> Words<'a>
-        ensures { words_left result ≡ map (λ w. w.now) words.now }
+    /// All words of this line.
+    pub(crate) fn new(line: &'a str) -> Words<'a>
+        ensures { words_left result ≡ line_words line.now }
     {
-        Words { words, at: 0 }
+        Words { line, at: 0 }
+    }
+
+    /// The next word, or none where all are read.
+    pub(crate) fn next_word(&mut self) -> Option<&'a str>
+        ensures word { IfSome result (λ w. words_left self.old ≡ w.now ∷ words_left self.new) }
+        ensures none { result ≡ None → words_left self.old ≡ [] }
+    {
+        let line = self.line;
+        let (start, end) = find_word(line, self.at)?;
+        self.at = end;
+        Some(&line[start..end])
     }
 
     /// The next word.
     pub(crate) fn word(&mut self) -> Result<&'a str, Unparsed>
         ensures { Reads (λ w. w.now) result (words_left self.new) (word_at (words_left self.old)) }
     {
-        match self.words.get(self.at) {
-            Some(word) => {
-                self.at += 1;
-                Ok(*word)
-            }
+        match self.next_word() {
+            Some(word) => Ok(word),
             None => Err(Unparsed::NotUnderstood),
         }
     }
@@ -165,15 +161,15 @@ impl<'a> Words<'a> {
     }
 
     /// All words that are left, in one text that spaces part.
-    pub(crate) fn rest(&self, alloc: Global) -> Result<String, Unparsed>
-        requires { AreWords (words_left self.now) }
-        ensures text { IfOk result (λ t. words_of (string_bytes t) ≡ words_left self.now) }
+    pub(crate) fn rest(&mut self, alloc: Global) -> Result<String, Unparsed>
+        requires { AreWords (words_left self.old) }
+        ensures text { IfOk result (λ t. words_of (string_bytes t) ≡ words_left self.old) }
         ensures refused { IsOkUnless result Unparsed.Memory }
     {
         let mut text = String::new(alloc);
         // the text has the words before this one
-        for at in self.at..self.words.len() {
-            text.push_str(self.words[at])?;
+        while let Some(word) = self.next_word() {
+            text.push_str(word)?;
             text.push(' ')?;
         }
         Ok(text)
@@ -183,10 +179,10 @@ impl<'a> Words<'a> {
     pub(crate) fn end(&self) -> Result<(), Unparsed>
         ensures { Gives (λ u. u) result (whole (tt, words_left self.now)) }
     {
-        if self.at < self.words.len() {
-            return Err(Unparsed::NotUnderstood);
+        match find_word(self.line, self.at) {
+            Some(_) => Err(Unparsed::NotUnderstood),
+            None => Ok(()),
         }
-        Ok(())
     }
 }
 

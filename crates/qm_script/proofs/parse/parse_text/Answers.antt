@@ -1,4 +1,4 @@
-use Rattle.std.proofs.Common.{ap, map, subst, sym, ◌∙◌}
+use Rattle.std.proofs.Common.{ap, subst, sym}
 use Rattle.qm_script.specs.Requests.{request_of}
 use Rattle.qm_script.specs.Script.{AreWords, words_request}
 use Rattle.qm_script.specs.Spelled.{Gives}
@@ -6,11 +6,7 @@ use Rattle.qm_script.proofs.WordLemmas.{line-words}
 use Rattle.qm_script.proofs.parse.parse_text.Goals as goal
 
 pub parse_words-requires : goal.parse_words-requires
-parse_words-requires c =
-    let found = ap (map (λ w. w.now)) c.as_slice.ensures.value ∙ c.in_ok-words.ensures in
-    subst AreWords (sym found) (line-words c.args.text.now)
+parse_words-requires c = subst AreWords (sym c.new-words.ensures) (line-words c.args.text.now)
 
 pub returns : goal.returns
-returns c =
-    let found = ap (map (λ w. w.now)) c.as_slice.ensures.value ∙ c.in_ok-words.ensures in
-    subst (Gives request_of c.parse_words.result) (ap words_request found) c.parse_words.ensures
+returns c = subst (Gives request_of c.parse_words.result) (ap words_request c.new-words.ensures) c.parse_words.ensures

@@ -1,7 +1,10 @@
-use Rattle.std.proofs.Common.{◌≡◌, ◌++◌, drop, map, string_bytes}
-use Rattle.qm_script.specs.Cursor.{words_left}
+use Rattle.std.proofs.Common.{◌≡◌, ◌++◌, length, string_bytes}
 use Rattle.birchagain.specs.Adding.{spaced}
+use Rattle.qm_script.specs.Cursor.{words_left}
 use Rattle.qm_script.proofs.words.Words.rest.Given as goal
 
-abbrev pub invariant-loop-at : goal.invariant-loop-at
-invariant-loop-at l = string_bytes l.text ++ spaced (drop l.at (map (λ t. t.now) l.self.words.now)) ≡ spaced (words_left l.self)
+abbrev pub invariant-loop-word : goal.invariant-loop-word
+invariant-loop-word l = string_bytes l.text ++ spaced (words_left l.self) ≡ spaced (words_left l.initial.self)
+
+abbrev pub decreases-loop-word : goal.decreases-loop-word
+decreases-loop-word l = length (words_left l.self)
