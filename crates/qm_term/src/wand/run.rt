@@ -1,5 +1,25 @@
 //! The run over several terms, turn by turn.
 //!
+//! A turn looks at the lists in the order of the documents that they stand at. With a threshold of 60:
+//!
+//! | list | stands at | its greatest score | so far | |
+//! |---|---|---|---|---|
+//! | apple | 12 | 20 | 20 | before the pivot |
+//! | old | 15 | 25 | 45 | before the pivot |
+//! | red | 31 | 30 | 75, above 60 | the pivot is 31 |
+//! | tree | 31 | 10 | | on it too |
+//! | fox | 40 | 15 | | behind it |
+//!
+//! No document before the pivot can score above the threshold: only lists before it have one, and their greatest scores
+//! add up to no more. Then a turn does one of three things:
+//!
+//! - The blocks in which the lists before and on the pivot would have it are bounded together by the threshold. The
+//!   list of the greatest score goes on past the first end of these blocks, or to the next list's document where that
+//!   is nearer.
+//! - Some list stands before the pivot. The last such is moved to it, then the one before; the turn ends with the first
+//!   that has passed it.
+//! - All of them stand on the pivot. It is scored, and they go on.
+//!
 //! A run scores its pivot where the scorers stand, and each turn goes one way: shorter ways cost more where most turns
 //! skip.
 
